@@ -1,0 +1,108 @@
+-- What a search over an index finds, and what a list filled by an index holds.
+use Prim.Native.Nat.{ℕ, zero, suc, _+_, _<_, _≤_}
+use mathlib.Core.Path.{_≡_, refl, ap, sym, _∙_}
+use mathlib.Core.Logic.{_⊎_, inl, inr}
+use mathlib.Core.Bool.{Bool, true, false, not, _||_}
+use mathlib.Core.List.{List, [], _∷_}
+use native.Mathlib.Omega.{arith}
+use native.Mathlib.Decide.{ℕ-discrete}
+use lib.Dec.{T}
+use lib.ListN.{length, getD}
+use Rattle.base.specs.Index.{anyBelow, orElse, firstBelow, tabulate}
+use Rattle.base.proofs.BoolLaws.{or→either, either→or, not-or→both}
+
+pub anyBelow-found : (n : ℕ) (f : ℕ → Bool) (i : ℕ) → i < n → T (f i) → T (anyBelow n f)
+unfolding anyBelow
+anyBelow-found zero f i h t = absurd (omega arith)
+anyBelow-found (suc n) f i h t = go (λ k. anyBelow-found n f i k t) (ℕ-discrete i n)
+  where
+    go : (i < n → T (anyBelow n f)) → Dec (i ≡ n) → T (anyBelow n f || f n)
+    go ih (yes e) = either→or (anyBelow n f) (f n) (inr (rw e at t))
+    go ih (no e) = either→or (anyBelow n f) (f n) (inl (ih (omega arith)))
+
+pub anyBelow-some : (n : ℕ) (f : ℕ → Bool) → T (anyBelow n f) → (i : ℕ) × (i < n) × T (f i)
+unfolding anyBelow
+anyBelow-some zero f t = absurd t
+anyBelow-some (suc n) f t = go (λ k. anyBelow-some n f k) (or→either (anyBelow n f) (f n) t)
+  where
+    go : (T (anyBelow n f) → (i : ℕ) × (i < n) × T (f i)) → T (anyBelow n f) ⊎ T (f n) → (i : ℕ) × (i < suc n) × T (f i)
+    go ih (inl s) = let (i, h, u) = ih s in (i, omega arith, u)
+    go ih (inr s) = (n, omega arith, s)
+
+pub anyBelow-none : (n : ℕ) (f : ℕ → Bool) → T (not (anyBelow n f)) → (i : ℕ) → i < n → T (not (f i))
+unfolding anyBelow
+anyBelow-none zero f t i h = absurd (omega arith)
+anyBelow-none (suc n) f t i h = go (λ k l. anyBelow-none n f k i l) (not-or→both (anyBelow n f) (f n) t) (ℕ-discrete i n)
+  where
+    go : (T (not (anyBelow n f)) → i < n → T (not (f i))) → T (not (anyBelow n f)) × T (not (f n)) → Dec (i ≡ n) → T (not (f i))
+    go ih (s, u) (yes e) = rw e u
+    go ih (s, u) (no e) = ih s (omega arith)
+
+pub orElse-none : (a b : ℕ) → a ≡ 0 → orElse a b ≡ b
+unfolding orElse
+orElse-none zero b e = refl
+orElse-none (suc a) b e = absurd (omega arith)
+
+pub orElse-some : (a b : ℕ) → (a ≡ 0 → ⊥) → orElse a b ≡ a
+unfolding orElse
+orElse-some zero b n = absurd (n refl)
+orElse-some (suc a) b n = refl
+
+-- the parts are 0 where the whole is
+pub orElse-zero : (a b : ℕ) → orElse a b ≡ 0 → (a ≡ 0) × (b ≡ 0)
+unfolding orElse
+orElse-zero zero b e = (refl, e)
+orElse-zero (suc a) b e = absurd (omega arith)
+
+pub firstBelow-none : (f : ℕ → ℕ) → firstBelow 0 f ≡ 0
+unfolding firstBelow
+firstBelow-none f = refl
+
+pub firstBelow-more : (n : ℕ) (f : ℕ → ℕ) → firstBelow n f ≡ 0 → firstBelow (suc n) f ≡ f n
+unfolding firstBelow
+firstBelow-more n f e = orElse-none (firstBelow n f) (f n) e
+
+-- once there is a first, what comes later does not count
+pub firstBelow-found : (j n : ℕ) (f : ℕ → ℕ) → j ≤ n → (firstBelow j f ≡ 0 → ⊥) → firstBelow n f ≡ firstBelow j f
+unfolding firstBelow
+firstBelow-found j zero f h found = let e : j ≡ 0 = omega arith in rw e
+firstBelow-found j (suc n) f h found = go (λ l. firstBelow-found j n f l found) (ℕ-discrete j (suc n))
+  where
+    go : (j ≤ n → firstBelow n f ≡ firstBelow j f) → Dec (j ≡ suc n) → orElse (firstBelow n f) (f n) ≡ firstBelow j f
+    go ih (yes e) = rw e
+    go ih (no e) = let same = ih (omega arith) in orElse-some (firstBelow n f) (f n) (λ z. found (sym same ∙ z)) ∙ same
+
+pub firstBelow-zero : (n : ℕ) (f : ℕ → ℕ) → firstBelow n f ≡ 0 → (i : ℕ) → i < n → f i ≡ 0
+unfolding firstBelow
+firstBelow-zero zero f e i h = absurd (omega arith)
+firstBelow-zero (suc n) f e i h = go (λ k l. firstBelow-zero n f k i l) (orElse-zero (firstBelow n f) (f n) e) (ℕ-discrete i n)
+  where
+    go : (firstBelow n f ≡ 0 → i < n → f i ≡ 0) → (firstBelow n f ≡ 0) × (f n ≡ 0) → Dec (i ≡ n) → f i ≡ 0
+    go ih (p, q) (yes g) = rw g q
+    go ih (p, q) (no g) = ih p (omega arith)
+
+module _ {A : Type 0} where
+  pub tabulate-length : (n i : ℕ) (f : ℕ → A) → length (tabulate n i f) ≡ n
+  unfolding tabulate
+  tabulate-length zero i f = refl
+  tabulate-length (suc n) i f = ap suc (tabulate-length n (i + 1) f)
+
+  pub tabulate-at : (n i j : ℕ) (f : ℕ → A) (d : A) → j < n → getD (tabulate n i f) j d ≡ f (i + j)
+  unfolding tabulate
+  tabulate-at zero i j f d h = absurd (omega arith)
+  tabulate-at (suc n) i zero f d h = ap f (omega arith)
+  tabulate-at (suc n) i (suc j) f d h = tabulate-at n (i + 1) j f d (omega arith) ∙ ap f (omega arith)
+
+-- a search with a witness, or a proof that there is none
+pub find-below : (n : ℕ) (P : ℕ → Type 0) → ((i : ℕ) → Dec (P i)) → ((i : ℕ) × (i < n) × P i) ⊎ ((i : ℕ) → i < n → P i → ⊥)
+find-below zero P d = inr (λ i h p. omega arith)
+find-below (suc n) P d = go (d n) (find-below n P d)
+  where
+    go : Dec (P n) → ((i : ℕ) × (i < n) × P i) ⊎ ((i : ℕ) → i < n → P i → ⊥) → ((i : ℕ) × (i < suc n) × P i) ⊎ ((i : ℕ) → i < suc n → P i → ⊥)
+    go (yes p) r = inl (n, omega arith, p)
+    go (no p) (inl (i, h, q)) = inl (i, omega arith, q)
+    go (no p) (inr f) = inr (λ i h q. last i h q (ℕ-discrete i n))
+      where
+        last : (i : ℕ) → i < suc n → P i → Dec (i ≡ n) → ⊥
+        last i h q (yes e) = p (rw e at q)
+        last i h q (no e) = f i (omega arith) q

@@ -1,0 +1,3 @@
+pub mod BoolLaws
+pub mod IndexLaws
+pub mod ListLaws

@@ -1,0 +1,4 @@
+pub mod Cycle
+pub mod Wait
+pub mod Advance
+pub mod Order

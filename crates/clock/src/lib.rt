@@ -1,0 +1,183 @@
+// Document 01, "Clock", and the bounds of "Early issue".
+ghost use mathlib.Core.Path.{_≡_};
+ghost use Rattle.clock.specs.Cycle.{isBefore, isSame, isStampBefore};
+ghost use Rattle.clock.specs.Wait.{waitEnds, heldStep};
+ghost use Rattle.clock.specs.Advance.{isBoundBefore, least, advanceOf, heldBound, _⊕_};
+
+// Document 01: "Times, deltas and thread numbers are counted separately".
+pub struct Time(pub u64);
+
+pub struct Delta(pub u32);
+
+pub struct ThreadNo(pub u8);
+
+// A number of units of time.
+pub struct Delay(pub u32);
+
+// Term: cycle.
+pub struct Cycle {
+    pub time: Time,
+    pub delta: Delta,
+}
+
+// Term: stamp.
+pub struct Stamp {
+    pub cycle: Cycle,
+    pub thread: ThreadNo,
+}
+
+// What a thread waits for: a notification, or a number of units.
+pub enum Wait {
+    Event,
+    Time(Delay),
+}
+
+// Where the end of a wait leaves a thread.
+pub enum Step {
+    Ready(Cycle),
+    Overrun(Cycle),
+}
+
+// A cycle whose delta is not cut, or never. A distance is one too.
+pub enum Bound {
+    Never,
+    At(Cycle),
+}
+
+// Whether a is before b: time first.
+pub fn is_before(a: Cycle, b: Cycle) -> bool
+    ensures { λ r. ⌜ r ≡ isBefore a b ⌝ }
+{
+    if a.time.0 == b.time.0 {
+        return a.delta.0 < b.delta.0;
+    }
+    a.time.0 < b.time.0
+}
+
+pub fn is_same(a: Cycle, b: Cycle) -> bool
+    ensures { λ r. ⌜ r ≡ isSame a b ⌝ }
+{
+    if a.time.0 == b.time.0 {
+        return a.delta.0 == b.delta.0;
+    }
+    false
+}
+
+// Whether stamp a is before b: the cycle first, then the thread number.
+pub fn is_stamp_before(a: Stamp, b: Stamp) -> bool
+    ensures { λ r. ⌜ r ≡ isStampBefore a b ⌝ }
+{
+    let x = a.cycle;
+    let y = b.cycle;
+    if is_same(x, y) {
+        return a.thread.0 < b.thread.0;
+    }
+    is_before(x, y)
+}
+
+// Where a wait that is over at c leads: begun at c for a time, notified at c for an event.
+pub fn wait_ends(w: Wait, c: Cycle) -> Step
+    ensures { λ r. ⌜ r ≡ heldStep (waitEnds w c) ⌝ }
+{
+    match w {
+        Wait::Event => next_delta(c),
+        Wait::Time(k) => after_units(k, c),
+    }
+}
+
+fn next_delta(c: Cycle) -> Step
+    ensures { λ r. ⌜ r ≡ heldStep (waitEnds Wait.Event c) ⌝ }
+{
+    if c.delta.0 < 1023 {
+        let t = c.time;
+        return Step::Ready(Cycle {
+            time: t,
+            delta: Delta(c.delta.0 + 1),
+        });
+    }
+    Step::Overrun(c)
+}
+
+fn after_units(k: Delay, c: Cycle) -> Step
+    ensures { λ r. ⌜ r ≡ heldStep (waitEnds (Wait.Time k) c) ⌝ }
+{
+    if k.0 == 0 {
+        return next_delta(c);
+    }
+    Step::Ready(Cycle {
+        time: Time(std::num::wrapping_add_u64(c.time.0, k.0 as u64)),
+        delta: Delta(0),
+    })
+}
+
+pub fn is_bound_before(a: Bound, b: Bound) -> bool
+    ensures { λ r. ⌜ r ≡ isBoundBefore a b ⌝ }
+{
+    let Bound::At(x) = a else {
+        return false;
+    };
+    let Bound::At(y) = b else {
+        return true;
+    };
+    is_before(x, y)
+}
+
+// The smaller of two bounds; a where neither is.
+pub fn least_of(a: Bound, b: Bound) -> Bound
+    ensures { λ r. ⌜ r ≡ least a b ⌝ }
+{
+    if is_bound_before(b, a) {
+        return b;
+    }
+    a
+}
+
+// A bound and a distance added as the clock says, the delta not cut.
+pub fn plus(a: Bound, d: Bound) -> Bound
+    ensures { λ r. ⌜ r ≡ heldBound (a ⊕ d) ⌝ }
+{
+    let Bound::At(x) = a else {
+        return Bound::Never;
+    };
+    let Bound::At(y) = d else {
+        return Bound::Never;
+    };
+    if y.time.0 == 0 {
+        return Bound::At(Cycle {
+            time: Time(x.time.0),
+            delta: Delta(std::num::wrapping_add_u32(x.delta.0, y.delta.0)),
+        });
+    }
+    Bound::At(Cycle {
+        time: Time(std::num::wrapping_add_u64(x.time.0, y.time.0)),
+        delta: Delta(y.delta.0),
+    })
+}
+
+// How far a wait advances: the distance over it.
+pub fn advance_of(w: Wait) -> Bound
+    ensures { λ r. ⌜ r ≡ advanceOf w ⌝ }
+{
+    match w {
+        Wait::Event => Bound::At(Cycle {
+            time: Time(0),
+            delta: Delta(1),
+        }),
+        Wait::Time(k) => advance_of_units(k),
+    }
+}
+
+fn advance_of_units(k: Delay) -> Bound
+    ensures { λ r. ⌜ r ≡ advanceOf (Wait.Time k) ⌝ }
+{
+    if k.0 == 0 {
+        return Bound::At(Cycle {
+            time: Time(0),
+            delta: Delta(1),
+        });
+    }
+    Bound::At(Cycle {
+        time: Time(k.0 as u64),
+        delta: Delta(0),
+    })
+}
