@@ -1,0 +1,64 @@
+-- Document 01, "Tables": the variables that a segment accesses, and the events that it lists as notifying.
+-- All are asked of a thread and a segment.
+use Prim.Native.Nat.{ℕ}
+use mathlib.Core.Bool.{Bool, true, false, _||_}
+use mathlib.Core.List.{List, [], _∷_}
+use lib.Dec.{eqb}
+use Rattle.model.specs.declared.Op.{Op}
+use Rattle.model.specs.declared.Op.the-variants.{Set, Add, Copy, AddVariable, SubVariable, Notify}
+use Rattle.model.specs.declared.Statement.{Statement}
+use Rattle.model.specs.declared.Closer.{Closer}
+use Rattle.model.specs.declared.Closer.the-variants.{End, Time, Event}
+use Rattle.model.specs.declared.Model.{Model}
+use Rattle.model.specs.Values.{segmentAt, bodyOf}
+use Rattle.model.specs.Statement.{notifiedBy}
+
+abbrev pub writesOp : Op → ℕ → Bool
+writesOp (Set a b) v = eqb a v
+writesOp (Add a b) v = eqb a v
+writesOp (Copy a b) v = eqb a v
+writesOp (AddVariable a b) v = eqb a v
+writesOp (SubVariable a b) v = eqb a v
+writesOp (Notify w) v = false
+
+abbrev pub readsOp : Op → ℕ → Bool
+readsOp (Set a b) v = false
+readsOp (Add a b) v = eqb a v
+readsOp (Copy a b) v = eqb b v
+readsOp (AddVariable a b) v = eqb a v || eqb b v
+readsOp (SubVariable a b) v = eqb a v || eqb b v
+readsOp (Notify w) v = false
+
+unfoldable pub writes : List Statement → ℕ → Bool
+writes [] v = false
+writes (x ∷ xs) v = writesOp (x .op) v || writes xs v
+
+unfoldable pub reads : List Statement → ℕ → Bool
+reads [] v = false
+reads (x ∷ xs) v = readsOp (x .op) v || reads xs v
+
+-- "The test variable counts as read." A closer of kind 0 names no variable.
+unfoldable pub tests : Closer → ℕ → Bool
+tests End v = false
+tests (Time k x) v = eqb (x .test) v
+tests (Event e x) v = eqb (x .test) v
+
+-- whether thread k, in segment s, writes variable v
+unfoldable pub writesIn : Model → ℕ → ℕ → ℕ → Bool
+writesIn m k s v = writes (bodyOf (segmentAt m s)) v
+
+-- whether it accesses v: writes, reads or tests it
+unfoldable pub usesIn : Model → ℕ → ℕ → ℕ → Bool
+usesIn m k s v = (writesIn m k s v || reads (bodyOf (segmentAt m s)) v) || tests (segmentAt m s .closer) v
+
+-- the events that thread k lists as notifying in segment s, whatever the variables
+unfoldable pub listedIn : Model → ℕ → ℕ → List ℕ
+listedIn m k s = notifiedBy (bodyOf (segmentAt m s))
+
+-- whether e is among them
+unfoldable pub has : List ℕ → ℕ → Bool
+has [] e = false
+has (x ∷ xs) e = eqb x e || has xs e
+
+unfoldable pub notifiesIn : Model → ℕ → ℕ → ℕ → Bool
+notifiesIn m k s e = has (listedIn m k s) e

@@ -1,0 +1,22 @@
+-- Document 01: the limits on times, each said once, and the horizon.
+use Prim.Native.Nat.{ℕ}
+use mathlib.Core.Bool.{Bool}
+use lib.Dec.{ltb}
+use Rattle.clock.specs.declared.Cycle.{Cycle}
+use Rattle.model.specs.declared.Model.{Model}
+
+-- "horizon H (4 bytes, 1 to 1,000,000,000)"; "the delay, at most 1,000,000,000"
+abbrev pub largestTime : ℕ
+largestTime = 1000000000
+
+-- "'never' .. at 1,000,000,000 units or more"; "log time of 1,000,000,000 or more"
+abbrev pub cutTime : ℕ
+cutTime = 1000000000
+
+-- "record time of 2,000,000,000 or more"
+abbrev pub recordTime : ℕ
+recordTime = 2000000000
+
+-- "A thread ready at time H or later is not run."
+unfoldable pub isBeforeHorizon : Model → Cycle → Bool
+isBeforeHorizon m c = ltb (c .time .0) (m .horizon .0)
