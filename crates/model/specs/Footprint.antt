@@ -1,17 +1,19 @@
 -- Document 01, "Tables": the variables that a segment accesses, and the events that it lists as notifying.
--- All are asked of a thread and a segment.
 use Prim.Native.Nat.{ℕ}
-use mathlib.Core.Bool.{Bool, true, false, _||_}
+use mathlib.Core.Bool.{Bool, true, false, not, _&&_, _||_}
 use mathlib.Core.List.{List, [], _∷_}
 use lib.Dec.{eqb}
 use Rattle.model.specs.declared.Op.{Op}
 use Rattle.model.specs.declared.Op.the-variants.{Set, Add, Copy, AddVariable, SubVariable, Notify}
 use Rattle.model.specs.declared.Statement.{Statement}
+use Rattle.model.specs.declared.Next.{Next}
 use Rattle.model.specs.declared.Closer.{Closer}
 use Rattle.model.specs.declared.Closer.the-variants.{End, Time, Event}
+use Rattle.model.specs.declared.Segment.{Segment}
 use Rattle.model.specs.declared.Model.{Model}
 use Rattle.model.specs.Values.{segmentAt, bodyOf}
 use Rattle.model.specs.Statement.{notifiedBy}
+use Rattle.model.specs.Effect.{noTest}
 
 abbrev pub writesOp : Op → ℕ → Bool
 writesOp (Set a b) v = eqb a v
@@ -37,19 +39,28 @@ unfoldable pub reads : List Statement → ℕ → Bool
 reads [] v = false
 reads (x ∷ xs) v = readsOp (x .op) v || reads xs v
 
--- "The test variable counts as read." A closer of kind 0 names no variable.
+-- "The test variable counts as read." With 255 there is none, and a closer of kind 0 names no variable.
+unfoldable pub testsNext : Next → ℕ → Bool
+testsNext x v = not (eqb (x .test) noTest) && eqb (x .test) v
+
 unfoldable pub tests : Closer → ℕ → Bool
 tests End v = false
-tests (Time k x) v = eqb (x .test) v
-tests (Event e x) v = eqb (x .test) v
+tests (Time k x) v = testsNext x v
+tests (Event e x) v = testsNext x v
 
--- whether thread k, in segment s, writes variable v
+-- whether segment g writes variable v; whether it accesses it: writes, reads or tests it
+unfoldable pub writesOf : Segment → ℕ → Bool
+writesOf g v = writes (bodyOf g) v
+
+unfoldable pub usesOf : Segment → ℕ → Bool
+usesOf g v = (writesOf g v || reads (bodyOf g) v) || tests (g .closer) v
+
+-- the same of thread k in segment s
 unfoldable pub writesIn : Model → ℕ → ℕ → ℕ → Bool
-writesIn m k s v = writes (bodyOf (segmentAt m s)) v
+writesIn m k s v = writesOf (segmentAt m s) v
 
--- whether it accesses v: writes, reads or tests it
 unfoldable pub usesIn : Model → ℕ → ℕ → ℕ → Bool
-usesIn m k s v = (writesIn m k s v || reads (bodyOf (segmentAt m s)) v) || tests (segmentAt m s .closer) v
+usesIn m k s v = usesOf (segmentAt m s) v
 
 -- the events that thread k lists as notifying in segment s, whatever the variables
 unfoldable pub listedIn : Model → ℕ → ℕ → List ℕ
