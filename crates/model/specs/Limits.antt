@@ -1,8 +1,10 @@
 -- Document 01: the limits on times, each said once, and the horizon.
 use Prim.Native.Nat.{ℕ}
-use mathlib.Core.Bool.{Bool}
+use mathlib.Core.Bool.{Bool, false}
 use lib.Dec.{ltb}
 use Rattle.clock.specs.declared.Cycle.{Cycle}
+use Rattle.clock.specs.declared.Bound.{Bound}
+use Rattle.clock.specs.declared.Bound.the-variants.{Never, At}
 use Rattle.model.specs.declared.Model.{Model}
 
 -- "horizon H (4 bytes, 1 to 1,000,000,000)"; "the delay, at most 1,000,000,000"
@@ -20,3 +22,7 @@ recordTime = 2000000000
 -- "A thread ready at time H or later is not run."
 unfoldable pub isBeforeHorizon : Model → Cycle → Bool
 isBeforeHorizon m c = ltb (c .time .0) (m .horizon .0)
+
+unfoldable pub isBoundBeforeHorizon : Model → Bound → Bool
+isBoundBeforeHorizon m Never = false
+isBoundBeforeHorizon m (At c) = isBeforeHorizon m c

@@ -1,0 +1,9 @@
+pub mod Log
+pub mod Earliest
+pub mod Forecast
+pub mod Hazard
+pub mod Deliver
+pub mod Fit
+pub mod Grant
+pub mod Answer
+pub mod Request

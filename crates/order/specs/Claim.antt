@@ -1,0 +1,43 @@
+-- Demand 3, as one claim about a whole list of requests.
+use Prim.Native.Nat.{ℕ, _<_}
+use mathlib.Core.Path.{_≡_}
+use mathlib.Core.Bool.{Bool, true, false}
+use mathlib.Core.List.{List}
+use Rattle.clock.specs.declared.Cycle.{Cycle}
+use Rattle.model.specs.declared.Model.{Model}
+use Rattle.model.specs.Refusal.{accepted}
+use Rattle.model.specs.Record.{threadAt}
+use Rattle.reader.specs.File.{readFile}
+use Rattle.tables.specs.Conflict.{marksOf}
+use Rattle.tables.specs.Word.{wordsOf}
+use Rattle.plain.specs.Start.{Place, freshThreads}
+use Rattle.plain.specs.Wake.{someReady}
+use Rattle.plain.specs.Step.{placeAt}
+use Rattle.plain.specs.Run.{isDone}
+use Rattle.plain.specs.History.{historyAt}
+use Rattle.early.specs.declared.Answer.the-variants.{Granted}
+use Rattle.early.specs.Request.{Requested, requestOf, freshSite, Listed, requestsOf}
+
+-- "The first gets the fresh state, each later one the state and thread records that the last one left": with the tables that the reader made
+unfoldable pub afterList : Model → List ℕ → Listed
+afterList m ks = requestsOf m (marksOf m) (wordsOf m) freshSite (freshThreads m) ks
+
+-- the request of thread k, made next
+unfoldable pub requestNext : Model → List ℕ → ℕ → Requested
+requestNext m ks k = requestOf m (marksOf m) (wordsOf m) (afterList m ks .site) (afterList m ks .threads) k
+
+-- "every variable, every thread's history and every thread's closing state equal those of the plain run": at step i
+pub record AgreesAt (m : Model) (a : Listed) (i : ℕ) : Type 0 where
+  pub variables : a .site .variables .at ≡ placeAt m i .variables
+  pub history : (k : ℕ) → k < m .t → a .history k ≡ historyAt m k i
+  pub closing : (k : ℕ) → k < m .t → threadAt (a .threads) k ≡ threadAt (placeAt m i .threads) k
+
+pub record Claim (m : Model) (ks : List ℕ) : Type 0 where
+  -- "where no thread is ready before the horizon": equal to "the plain run carried on until it is done"
+  pub at-end : someReady m (afterList m ks .threads) ≡ false → (i : ℕ) × (isDone m (placeAt m i) ≡ true) × AgreesAt m (afterList m ks) i
+  -- "where one is ready before it, some thread's request, made next, is granted"
+  pub goes-on : someReady m (afterList m ks .threads) ≡ true → (k : ℕ) × (s : ℕ) × (c : Cycle) × (requestNext m ks k .answer ≡ Granted s c)
+
+-- "Take any list of requests on an accepted model, for whichever threads and in whatever order, refused ones included."
+abbrev pub OrderIndependence : Type 0
+OrderIndependence = (bytes : List ℕ) → readFile bytes .number ≡ accepted → (ks : List ℕ) → Claim (readFile bytes .model) ks

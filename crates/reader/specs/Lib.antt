@@ -1,0 +1,5 @@
+pub mod Word
+pub mod Closer
+pub mod Statement
+pub mod Record
+pub mod File

@@ -1,0 +1,3 @@
+pub mod Conflict
+pub mod Distance
+pub mod Word
