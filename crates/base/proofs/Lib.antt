@@ -1,3 +1,4 @@
 pub mod BoolLaws
 pub mod IndexLaws
 pub mod ListLaws
+pub mod Computed
