@@ -1,0 +1,27 @@
+-- `clock::advance_of` meets its contract: one delta for an event, a time by the function for it.
+use mathlib.Core.Path.{sym}
+use borrow.Author.Needs.{needs}
+use Rattle.clock.proofs.AdvanceLaws.{advanceOf-Event}
+use Rattle.clock.proofs.advance_of.Statement.{statement}
+use Rattle.clock.proofs.advance_of.Tie as tie
+
+enum-told : tie.Need-enum-told
+enum-told c = search needs
+
+enum-known-w : tie.Need-enum-known-w
+enum-known-w c = search needs
+
+advance-of-units-requires : tie.Need-advance-of-units-requires
+advance-of-units-requires c κs = search needs
+
+-- an event
+returns : tie.Need-returns
+returns c = rw (c .enum-told .given .1) (sym advanceOf-Event)
+
+-- a time
+returns-2 : tie.Need-returns-2
+returns-2 c = rw (c .before .before .w .given .1) (c .advance-of-units .ensures)
+
+pub advance-of-spec : {M : Type 1} → statement M
+advance-of-spec =
+    tie.close (tie.spec enum-told enum-known-w advance-of-units-requires returns returns-2)

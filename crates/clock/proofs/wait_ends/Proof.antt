@@ -1,0 +1,29 @@
+-- `clock::wait_ends` meets its contract: each kind of wait by the function for it.
+use borrow.Author.Needs.{needs}
+use Rattle.clock.proofs.wait_ends.Statement.{statement}
+use Rattle.clock.proofs.wait_ends.Tie as tie
+
+enum-told : tie.Need-enum-told
+enum-told c = search needs
+
+next-delta-requires : tie.Need-next-delta-requires
+next-delta-requires c κs = search needs
+
+enum-known-w : tie.Need-enum-known-w
+enum-known-w c = search needs
+
+after-units-requires : tie.Need-after-units-requires
+after-units-requires c κs = search needs
+
+-- an event
+returns : tie.Need-returns
+returns c = rw (c .before .enum-told .given .1) (c .next-delta .ensures)
+
+-- a time
+returns-2 : tie.Need-returns-2
+returns-2 c = rw (c .before .before .w .given .1) (c .after-units .ensures)
+
+pub wait-ends-spec : {M : Type 1} → statement M
+wait-ends-spec =
+    tie.close
+    (tie.spec enum-told next-delta-requires enum-known-w after-units-requires returns returns-2)

@@ -1,0 +1,88 @@
+-- What the argument uses of the kit: footprints and conflicts, distances, earliest, forecast, hazard and the log's places.
+-- A later change request proves these laws anew, and the argument stays.
+-- Assumes nothing.
+use Prim.Native.Nat.{ℕ, _≤_, _<_, _+_}
+use mathlib.Core.Path.{_≡_}
+use mathlib.Core.Logic.{_⊎_}
+use mathlib.Core.Bool.{Bool, true, false}
+use mathlib.Core.List.{List, List·Memᴰ}
+use lib.Dec.{T}
+use lib.ListN.{length, getD}
+use Rattle.clock.specs.declared.Cycle.{Cycle}
+use Rattle.clock.specs.declared.Bound.{Bound}
+use Rattle.clock.specs.declared.Bound.the-variants.{Never, At}
+use Rattle.clock.specs.Cycle.{stampAt}
+use Rattle.clock.specs.Advance.{_⊕_, oneDelta, noAdvance}
+use Rattle.clock.specs.Order.{Before, _⊑_, _≼_}
+use Rattle.model.specs.declared.Model.{Model}
+use Rattle.model.specs.declared.State.the-variants.{Ready, Waiting}
+use Rattle.model.specs.declared.Thread.{Thread}
+use Rattle.model.specs.Limits.{cutTime, isBeforeHorizon}
+use Rattle.model.specs.Record.{threadAt, isLive}
+use Rattle.model.specs.Effect.{Effect, effectOf}
+use Rattle.model.specs.Footprint.{writesIn, usesIn, has, notifiesIn}
+use Rattle.model.specs.Rules.{modelFault}
+use Rattle.tables.specs.Word.{distanceIn}
+use Rattle.early.specs.declared.Notification.{Notification}
+use Rattle.early.specs.Earliest.{earliestOf}
+use Rattle.early.specs.Forecast.{forecastOf}
+use Rattle.early.specs.Hazard.{marksConflict, isSooner, hazard}
+use Rattle.early.specs.Fit.{isFitCycle, isFitThread, isUnfitWords}
+use Rattle.order.proofs.Places.{Runs, nowAt, recordAt}
+
+-- L1: what a thread does in a segment, on variables of which there are 64
+pub record Footprints (m : Model) (marks : List (List Bool)) : Type 1 where
+  -- the segments that a thread can run
+  pub Reaches : ℕ → ℕ → Type 0
+  pub reached : (i k : ℕ) → Runs m i k → Reaches k (recordAt m i k .segment)
+  pub writes-uses : (k s v : ℕ) → T (writesIn m k s v) → T (usesIn m k s v)
+  pub sized : (k s : ℕ) (c : Cycle) (x : List ℕ) → length (effectOf m k s c x .variables) ≡ length x
+  pub frame : (k s : ℕ) (c : Cycle) (x : List ℕ) (v : ℕ) → writesIn m k s v ≡ false → getD (effectOf m k s c x .variables) v 0 ≡ getD x v 0
+  -- variables that agree on what it uses give the same notifications, the same record, and agree on what it uses after
+  pub local-variables : (k s : ℕ) (c : Cycle) (x y : List ℕ) → length x ≡ length y → ((v : ℕ) → T (usesIn m k s v) → getD x v 0 ≡ getD y v 0) → (v : ℕ) → T (usesIn m k s v) → getD (effectOf m k s c x .variables) v 0 ≡ getD (effectOf m k s c y .variables) v 0
+  pub local-notified : (k s : ℕ) (c : Cycle) (x y : List ℕ) → length x ≡ length y → ((v : ℕ) → T (usesIn m k s v) → getD x v 0 ≡ getD y v 0) → effectOf m k s c x .notified ≡ effectOf m k s c y .notified
+  pub local-thread : (k s : ℕ) (c : Cycle) (x y : List ℕ) → length x ≡ length y → ((v : ℕ) → T (usesIn m k s v) → getD x v 0 ≡ getD y v 0) → effectOf m k s c x .thread ≡ effectOf m k s c y .thread
+  -- different threads that touch a variable which one of them writes are marked as in conflict
+  pub marked : (i r j s v : ℕ) → (i ≡ j → ⊥) → Reaches i r → Reaches j s → (T (writesIn m i r v) × T (usesIn m j s v)) ⊎ (T (usesIn m i r v) × T (writesIn m j s v)) → T (marksConflict marks i r j s)
+
+-- L2 and L3: distances along what a thread does, below the horizon; and what it lists as notifying
+pub record Distances (m : Model) (ws : List ℕ) : Type 0 where
+  -- thread k runs segment a at c and is ready at d, in segment b: what is bounded by y ⊕ D(r, a) before, is bounded so after
+  pub over-wait : (k r : ℕ) (a : ℕ) (c d : Cycle) (x : List ℕ) (y : Bound) → k < m .t → r < m .n → a < m .n → effectOf m k a c x .thread .state ≡ Ready d → T (isBeforeHorizon m d) → y ⊕ distanceIn m ws r a ≼ At c → y ⊕ distanceIn m ws r (effectOf m k a c x .thread .segment) ≼ At d
+  -- it waits, since c, in segment b, and its event is heard at a cycle not before c
+  pub over-event : (k r : ℕ) (a e : ℕ) (c since h : Cycle) (x : List ℕ) (y : Bound) → k < m .t → r < m .n → a < m .n → effectOf m k a c x .thread .state ≡ Waiting e since → since ⊑ h → T (isBeforeHorizon m h) → y ⊕ distanceIn m ws r a ≼ At c → y ⊕ distanceIn m ws r (effectOf m k a c x .thread .segment) ≼ At h ⊕ oneDelta
+  pub self : (r : ℕ) → r < m .n → distanceIn m ws r r ≡ noAdvance
+  pub segment-below : (k a : ℕ) (c : Cycle) (x : List ℕ) → k < m .t → a < m .n → effectOf m k a c x .thread .segment < m .n
+  pub listed : (k s : ℕ) (c : Cycle) (x : List ℕ) (e : ℕ) → T (has (effectOf m k s c x .notified) e) → T (notifiesIn m k s e)
+  pub event-below : (k s : ℕ) (c : Cycle) (x : List ℕ) (e : ℕ) → s < m .n → T (has (effectOf m k s c x .notified) e) → e < m .e
+
+-- L4 and L5: earliest is sound at its links, and attained; forecast and hazard read by it. For every log and records.
+pub record Forecasts (m : Model) (marks : List (List Bool)) (ws : List ℕ) (l : List Notification) (ts : List Thread) : Type 0 where
+  pub earliest : ℕ → Bound
+  pub ready : (k : ℕ) (c : Cycle) → k < m .t → threadAt ts k .state ≡ Ready c → earliest k ≡ At c
+  pub heard : (k e : ℕ) (since : Cycle) (x : Notification) → k < m .t → threadAt ts k .state ≡ Waiting e since → List·Memᴰ x l → x .event ≡ e → since ⊑ x .cycle → earliest k ≼ At (x .cycle) ⊕ oneDelta
+  pub linked : (k e : ℕ) (since : Cycle) (j s : ℕ) (x : Cycle) → k < m .t → threadAt ts k .state ≡ Waiting e since → j < m .t → T (isLive (threadAt ts j .state)) → s < m .n → T (notifiesIn m j s e) → since ⊑ x → earliest j ⊕ distanceIn m ws (threadAt ts j .segment) s ≼ At x → earliest k ≼ At x ⊕ oneDelta
+  -- a finite earliest comes from a ready thread, or from a logged notification that a waiting thread can hear; strictly sooner for a waiting thread
+  pub attained : (k : ℕ) (b : Cycle) → k < m .t → earliest k ≡ At b
+      → ((j : ℕ) × (c : Cycle) × (j < m .t) × (threadAt ts j .state ≡ Ready c) × (c ⊑ b) × ((e : ℕ) (since : Cycle) → threadAt ts k .state ≡ Waiting e since → Before c b))
+      ⊎ ((j : ℕ) × (e : ℕ) × (since : Cycle) × (x : Notification) × (j < m .t) × (threadAt ts j .state ≡ Waiting e since) × List·Memᴰ x l × (x .event ≡ e) × (since ⊑ x .cycle) × Before (x .cycle) b)
+  pub forecast-below : (e j s : ℕ) → j < m .t → T (isLive (threadAt ts j .state)) → s < m .n → T (notifiesIn m j s e) → forecastOf m ws l ts e ≼ earliest j ⊕ distanceIn m ws (threadAt ts j .segment) s
+  pub forecast-attained : (e : ℕ) (b : Cycle) → forecastOf m ws l ts e ≡ At b → (j : ℕ) × (s : ℕ) × (j < m .t) × T (isLive (threadAt ts j .state)) × (earliest j ⊕ distanceIn m ws (threadAt ts j .segment) s ≡ At b)
+  pub no-hazard : (i : ℕ) (c : Cycle) → hazard m marks ws l ts i c ≡ false → (j s : ℕ) → j < m .t → (j ≡ i → ⊥) → T (isLive (threadAt ts j .state)) → s < m .n → T (marksConflict marks i (threadAt ts i .segment) j s) → isSooner (earliest j ⊕ distanceIn m ws (threadAt ts j .segment) s) j (stampAt c i) ≡ false
+  pub some-hazard : (i : ℕ) (c : Cycle) → hazard m marks ws l ts i c ≡ true → (j : ℕ) × (s : ℕ) × (j < m .t) × (j ≡ i → ⊥) × T (isLive (threadAt ts j .state)) × T (isSooner (earliest j ⊕ distanceIn m ws (threadAt ts j .segment) s) j (stampAt c i))
+
+-- L6 and the ranges of number 11: what a fit state is made of
+pub record Ranges (m : Model) (ws : List ℕ) : Type 0 where
+  pub model : modelFault m ≡ 0
+  pub words : isUnfitWords m ws ≡ false
+  pub threads : m .t ≤ 32
+  pub events : m .e ≤ 32
+  pub horizon : m .horizon .0 ≤ 1000000000
+  pub fit-record : (i k : ℕ) → k < m .t → T (isFitThread m (recordAt m i k))
+  pub fit-now : (i : ℕ) → T (isFitCycle cutTime (nowAt m i))
+
+pub record KitLaws (m : Model) (marks : List (List Bool)) (ws : List ℕ) : Type 1 where
+  pub footprints : Footprints m marks
+  pub distances : Distances m ws
+  pub ranges : Ranges m ws
+  pub forecasts : (l : List Notification) (ts : List Thread) → Forecasts m marks ws l ts

@@ -1,0 +1,4 @@
+pub mod Places
+pub mod PlainFacts
+pub mod KitLaws
+pub mod Invariant
