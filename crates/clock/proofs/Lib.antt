@@ -4,3 +4,4 @@ pub mod LeastLaws
 pub mod AdvanceLaws
 pub mod WaitLaws
 pub mod Edges
+pub mod Computed
