@@ -167,17 +167,17 @@ pub fn advance_of(w: Wait) -> Bound
     }
 }
 
-fn advance_of_units(k: Delay) -> Bound
-    ensures { λ r. ⌜ r ≡ advanceOf (Wait.Time k) ⌝ }
+fn advance_of_units(units: Delay) -> Bound
+    ensures { λ r. ⌜ r ≡ advanceOf (Wait.Time units) ⌝ }
 {
-    if k.0 == 0 {
+    if units.0 == 0 {
         return Bound::At(Cycle {
             time: Time(0),
             delta: Delta(1),
         });
     }
     Bound::At(Cycle {
-        time: Time(k.0 as u64),
+        time: Time(units.0 as u64),
         delta: Delta(0),
     })
 }
