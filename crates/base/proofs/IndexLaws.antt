@@ -81,6 +81,11 @@ firstBelow-zero (suc n) f e i h = go (λ k l. firstBelow-zero n f k i l) (orElse
     go ih (p, q) (yes g) = rw g q
     go ih (p, q) (no g) = ih p (omega arith)
 
+pub firstBelow-all : (n : ℕ) (f : ℕ → ℕ) → ((i : ℕ) → i < n → f i ≡ 0) → firstBelow n f ≡ 0
+unfolding firstBelow
+firstBelow-all zero f h = refl
+firstBelow-all (suc n) f h = orElse-none (firstBelow n f) (f n) (firstBelow-all n f (λ i l. h i (omega arith))) ∙ h n (omega arith)
+
 module _ {A : Type 0} where
   pub tabulate-length : (n i : ℕ) (f : ℕ → A) → length (tabulate n i f) ≡ n
   unfolding tabulate

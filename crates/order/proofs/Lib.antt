@@ -2,3 +2,6 @@ pub mod Places
 pub mod PlainFacts
 pub mod KitLaws
 pub mod Invariant
+pub mod Accepted
+pub mod CutLaws
+pub mod GoodLaws

@@ -1,0 +1,70 @@
+-- How a cut is moved: only its own thread's cut changes, what was done stays done, and what becomes done lies between
+-- the old cut and the new one. Likewise for histories with one thread's items more.
+-- Assumes nothing.
+use Prim.Native.Nat.{ℕ, suc, _≤_, _<_}
+use mathlib.Core.Path.{_≡_, refl, subst}
+use mathlib.Core.Logic.{_⊎_, inl, inr}
+use mathlib.Core.List.{List, [], _++_, append-nil}
+use native.Mathlib.Omega.{arith}
+use native.Mathlib.Decide.{decLt, ℕ-discrete}
+use borrow.Author.Tests.{eq-eqb, ne-eqb}
+use Rattle.model.specs.declared.Model.{Model}
+use Rattle.plain.specs.History.{Item}
+use Rattle.order.proofs.Places.{Runs}
+use Rattle.order.proofs.Invariant.{Done, moved, adding}
+
+pub moved-same : (cut : ℕ → ℕ) (k n j : ℕ) → j ≡ k → moved cut k n j ≡ n
+unfolding moved
+moved-same cut k n j e = rw (eq-eqb j k e) refl
+
+pub moved-other : (cut : ℕ → ℕ) (k n j : ℕ) → (j ≡ k → ⊥) → moved cut k n j ≡ cut j
+unfolding moved
+moved-other cut k n j other = rw (ne-eqb j k other) refl
+
+pub adding-same : (h : ℕ → List Item) (k : ℕ) (items : List Item) (j : ℕ) → j ≡ k → adding h k items j ≡ h j ++ items
+unfolding adding
+adding-same h k items j e = rw (eq-eqb j k e) refl
+
+pub adding-other : (h : ℕ → List Item) (k : ℕ) (items : List Item) (j : ℕ) → (j ≡ k → ⊥) → adding h k items j ≡ h j
+unfolding adding
+adding-other h k items j other = rw (ne-eqb j k other) (append-nil (h j))
+
+module _ (m : Model) (cut : ℕ → ℕ) (k n : ℕ) (on : cut k ≤ n) where
+  -- what was done stays done
+  pub done-kept : (q j : ℕ) → Done m cut q j → Done m (moved cut k n) q j
+  done-kept q j d = record { runs = d .runs; passed = go (ℕ-discrete j k) }
+    where
+      go : Dec (j ≡ k) → q < moved cut k n j
+      go (yes e) = rw (moved-same cut k n j e) (let p : q < cut k = subst (λ (i : ℕ). q < cut i) e (d .passed) in omega arith)
+      go (no e) = rw (moved-other cut k n j e) (d .passed)
+
+  -- what is done now was done, or is a run of k between the two cuts
+  pub done-moved : (q j : ℕ) → Done m (moved cut k n) q j → Done m cut q j ⊎ ((j ≡ k) × (cut k ≤ q) × (q < n))
+  done-moved q j d = go (ℕ-discrete j k) (decLt q (cut k))
+    where
+      go : Dec (j ≡ k) → Dec (q < cut k) → Done m cut q j ⊎ ((j ≡ k) × (cut k ≤ q) × (q < n))
+      go (no e) _ = inl (record { runs = d .runs; passed = rw (moved-other cut k n j e) at (d .passed) })
+      go (yes e) (yes h) = inl (record { runs = d .runs; passed = rw e h })
+      go (yes e) (no h) = inr (e, omega arith, rw (moved-same cut k n j e) at (d .passed))
+
+  -- nothing of k runs between the two cuts: what is done now was done
+  pub done-back : ((q : ℕ) → cut k ≤ q → q < n → Runs m q k → ⊥) → (q j : ℕ) → Done m (moved cut k n) q j → Done m cut q j
+  done-back quiet q j d = go (done-moved q j d)
+    where
+      go : Done m cut q j ⊎ ((j ≡ k) × (cut k ≤ q) × (q < n)) → Done m cut q j
+      go (inl old) = old
+      go (inr (e, from, to)) = absurd (quiet q from to (rw e at (d .runs)))
+
+-- the cut of k moved just past place r, the next that runs k
+module _ (m : Model) (cut : ℕ → ℕ) (k r : ℕ) (from : cut k ≤ r) (here : Runs m r k) (quiet : (q : ℕ) → cut k ≤ q → q < r → Runs m q k → ⊥) where
+  pub done-here : Done m (moved cut k (suc r)) r k
+  done-here = record { runs = here; passed = rw (moved-same cut k (suc r) k refl) (omega arith) }
+
+  -- what is done now was done, or is this place
+  pub done-now : (q j : ℕ) → Done m (moved cut k (suc r)) q j → Done m cut q j ⊎ ((q ≡ r) × (j ≡ k))
+  done-now q j d = go (done-moved m cut k (suc r) (omega arith) q j d) (ℕ-discrete q r)
+    where
+      go : Done m cut q j ⊎ ((j ≡ k) × (cut k ≤ q) × (q < suc r)) → Dec (q ≡ r) → Done m cut q j ⊎ ((q ≡ r) × (j ≡ k))
+      go (inl old) _ = inl old
+      go (inr (e, f, t)) (yes p) = inr (p, e)
+      go (inr (e, f, t)) (no p) = absurd (quiet q f (omega arith) (rw e at (d .runs)))
