@@ -20,16 +20,13 @@ use Rattle.plain.specs.Step.{placeAt}
 use Rattle.order.proofs.Places.{nowAt, recordAt, Runs}
 use Rattle.order.proofs.PlainFacts.{PlainFacts}
 use Rattle.order.proofs.KitLaws.{KitLaws}
+use Rattle.order.proofs.PlaceLaws.{same-runner}
 use Rattle.order.proofs.Invariant.{Done, Touch, Good, moved}
 use Rattle.order.proofs.CutLaws.{done-kept, done-back, done-now, done-here}
 
 -- place p runs thread a, which writes v there
 abbrev pub Writes : Model → ℕ → ℕ → ℕ → Type 0
 Writes m p a v = T (writesIn m a (recordAt m p a .segment) v)
-
--- a place runs one thread
-pub same-runner : (m : Model) (p a b : ℕ) → Runs m p a → Runs m p b → a ≡ b
-same-runner m p a b r s = sym (r .turn) ∙ s .turn
 
 crossed : {A B C D : Type 0} → (A × B) ⊎ (C × D) → (D × C) ⊎ (B × A)
 crossed (inl (w, u)) = inr (u, w)

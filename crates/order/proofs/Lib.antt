@@ -5,3 +5,8 @@ pub mod Invariant
 pub mod Accepted
 pub mod CutLaws
 pub mod GoodLaws
+pub mod PlaceLaws
+pub mod LowerBound
+pub mod LogFacts
+pub mod Grant
+pub mod GrantedCut

@@ -1,1 +1,4 @@
 pub mod Computed
+pub mod EdgeModels
+pub mod Edges
+pub mod RunEdges

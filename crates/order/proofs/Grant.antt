@@ -1,0 +1,121 @@
+-- A grant is a place of the plain run, taken early. Where no hazard stands, no earlier place that is not done touches the next
+-- place of the granted thread (A), since each such place runs no sooner than its bound (`LowerBound`). So it finds what the plain
+-- run finds there (B, `GoodLaws`), does what the plain run does, and leaves the cut of the plain run just past it.
+-- Assumes nothing.
+use Prim.Native.Nat.{ℕ, suc, _<_}
+use mathlib.Core.Path.{_≡_, ap, ap₂, sym, _∙_, subst}
+use mathlib.Core.Logic.{inl, inr}
+use mathlib.Core.Bool.{Bool, false}
+use mathlib.Core.List.{List}
+use native.Mathlib.Omega.{arith}
+use native.Mathlib.Decide.{decLt, ℕ-discrete}
+use lib.Dec.{T, T-not}
+use lib.ListN.{length, getD}
+use Rattle.base.proofs.BoolLaws.{false→T}
+use Rattle.clock.specs.declared.Cycle.{Cycle}
+use Rattle.clock.specs.declared.Bound.{Bound}
+use Rattle.clock.specs.declared.Bound.the-variants.{Never, At}
+use Rattle.clock.specs.Cycle.{stampAt}
+use Rattle.clock.specs.Advance.{_⊕_}
+use Rattle.clock.specs.Order.{_≼_}
+use Rattle.clock.proofs.OrderLaws.{Three, before, same, after, Before-total, Before→not-⊑, ⊑-Before-trans}
+use Rattle.clock.proofs.CycleLaws.{StampBefore, →isStampBefore}
+use Rattle.model.specs.declared.Model.{Model}
+use Rattle.model.specs.declared.State.the-variants.{Ready}
+use Rattle.model.specs.declared.Thread.{Thread}
+use Rattle.model.specs.Limits.{isBeforeHorizon}
+use Rattle.model.specs.Record.{threadAt}
+use Rattle.model.specs.Effect.{Effect, effectOf}
+use Rattle.model.specs.Footprint.{usesIn}
+use Rattle.plain.specs.Step.{placeAt}
+use Rattle.plain.specs.History.{Item}
+use Rattle.tables.specs.Word.{distanceIn}
+use Rattle.early.specs.declared.Notification.{Notification}
+use Rattle.early.specs.Hazard.{marksConflict, isSooner, hazard}
+use Rattle.order.proofs.Places.{nowAt, recordAt, effectThere, Runs}
+use Rattle.order.proofs.PlainFacts.{PlainFacts, NextRun}
+use Rattle.order.proofs.KitLaws.{KitLaws}
+use Rattle.order.proofs.Invariant.{Done, Touch, Good, IsCut, Bounded, moved}
+use Rattle.order.proofs.GoodLaws.{touch-swap, values, good-step}
+use Rattle.order.proofs.LowerBound.{bounded}
+
+-- a thread whose bound is not after d, and whose stamp at d is before another, is sooner by its bound
+pub isSooner-by : (b : Bound) (d c : Cycle) (j i : ℕ) → b ≼ At d → StampBefore (stampAt d j) (stampAt c i) → T (isSooner b j (stampAt c i))
+unfolding isSooner
+isSooner-by Never d c j i h s = absurd h
+isSooner-by (At b) d c j i h (inl p) = →isStampBefore (stampAt b j) (stampAt c i) (inl (⊑-Before-trans h p))
+isSooner-by (At b) d c j i h (inr (e, p)) = →isStampBefore (stampAt b j) (stampAt c i) (go (Before-total b c))
+  where
+    go : Three b c → StampBefore (stampAt b j) (stampAt c i)
+    go (before q) = inl q
+    go (same q) = inr (q, p)
+    go (after q) = absurd (Before→not-⊑ q (rw e at h))
+
+module _ (m : Model) (pf : PlainFacts m) (marks : List (List Bool)) (ws : List ℕ) (kl : KitLaws m marks ws)
+    {x : List ℕ} {l : List Notification} {ts : List Thread} {h : ℕ → List Item} {cut : ℕ → ℕ} {low : Bound}
+    (ic : IsCut m x l ts h cut low) (k : ℕ) (c : Cycle) (kt : k < m .t) (ready : threadAt ts k .state ≡ Ready c)
+  where
+    -- the place that is granted
+    pub next-place : T (isBeforeHorizon m c) → NextRun m (cut k) k c
+    next-place soon = pf .next-run (cut k) k c kt (ap (λ (t : Thread). t .state) (sym (ic .records k kt)) ∙ ready) soon
+
+    -- its record is the thread's
+    pub same-record : (r : NextRun m (cut k) k c) → threadAt ts k ≡ recordAt m (r .place) k
+    same-record r = ic .records k kt ∙ sym (r .still)
+
+    module _ (r : NextRun m (cut k) k c) (clear : hazard m marks ws l ts k c ≡ false) where
+      -- another thread's place before it that is not done would be a hazard
+      no-hazard-before : (p a : ℕ) → p < r .place → Runs m p a → (a ≡ k → ⊥) → (p < cut a → ⊥) → Touch m p a (r .place) k → ⊥
+      no-hazard-before p a sooner runs other undone touch =
+          T-not (isSooner b a (stampAt c k)) (false→T (isSooner b a (stampAt c k)) quiet) (isSooner-by b (nowAt m p) c a k (bd .sound p a runs undone) stamps)
+        where
+          bd : Bounded m ws ts cut (kl .forecasts l ts .earliest)
+          bd = bounded m pf marks ws kl ic (kl .forecasts l ts)
+
+          b : Bound
+          b = kl .forecasts l ts .earliest a ⊕ distanceIn m ws (threadAt ts a .segment) (recordAt m p a .segment)
+
+          touched : Touch m (r .place) k p a
+          touched = touch-swap m p a (r .place) k touch
+
+          marked : T (marksConflict marks k (threadAt ts k .segment) a (recordAt m p a .segment))
+          marked = rw (same-record r) (kl .footprints .marked k (recordAt m (r .place) k .segment) a (recordAt m p a .segment) (touched .variable) (λ e. other (sym e)) (kl .footprints .reached (r .place) k (r .runs)) (kl .footprints .reached p a runs) (touched .shared))
+
+          quiet : isSooner b a (stampAt c k) ≡ false
+          quiet = kl .forecasts l ts .no-hazard k c clear a (recordAt m p a .segment) (runs .below) other (bd .live p a runs undone) (pf .segment-below p a (runs .below)) marked
+
+          stamps : StampBefore (stampAt (nowAt m p) a) (stampAt c k)
+          stamps = subst (λ (d : Cycle). StampBefore (stampAt (nowAt m p) a) (stampAt d k)) (r .now) (pf .stamps p (r .place) a k sooner runs (r .runs))
+
+      -- (A) every earlier place that touches it is done
+      pub safe : (p a : ℕ) → p < r .place → Runs m p a → Touch m p a (r .place) k → Done m cut p a
+      safe p a sooner runs touch = go (decLt p (cut a)) (ℕ-discrete a k)
+        where
+          go : Dec (p < cut a) → Dec (a ≡ k) → Done m cut p a
+          go (yes d) _ = record { runs = runs; passed = d }
+          go (no d) (yes e) = absurd (r .quiet p (let z = ap cut e in omega arith) sooner (rw e at runs))
+          go (no d) (no e) = absurd (no-hazard-before p a sooner runs e d touch)
+
+      -- what k does now is what it does there
+      abbrev effect : Effect
+      effect = effectOf m k (threadAt ts k .segment) c x
+
+      effect-there : effect ≡ effectOf m k (recordAt m (r .place) k .segment) (nowAt m (r .place)) x
+      effect-there = ap₂ (λ (s : ℕ) (d : Cycle). effectOf m k s d x) (ap (λ (t : Thread). t .segment) (same-record r)) (sym (r .now))
+
+      length-same : length x ≡ length (placeAt m (r .place) .variables)
+      length-same = ic .good .size ∙ sym (pf .variables-length (r .place))
+
+      -- (B) it finds what the plain run finds there
+      pub values-there : (v : ℕ) → T (usesIn m k (recordAt m (r .place) k .segment) v) → getD x v 0 ≡ getD (placeAt m (r .place) .variables) v 0
+      values-there = values m pf marks ws kl cut x (ic .good) (r .place) k (r .runs) (r .from) (r .quiet) safe
+
+      pub effect-thread : effect .thread ≡ effectThere m (r .place) k .thread
+      effect-thread = ap (λ (y : Effect). y .thread) effect-there ∙ kl .footprints .local-thread k (recordAt m (r .place) k .segment) (nowAt m (r .place)) x (placeAt m (r .place) .variables) length-same values-there
+
+      pub effect-notified : effect .notified ≡ effectThere m (r .place) k .notified
+      effect-notified = ap (λ (y : Effect). y .notified) effect-there ∙ kl .footprints .local-notified k (recordAt m (r .place) k .segment) (nowAt m (r .place)) x (placeAt m (r .place) .variables) length-same values-there
+
+      -- (C) and leaves the variables good
+      pub effect-good : Good m (moved cut k (suc (r .place))) (effect .variables)
+      effect-good = subst (λ (y : Effect). Good m (moved cut k (suc (r .place))) (y .variables)) (sym effect-there) (good-step m pf marks ws kl cut x (ic .good) (r .place) k (r .runs) (r .from) (r .quiet) safe)

@@ -1,0 +1,160 @@
+-- After a grant, before anything is delivered: variables, log, records and histories are again a cut of the plain run, the
+-- granted thread's cut moved just past its place. What was past for all stays so: a wait that begins now begins at the granted
+-- cycle, and nothing ready is before the floor of the last drop.
+-- Assumes nothing.
+use Prim.Native.Nat.{ℕ, suc, _<_}
+use mathlib.Core.Path.{_≡_, ap, ap₂, sym, _∙_}
+use mathlib.Core.Logic.{_⊎_, inl, inr}
+use mathlib.Core.Bool.{Bool, false}
+use mathlib.Core.List.{List, [], _∷_, _++_, List·Memᴰ, Memᴰ·cast}
+use native.Mathlib.Omega.{arith}
+use native.Mathlib.Decide.{ℕ-discrete}
+use lib.Dec.{T}
+use lib.ListN.{set, length-set}
+use Rattle.clock.specs.declared.Cycle.{Cycle}
+use Rattle.clock.specs.declared.Bound.{Bound}
+use Rattle.clock.specs.declared.Bound.the-variants.{At}
+use Rattle.clock.specs.Order.{Before, _⊑_, _≼_}
+use Rattle.clock.proofs.OrderLaws.{⊑-total, ≼-trans}
+use Rattle.model.specs.declared.Model.{Model}
+use Rattle.model.specs.declared.State.the-variants.{Ready, Waiting}
+use Rattle.model.specs.declared.Thread.{Thread}
+use Rattle.model.specs.Record.{threadAt}
+use Rattle.model.specs.Effect.{Effect, effectOf}
+use Rattle.model.specs.Footprint.{has}
+use Rattle.plain.specs.History.{Item, ran, historyAt}
+use Rattle.early.specs.declared.Notification.{Notification}
+use Rattle.early.specs.Log.{pairOf, withPairs}
+use Rattle.early.specs.Hazard.{hazard}
+use Rattle.order.proofs.Places.{nowAt, recordAt, effectThere, Says}
+use Rattle.order.proofs.PlainFacts.{PlainFacts, NextRun}
+use Rattle.order.proofs.KitLaws.{KitLaws}
+use Rattle.order.proofs.PlaceLaws.{wait-begins, threadAt-set-same, threadAt-set-other, run-record, run-history, run-later}
+use Rattle.order.proofs.Invariant.{Done, Gone, IsCut, moved, adding}
+use Rattle.order.proofs.CutLaws.{moved-same, moved-other, adding-same, adding-other, done-kept, done-here, done-now}
+use Rattle.order.proofs.LogFacts.{withPairs-kept, withPairs-new, withPairs-only, withPairs-once}
+use Rattle.order.proofs.Grant.{same-record, effect-thread, effect-notified, effect-good}
+
+module _ (m : Model) (pf : PlainFacts m) (marks : List (List Bool)) (ws : List ℕ) (kl : KitLaws m marks ws)
+    {x : List ℕ} {l : List Notification} {ts : List Thread} {h : ℕ → List Item} {cut : ℕ → ℕ} {low : Bound}
+    (ic : IsCut m x l ts h cut low) (k : ℕ) (c : Cycle) (kt : k < m .t) (ready : threadAt ts k .state ≡ Ready c)
+    (r : NextRun m (cut k) k c) (clear : hazard m marks ws l ts k c ≡ false)
+  where
+    -- what the grant does, and what it leaves
+    abbrev effect : Effect
+    effect = effectOf m k (threadAt ts k .segment) c x
+
+    abbrev newLog : List Notification
+    newLog = withPairs l c (effect .notified)
+
+    abbrev newRecords : List Thread
+    newRecords = set ts k (effect .thread)
+
+    abbrev newCut : ℕ → ℕ
+    newCut = moved cut k (suc (r .place))
+
+    record-granted : (j : ℕ) → j ≡ k → threadAt newRecords j ≡ effect .thread
+    record-granted j e = threadAt-set-same ts k (effect .thread) j e (omega (arith, ic .size))
+
+    record-other : (j : ℕ) → (j ≡ k → ⊥) → threadAt newRecords j ≡ threadAt ts j
+    record-other j other = threadAt-set-other ts k (effect .thread) j other
+
+    thread-there : effect .thread ≡ effectThere m (r .place) k .thread
+    thread-there = effect-thread m pf marks ws kl ic k c kt ready r clear
+
+    notified-there : effect .notified ≡ effectThere m (r .place) k .notified
+    notified-there = effect-notified m pf marks ws kl ic k c kt ready r clear
+
+    low-now : low ≼ At c
+    low-now = ic .low-ready k c kt ready
+
+    records-after : (j : ℕ) → j < m .t → threadAt newRecords j ≡ recordAt m (newCut j) j
+    records-after j jt = go (ℕ-discrete j k)
+      where
+        go : Dec (j ≡ k) → threadAt newRecords j ≡ recordAt m (newCut j) j
+        go (yes e) = record-granted j e ∙ thread-there ∙ sym (run-record m pf (r .place) k (r .runs)) ∙ ap₂ (λ (n i : ℕ). recordAt m n i) (sym (moved-same cut k (suc (r .place)) j e)) (sym e)
+        go (no e) = record-other j e ∙ ic .records j jt ∙ ap (λ (n : ℕ). recordAt m n j) (sym (moved-other cut k (suc (r .place)) j e))
+
+    abbrev items : List Item
+    items = ran (threadAt ts k .segment) c ∷ []
+
+    items-there : items ≡ ran (recordAt m (r .place) k .segment) (nowAt m (r .place)) ∷ []
+    items-there = ap₂ (λ (t : Thread) (d : Cycle). ran (t .segment) d ∷ []) (same-record m pf marks ws kl ic k c kt ready r) (sym (r .now))
+
+    history-after : (j : ℕ) → j < m .t → adding h k items j ≡ historyAt m j (newCut j)
+    history-after j jt = go (ℕ-discrete j k)
+      where
+        go : Dec (j ≡ k) → adding h k items j ≡ historyAt m j (newCut j)
+        go (yes e) =
+            adding-same h k items j e
+            ∙ ap₂ (λ (a b : List Item). a ++ b) (ap h e ∙ ic .history k kt ∙ sym (r .history)) items-there
+            ∙ sym (run-history m pf (r .place) k (r .runs))
+            ∙ ap₂ (λ (i n : ℕ). historyAt m i n) (sym e) (sym (moved-same cut k (suc (r .place)) j e))
+        go (no e) = adding-other h k items j e ∙ ic .history j jt ∙ ap (historyAt m j) (sym (moved-other cut k (suc (r .place)) j e))
+
+    low-ready-after : (j : ℕ) (d : Cycle) → j < m .t → threadAt newRecords j .state ≡ Ready d → low ≼ At d
+    low-ready-after j d jt st = go (ℕ-discrete j k)
+      where
+        go : Dec (j ≡ k) → low ≼ At d
+        go (yes e) =
+            let later = run-later m pf (r .place) k (r .runs) d (ap (λ (t : Thread). t .state) (sym thread-there ∙ sym (record-granted j e)) ∙ st) in
+            ≼-trans low (At c) (At d) low-now (rw (r .now) at later)
+        go (no e) = ic .low-ready j d jt (ap (λ (t : Thread). t .state) (sym (record-other j e)) ∙ st)
+
+    low-logged-after : (y : Notification) → List·Memᴰ y newLog → low ≼ At (y .cycle)
+    low-logged-after y held = go (withPairs-only l c (effect .notified) y held)
+      where
+        go : List·Memᴰ y l ⊎ (T (has (effect .notified) (y .event)) × (y .cycle ≡ c)) → low ≼ At (y .cycle)
+        go (inl old) = ic .low-logged y old
+        go (inr (_, e)) = rw e low-now
+
+    -- what was past for all is past for the wait that may begin now
+    gone-kept : (e : ℕ) (d : Cycle) → Gone m ts low e d → Gone m newRecords low e d
+    gone-kept e d gone = record { dropped = gone .dropped; unheard = λ j since jt st. go j since jt st (ℕ-discrete j k) }
+      where
+        earlier : Before d c
+        earlier = by (⊑-total c d)
+          where
+            by : (c ⊑ d) ⊎ Before d c → Before d c
+            by (inl p) = absurd (gone .dropped (≼-trans low (At c) (At d) low-now p))
+            by (inr p) = p
+
+        go : (j : ℕ) (since : Cycle) → j < m .t → threadAt newRecords j .state ≡ Waiting e since → Dec (j ≡ k) → Before d since
+        go j since jt st (yes f) = rw (wait-begins m k (threadAt ts k .segment) c x e since (ap (λ (t : Thread). t .state) (sym (record-granted j f)) ∙ st)) earlier
+        go j since jt st (no f) = gone .unheard j since jt (ap (λ (t : Thread). t .state) (sym (record-other j f)) ∙ st)
+
+    logged-after : (q j e : ℕ) → Done m newCut q j → Says m q j e → List·Memᴰ (pairOf e (nowAt m q)) newLog ⊎ Gone m newRecords low e (nowAt m q)
+    logged-after q j e d says = go (done-now m cut k (r .place) (r .from) (r .runs) (r .quiet) q j d)
+      where
+        kept : List·Memᴰ (pairOf e (nowAt m q)) l ⊎ Gone m ts low e (nowAt m q) → List·Memᴰ (pairOf e (nowAt m q)) newLog ⊎ Gone m newRecords low e (nowAt m q)
+        kept (inl held) = inl (withPairs-kept l c (effect .notified) (pairOf e (nowAt m q)) held)
+        kept (inr gone) = inr (gone-kept e (nowAt m q) gone)
+
+        go : Done m cut q j ⊎ ((q ≡ r .place) × (j ≡ k)) → List·Memᴰ (pairOf e (nowAt m q)) newLog ⊎ Gone m newRecords low e (nowAt m q)
+        go (inl old) = kept (ic .logged q j e old says)
+        go (inr (p, f)) =
+            let here : Says m (r .place) k e = rw (p, f) at says in
+            inl (Memᴰ·cast (ap (pairOf e) (ap (nowAt m) p ∙ r .now)) (withPairs-new l c (effect .notified) e (rw notified-there (here .notifies))))
+
+    notified-after : (y : Notification) → List·Memᴰ y newLog → (q : ℕ) × (j : ℕ) × Done m newCut q j × Says m q j (y .event) × (nowAt m q ≡ y .cycle)
+    notified-after y held = go (withPairs-only l c (effect .notified) y held)
+      where
+        go : List·Memᴰ y l ⊎ (T (has (effect .notified) (y .event)) × (y .cycle ≡ c)) → (q : ℕ) × (j : ℕ) × Done m newCut q j × Says m q j (y .event) × (nowAt m q ≡ y .cycle)
+        go (inl old) =
+            let (q, j, d, says, now) = ic .notified y old in
+            (q, j, done-kept m cut k (suc (r .place)) (omega (arith, r .from)) q j d, says, now)
+        go (inr (t, e)) = (r .place, k, done-here m cut k (r .place) (r .from) (r .runs) (r .quiet), record { runs = r .runs; notifies = rw notified-there at t }, r .now ∙ sym e)
+
+    pub granted-cut : IsCut m (effectOf m k (threadAt ts k .segment) c x .variables) (withPairs l c (effectOf m k (threadAt ts k .segment) c x .notified)) (set ts k (effectOf m k (threadAt ts k .segment) c x .thread)) (adding h k (ran (threadAt ts k .segment) c ∷ [])) (moved cut k (suc (r .place))) low
+    granted-cut =
+        record {
+          size = rw (length-set ts k (effect .thread)) (ic .size);
+          records = records-after;
+          history = history-after;
+          good = effect-good m pf marks ws kl ic k c kt ready r clear;
+          low-ready = low-ready-after;
+          low-logged = low-logged-after;
+          logged = logged-after;
+          notified = notified-after;
+          once = withPairs-once l c (effect .notified) (ic .once);
+        }

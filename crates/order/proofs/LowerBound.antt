@@ -1,0 +1,147 @@
+-- Bounds are sound: a place that is not done runs no sooner than its thread's earliest plus the distance to its segment.
+-- By induction on the place. A ready thread goes on by its own steps. A waiting one is woken by a notification of an earlier
+-- place: if that is done, it is logged, and earliest knows it; if not, the bound holds there, and earliest knows the link.
+-- Assumes nothing.
+use Prim.Native.Nat.{ℕ, zero, suc, _≤_, _<_}
+use mathlib.Core.Path.{_≡_, refl, ap, sym, _∙_, subst}
+use mathlib.Core.Logic.{_⊎_, inl, inr}
+use mathlib.Core.Bool.{Bool}
+use mathlib.Core.List.{List, List·Memᴰ}
+use native.Mathlib.Omega.{arith}
+use native.Mathlib.Decide.{decLt, ℕ-discrete}
+use lib.Dec.{T}
+use Rattle.base.proofs.BoolLaws.{T-case}
+use Rattle.clock.specs.declared.Cycle.{Cycle}
+use Rattle.clock.specs.declared.Wait.the-variants as wait
+use Rattle.clock.specs.declared.Bound.{Bound}
+use Rattle.clock.specs.declared.Bound.the-variants.{At}
+use Rattle.clock.specs.Wait.{waitEnds}
+use Rattle.clock.specs.Advance.{_⊕_, oneDelta}
+use Rattle.clock.specs.Order.{_⊑_, _≼_}
+use Rattle.clock.proofs.OrderLaws.{⊑-refl, Before→not-⊑}
+use Rattle.clock.proofs.AdvanceLaws.{⊕-noAdvance}
+use Rattle.model.specs.declared.Model.{Model}
+use Rattle.model.specs.declared.State.{State}
+use Rattle.model.specs.declared.State.the-variants.{Ended, Overrun, Ready, Waiting}
+use Rattle.model.specs.declared.Thread.{Thread}
+use Rattle.model.specs.Limits.{isBeforeHorizon}
+use Rattle.model.specs.Record.{threadAt, isLive, stateAfter}
+use Rattle.plain.specs.History.{Item}
+use Rattle.plain.specs.Step.{placeAt}
+use Rattle.tables.specs.Word.{distanceIn}
+use Rattle.early.specs.declared.Notification.{Notification}
+use Rattle.early.specs.Log.{pairOf}
+use Rattle.order.proofs.Places.{nowAt, recordAt, effectThere, Runs, Says, Hears, Happens, idle, runs, hears}
+use Rattle.order.proofs.PlainFacts.{PlainFacts}
+use Rattle.order.proofs.KitLaws.{KitLaws, Forecasts}
+use Rattle.order.proofs.PlaceLaws.{Over, over-ready-not, over-stays, heard-ready, stateAfter-Waiting}
+use Rattle.order.proofs.Invariant.{Gone, IsCut, Bounded}
+
+module _ (m : Model) (pf : PlainFacts m) (marks : List (List Bool)) (ws : List ℕ) (kl : KitLaws m marks ws)
+    {x : List ℕ} {l : List Notification} {ts : List Thread} {h : ℕ → List Item} {cut : ℕ → ℕ} {low : Bound}
+    (ic : IsCut m x l ts h cut low) (f : Forecasts m marks ws l ts)
+  where
+    -- a thread with a place that is not done is live
+    pub live-undone : (q j : ℕ) → Runs m q j → (q < cut j → ⊥) → T (isLive (threadAt ts j .state))
+    live-undone q j r new = rw (ic .records j (r .below)) (go (T-case (isLive (recordAt m (cut j) j .state))))
+      where
+        go : T (isLive (recordAt m (cut j) j .state)) ⊎ Over (recordAt m (cut j) j) → T (isLive (recordAt m (cut j) j .state))
+        go (inl t) = t
+        go (inr over) = absurd (over-ready-not (recordAt m (cut j) j) (nowAt m q) over (ap (λ (t : Thread). t .state) (sym (over-stays m pf j (cut j) q (r .below) (omega arith) over)) ∙ r .ready))
+
+    -- the bound of thread k at the segment of a record, and at the segment that it has at place n
+    abbrev boundTo : ℕ → Thread → Bound
+    boundTo k t = f .earliest k ⊕ distanceIn m ws (threadAt ts k .segment) (t .segment)
+
+    abbrev far : ℕ → ℕ → Bound
+    far k n = boundTo k (recordAt m n k)
+
+    segment-cut : (k : ℕ) → k < m .t → threadAt ts k .segment < m .n
+    segment-cut k kt = rw (ic .records k kt) (pf .segment-below (cut k) k kt)
+
+    far-still : (k n : ℕ) → k < m .t → recordAt m n k ≡ threadAt ts k → far k n ≡ f .earliest k
+    far-still k n kt same =
+        ap (boundTo k) same
+        ∙ ap (λ (b : Bound). f .earliest k ⊕ b) (kl .distances .self (threadAt ts k .segment) (segment-cut k kt))
+        ∙ ⊕-noAdvance (f .earliest k)
+
+    -- What is shown of thread k at place n, by its state there. Ready: the bound is not after its cycle, if that is before the
+    -- horizon. Waiting: the record is still the one at the cut, or the bound is not after the delta that follows any hearing.
+    abbrev Reached : ℕ → ℕ → State → Type 0
+    Reached k n (Ready c) = T (isBeforeHorizon m c) → far k n ≼ At c
+    Reached k n (Waiting e since) = (recordAt m n k ≡ threadAt ts k) ⊎ ((c : Cycle) → since ⊑ c → T (isBeforeHorizon m c) → far k n ≼ At c ⊕ oneDelta)
+    Reached k n (Ended c) = Unit {0}
+    Reached k n (Overrun c) = Unit {0}
+
+    abbrev UpTo : ℕ → Type 0
+    UpTo n = (k j : ℕ) → j ≤ n → k < m .t → cut k ≤ j → (s : State) → recordAt m j k .state ≡ s → Reached k j s
+
+    reached-cut : (k : ℕ) → k < m .t → (s : State) → recordAt m (cut k) k .state ≡ s → Reached k (cut k) s
+    reached-cut k kt (Ready c) e = λ before. rw (far-still k (cut k) kt (sym (ic .records k kt)), f .ready k c kt (ap (λ (t : Thread). t .state) (ic .records k kt) ∙ e)) ⊑-refl
+    reached-cut k kt (Waiting v since) e = inl (sym (ic .records k kt))
+    reached-cut k kt (Ended c) e = tt
+    reached-cut k kt (Overrun c) e = tt
+
+    at-place : (k n : ℕ) → cut k ≡ n → k < m .t → (s : State) → recordAt m n k .state ≡ s → Reached k n s
+    at-place k n here kt s e = subst (λ (i : ℕ). recordAt m i k .state ≡ s → Reached k i s) here (reached-cut k kt s) e
+
+    -- a thread that still waits as at its cut, and hears at place n: earliest is not after the delta that follows
+    heard-next : (n : ℕ) → UpTo n → (k e : ℕ) (since : Cycle) → Hears m n k e since → recordAt m n k ≡ threadAt ts k → f .earliest k ≼ At (nowAt m n) ⊕ oneDelta
+    heard-next n ih k e since hear same = let (q, j, sooner, says, now) = pf .source n k e since hear in subst (λ (c : Cycle). f .earliest k ≼ At c ⊕ oneDelta) now (by q j sooner says now (decLt q (cut j)))
+      where
+        waits : threadAt ts k .state ≡ Waiting e since
+        waits = ap (λ (t : Thread). t .state) (sym same) ∙ hear .waits
+
+        by : (q j : ℕ) → q < n → Says m q j e → nowAt m q ≡ nowAt m n → Dec (q < cut j) → f .earliest k ≼ At (nowAt m q) ⊕ oneDelta
+        by q j sooner says now (yes d) = go (ic .logged q j e (record { runs = says .runs; passed = d }) says)
+          where
+            go : List·Memᴰ (pairOf e (nowAt m q)) l ⊎ Gone m ts low e (nowAt m q) → f .earliest k ≼ At (nowAt m q) ⊕ oneDelta
+            go (inl held) = f .heard k e since (pairOf e (nowAt m q)) (hear .below) waits held refl (rw now (hear .begun))
+            go (inr gone) = absurd (Before→not-⊑ (gone .unheard k since (hear .below) waits) (rw now (hear .begun)))
+        by q j sooner says now (no d) =
+            let run = says .runs in
+            f .linked k e since j (recordAt m q j .segment) (nowAt m q) (hear .below) waits (run .below) (live-undone q j run d) (pf .segment-below q j (run .below))
+            (kl .distances .listed j (recordAt m q j .segment) (nowAt m q) (placeAt m q .variables) e (says .notifies)) (rw now (hear .begun))
+            (ih j q (omega arith) (run .below) (omega arith) (Ready (nowAt m q)) (run .ready) (pf .now-before q))
+
+    reached-idle : (n k : ℕ) → recordAt m (suc n) k ≡ recordAt m n k → (s : State) → Reached k n s → Reached k (suc n) s
+    reached-idle n k same (Ready c) p = λ b. subst (λ (t : Thread). boundTo k t ≼ At c) (sym same) (p b)
+    reached-idle n k same (Waiting e since) (inl p) = inl (same ∙ p)
+    reached-idle n k same (Waiting e since) (inr p) = inr (λ c a b. subst (λ (t : Thread). boundTo k t ≼ At c ⊕ oneDelta) (sym same) (p c a b))
+    reached-idle n k same (Ended c) p = tt
+    reached-idle n k same (Overrun c) p = tt
+
+    reached-run : (n k : ℕ) → k < m .t → recordAt m (suc n) k ≡ effectThere m n k .thread → far k n ≼ At (nowAt m n) → (s : State) → recordAt m (suc n) k .state ≡ s → Reached k (suc n) s
+    reached-run n k kt next p (Ready d) e = λ b. subst (λ (t : Thread). boundTo k t ≼ At d) (sym next)
+        (kl .distances .over-wait k (threadAt ts k .segment) (recordAt m n k .segment) (nowAt m n) d (placeAt m n .variables) (f .earliest k) kt (segment-cut k kt) (pf .segment-below n k kt) (ap (λ (t : Thread). t .state) (sym next) ∙ e) b p)
+    reached-run n k kt next p (Waiting v since) e = inr (λ c a b. subst (λ (t : Thread). boundTo k t ≼ At c ⊕ oneDelta) (sym next)
+        (kl .distances .over-event k (threadAt ts k .segment) (recordAt m n k .segment) v (nowAt m n) since c (placeAt m n .variables) (f .earliest k) kt (segment-cut k kt) (pf .segment-below n k kt) (ap (λ (t : Thread). t .state) (sym next) ∙ e) a b p))
+    reached-run n k kt next p (Ended d) e = tt
+    reached-run n k kt next p (Overrun d) e = tt
+
+    reached-heard : (n k : ℕ) → recordAt m (suc n) k ≡ record { segment = recordAt m n k .segment; state = stateAfter (waitEnds wait.Event (nowAt m n)) } → far k n ≼ At (nowAt m n) ⊕ oneDelta → (s : State) → recordAt m (suc n) k .state ≡ s → Reached k (suc n) s
+    reached-heard n k next p (Ready d) e = λ b. subst (λ (t : Thread). boundTo k t ≼ At d) (sym next) (subst (λ (y : Bound). far k n ≼ y) (heard-ready (nowAt m n) d (ap (λ (t : Thread). t .state) (sym next) ∙ e)) p)
+    reached-heard n k next p (Waiting v since) e = absurd (stateAfter-Waiting (waitEnds wait.Event (nowAt m n)) v since (ap (λ (t : Thread). t .state) (sym next) ∙ e))
+    reached-heard n k next p (Ended d) e = tt
+    reached-heard n k next p (Overrun d) e = tt
+
+    reached-next : (n : ℕ) → UpTo n → (k : ℕ) → k < m .t → cut k ≤ n → Happens m n k → (s : State) → recordAt m (suc n) k .state ≡ s → Reached k (suc n) s
+    reached-next n ih k kt from (idle same _ _ _) s e = reached-idle n k same s (ih k n (omega arith) kt from s (ap (λ (t : Thread). t .state) (sym same) ∙ e))
+    reached-next n ih k kt from (runs r next _) s e = reached-run n k kt next (ih k n (omega arith) kt from (Ready (nowAt m n)) (r .ready) (pf .now-before n)) s e
+    reached-next n ih k kt from (hears v since hear next _) s e = reached-heard n k next (go (ih k n (omega arith) kt from (Waiting v since) (hear .waits))) s e
+      where
+        go : (recordAt m n k ≡ threadAt ts k) ⊎ ((c : Cycle) → since ⊑ c → T (isBeforeHorizon m c) → far k n ≼ At c ⊕ oneDelta) → far k n ≼ At (nowAt m n) ⊕ oneDelta
+        go (inl same) = rw (far-still k n kt same) (heard-next n ih k v since hear same)
+        go (inr p) = p (nowAt m n) (hear .begun) (pf .now-before n)
+
+    reached : (n : ℕ) → UpTo n
+    reached zero k j h kt from s e = at-place k j (omega arith) kt s e
+    reached (suc n) k j h kt from s e = go (ℕ-discrete j (suc n)) (ℕ-discrete (cut k) j) (reached n)
+      where
+        go : Dec (j ≡ suc n) → Dec (cut k ≡ j) → UpTo n → Reached k j s
+        go _ (yes here) ih = at-place k j here kt s e
+        go (no below) (no _) ih = ih k j (omega arith) kt from s e
+        go (yes top) (no late) ih = subst (λ (i : ℕ). recordAt m i k .state ≡ s → Reached k i s) (sym top) (reached-next n ih k kt (omega arith) (pf .happens n k kt) s) e
+
+    pub bounded : Bounded m ws ts cut (f .earliest)
+    bounded = record { sound = λ q j r new. reached q j q (omega arith) (r .below) (omega arith) (Ready (nowAt m q)) (r .ready) (pf .now-before q); live = live-undone }
