@@ -1,10 +1,9 @@
 -- Small models, tables and records for the closed examples of this crate. Tables are written by hand: within range they are used as given.
-use Prim.Native.Nat.{ℕ, zero, suc, _+_, _-_}
+use Prim.Native.Nat.{ℕ, zero, suc, _-_}
 use mathlib.Core.Bool.{Bool, true, false}
 use mathlib.Core.List.{List, [], _∷_, _++_}
 use lib.ListN.{length, replicate}
 use Rattle.base.specs.Index.{tabulate}
-use Rattle.clock.specs.declared.Cycle.{Cycle}
 use Rattle.clock.specs.declared.Bound.{Bound}
 use Rattle.clock.specs.declared.Bound.the-variants.{At}
 use Rattle.clock.specs.Cycle.{cycleAt}

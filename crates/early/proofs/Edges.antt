@@ -1,18 +1,16 @@
 -- The log, earliest, forecast, hazard and deliveries of `specs/` at, below and above their edges: closed examples, worked out from document 01.
-use Prim.Native.Nat.{ℕ}
 use mathlib.Core.Path.{_≡_, refl}
 use mathlib.Core.Bool.{true, false}
 use mathlib.Core.List.{List, [], _∷_}
 use lib.ListN.{length}
-use Rattle.clock.specs.declared.Bound.{Bound}
-use Rattle.clock.specs.declared.Bound.the-variants.{Never, At}
+use Rattle.clock.specs.declared.Bound.the-variants.{Never}
 use Rattle.clock.specs.Cycle.{cycleAt, stampAt}
 use Rattle.model.specs.declared.State.the-variants.{Ended, Overrun, Ready, Waiting}
 use Rattle.model.specs.declared.Thread.{Thread}
 use Rattle.model.specs.Record.{nothing, awaits}
 use Rattle.plain.specs.History.{heard}
 use Rattle.early.specs.declared.Notification.{Notification}
-use Rattle.early.specs.Log.{logOf, siteOf, isSamePair, withPair, withPairs, countedPlaces, isHeard, leastHeard, isDropped, dropBefore}
+use Rattle.early.specs.Log.{logOf, isSamePair, withPair, withPairs, countedPlaces, isHeard, leastHeard, isDropped, dropBefore}
 use Rattle.early.specs.Earliest.{afterHeard, sourceOf, soonestNotify, linkTo, earliestOf}
 use Rattle.early.specs.Forecast.{forecastOf}
 use Rattle.early.specs.Hazard.{isSooner, hazard}

@@ -1,4 +1,13 @@
 pub mod Computed
+pub mod PigeonLaws
+pub mod LogLaws
+pub mod OnceLaws
+pub mod RoomLaws
+pub mod RelaxLaws
+pub mod LinkLaws
+pub mod EarliestLaws
+pub mod ForecastLaws
+pub mod HazardLaws
 pub mod EdgeModels
 pub mod Edges
 pub mod RequestEdges

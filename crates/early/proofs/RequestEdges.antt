@@ -2,8 +2,8 @@
 use Prim.Native.Nat.{ℕ, _+_, _*_}
 use mathlib.Core.Path.{_≡_, refl}
 use mathlib.Core.Bool.{true, false}
-use mathlib.Core.List.{List, [], _∷_, _++_}
-use lib.ListN.{length, getD, replicate}
+use mathlib.Core.List.{List, [], _∷_}
+use lib.ListN.{getD, replicate}
 use Rattle.clock.specs.Cycle.{cycleAt}
 use Rattle.model.specs.declared.Model.{Model}
 use Rattle.model.specs.declared.Thread.{Thread}
@@ -15,7 +15,7 @@ use Rattle.early.specs.declared.Notification.{Notification}
 use Rattle.early.specs.declared.Site.{Site}
 use Rattle.early.specs.declared.Answer.{Answer}
 use Rattle.early.specs.declared.Answer.the-variants.{Granted, Refused}
-use Rattle.early.specs.Log.{logOf, siteOf}
+use Rattle.early.specs.Log.{logOf}
 use Rattle.early.specs.Fit.{isFitCycle, isFitWait, isFitThread, isFitPair, isFitWord, isUnfitThreads, isUnfitLog, isUnfitWords, isUnfit}
 use Rattle.early.specs.Grant.{logAfter, closedThreads, threadsAfter, siteAfter, itemsAfter}
 use Rattle.early.specs.Answer.{numberOf, valuesOf}

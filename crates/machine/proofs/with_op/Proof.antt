@@ -1,0 +1,28 @@
+-- `machine::with_op` meets its contract: one event more, or none.
+use mathlib.Core.Path.{refl}
+use borrow.Author.Needs.{needs}
+use Rattle.machine.proofs.VariantLaws.{withOp-other}
+use Rattle.machine.proofs.with_op.Statement.{statement}
+use Rattle.machine.proofs.with_op.Tie as tie
+
+enum-known-op : tie.Need-enum-known-op
+enum-known-op c = search needs
+
+returns : tie.Need-returns
+returns c = withOp-other _ (c .before .args .op) (c .match .keys2)
+
+wide-requires : tie.Need-wide-requires
+wide-requires c κs = search needs
+
+array-write-at : tie.Need-array-write-at
+array-write-at c = search needs
+
+add-t9 : tie.Need-add-t9
+add-t9 c = search needs
+
+returns-2 : tie.Need-returns-2
+returns-2 c = rw (c .before .before .before .op .given .1, c .before .wide .ensures) refl
+
+pub with-op-spec : {M : Type 1} → statement M
+with-op-spec =
+    tie.close (tie.spec enum-known-op returns wide-requires array-write-at add-t9 returns-2)

@@ -1,0 +1,27 @@
+-- `machine::with_value` meets its contract: past the 64 places nothing is set.
+use mathlib.Core.Path.{sym}
+use native.Mathlib.Omega.{arith}
+use lib.Seq.{set-out}
+use borrow.Author.Needs.{needs}
+use Rattle.machine.proofs.LengthLaws.{variables-length}
+use Rattle.machine.proofs.with_value.Statement.{statement}
+use Rattle.machine.proofs.with_value.Tie as tie
+
+wide-requires : tie.Need-wide-requires
+wide-requires c κs = search needs
+
+mul-w : tie.Need-mul-w
+mul-w c = search needs
+
+element-write-w : tie.Need-element-write-w
+element-write-w c = search needs
+
+returns : tie.Need-returns
+returns c = rw (c .before .wide .ensures)
+
+returns-2 : tie.Need-returns-2
+returns-2 c = sym (set-out (c .before .before .args .v .at) _ _
+    (omega (arith, variables-length (c .before .before .args .v) _ (c .before .before .good .0))))
+
+pub with-value-spec : {M : Type 1} → statement M
+with-value-spec = tie.close (tie.spec wide-requires mul-w element-write-w returns returns-2)
