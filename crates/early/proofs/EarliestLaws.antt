@@ -30,28 +30,29 @@ use Rattle.early.specs.Log.{pairOf, leastHeard}
 use Rattle.early.specs.Earliest.{sourceOf, soonestNotify, linkTo, Chain, source, link, IsEarliest, sources, relaxed, withLinks, earliestOf}
 use Rattle.early.proofs.LogLaws.{In, leastHeard-≼, leastHeard-at}
 use Rattle.early.proofs.RelaxLaws.{relaxed-source, relaxed-link, relaxed-attained}
-use Rattle.early.proofs.LinkLaws.{oneDelta-from, sourceOf-ready, sourceOf-waiting, sourceOf-idle, soonestNotify-≼, linkTo-waiting, linkTo-other, linkTo-mono, linkTo-from, linkTo-later}
+use Rattle.early.proofs.LinkLaws.{oneDelta-from, sourceOf-ready, sourceOf-waiting, sourceOf-idle, soonestNotify-≼, linkTo-waiting, linkTo-other, linkTo-inflate, linkTo-mono, linkTo-from, linkTo-later}
 
 abbrev pub earliestAt : Model → List ℕ → List Notification → List Thread → ℕ → Bound
 earliestAt m ws l ts k = getD (earliestOf m ws l ts) k Never
 
+-- its bound after so many rounds
+abbrev pub linkedAt : Model → List ℕ → List Notification → List Thread → ℕ → ℕ → Bound
+linkedAt m ws l ts i k = getD (withLinks m ws l ts i) k Never
+
 module _ (m : Model) (ws : List ℕ) (l : List Notification) (ts : List Thread) where
   -- the form that computes it: the bounds after each round
 
-  after : ℕ → ℕ → Bound
-  after i k = getD (withLinks m ws l ts i) k Never
+  pub withLinks-none : (k : ℕ) → k < m .t → linkedAt m ws l ts 0 k ≡ sourceOf l (threadAt ts k .state)
+  unfolding withLinks sources
+  withLinks-none k h = tabulate-at (m .t) 0 k (λ k. sourceOf l (threadAt ts k .state)) Never h ∙ ap (λ (i : ℕ). sourceOf l (threadAt ts i .state)) (zero-add k)
 
-  after-start : (k : ℕ) → k < m .t → after 0 k ≡ sourceOf l (threadAt ts k .state)
-  unfolding after withLinks sources
-  after-start k h = tabulate-at (m .t) 0 k (λ k. sourceOf l (threadAt ts k .state)) Never h ∙ ap (λ (i : ℕ). sourceOf l (threadAt ts i .state)) (zero-add k)
-
-  after-round : (i k : ℕ) → k < m .t → after (suc i) k ≡ least (after i k) (leastBelow (m .t) (λ j. linkTo m ws ts j k (after i j)))
-  unfolding after withLinks relaxed
-  after-round i k h =
+  pub withLinks-more : (i k : ℕ) → k < m .t → linkedAt m ws l ts (suc i) k ≡ least (linkedAt m ws l ts i k) (leastBelow (m .t) (λ j. linkTo m ws ts j k (linkedAt m ws l ts i j)))
+  unfolding withLinks relaxed
+  withLinks-more i k h =
       tabulate-at (m .t) 0 k lowered Never h ∙ ap lowered (zero-add k)
     where
       lowered : ℕ → Bound
-      lowered k = least (after i k) (leastBelow (m .t) (λ j. linkTo m ws ts j k (after i j)))
+      lowered k = least (linkedAt m ws l ts i k) (leastBelow (m .t) (λ j. linkTo m ws ts j k (linkedAt m ws l ts i j)))
 
   pub chain-below : {k : ℕ} {x : Bound} → Chain m ws l ts k x → k < m .t
   chain-below (source h) = h
@@ -59,20 +60,23 @@ module _ (m : Model) (ws : List ℕ) (l : List Notification) (ts : List Thread) 
 
   -- "The least is over chains": T rounds reach it
   pub earliestOf-is : (k : ℕ) → k < m .t → IsEarliest m ws l ts k (earliestAt m ws l ts k)
-  unfolding earliestOf after
+  unfolding earliestOf
   earliestOf-is k h = record { below = below; attained = attained }
     where
+      after : ℕ → ℕ → Bound
+      after i k = linkedAt m ws l ts i k
+
       first : ℕ → Bound
       first k = sourceOf l (threadAt ts k .state)
 
       below : {k : ℕ} {x : Bound} → Chain m ws l ts k x → after (m .t) k ≼ x
-      below (source {k = k} p) = relaxed-source (m .t) first (linkTo m ws ts) after after-start after-round (linkTo-later m ws ts) k p
+      below (source {k = k} p) = relaxed-source (m .t) first (linkTo m ws ts) after withLinks-none withLinks-more (linkTo-later m ws ts) k p
       below (link {j = j} {k = k} {x = x} p c) =
           ≼-trans
           (after (m .t) k)
           (linkTo m ws ts j k (after (m .t) j))
           (linkTo m ws ts j k x)
-          (relaxed-link (m .t) first (linkTo m ws ts) after after-start after-round (linkTo-later m ws ts) j k (chain-below c) p)
+          (relaxed-link (m .t) first (linkTo m ws ts) after withLinks-none withLinks-more (linkTo-later m ws ts) j k (chain-below c) p)
           (linkTo-mono m ws ts j k (after (m .t) j) x (below c))
 
       attained : (after (m .t) k ≡ Never → ⊥) → Chain m ws l ts k (after (m .t) k)
@@ -82,8 +86,8 @@ module _ (m : Model) (ws : List ℕ) (l : List Notification) (ts : List Thread) 
           first
           (linkTo m ws ts)
           after
-          after-start
-          after-round
+          withLinks-none
+          withLinks-more
           (linkTo-later m ws ts)
           (Chain m ws l ts)
           (λ k p. source p)
@@ -91,6 +95,14 @@ module _ (m : Model) (ws : List ℕ) (l : List Notification) (ts : List Thread) 
           (m .t)
           k
           h
+
+  -- only one bound is the least over chains
+  pub isEarliest-same : (k : ℕ) (a b : Bound) → IsEarliest m ws l ts k a → IsEarliest m ws l ts k b → a ≡ b
+  isEarliest-same k a b p q = ≼-antisym a b (one a b p q) (one b a q p)
+    where
+      one : (a b : Bound) → IsEarliest m ws l ts k a → IsEarliest m ws l ts k b → a ≼ b
+      one a Never p q = tt
+      one a (At c) p q = p .below (q .attained (λ e. let z : _≡_ {A = ℕ} 0 1 = cc in omega arith))
 
   -- two ways to use it: it is not after any chain, and it is the greatest such bound
 
@@ -110,6 +122,14 @@ module _ (m : Model) (ws : List ℕ) (l : List Notification) (ts : List Thread) 
       go : (x : Bound) → earliestAt m ws l ts k ≡ x → y ≼ x
       go Never e = tt
       go (At b) e = all (At b) (earliest-chain k b h e)
+
+  -- no sooner than what a link makes of another's
+  pub earliest-relaxed : (j k : ℕ) → j < m .t → k < m .t → earliestAt m ws l ts k ≼ linkTo m ws ts j k (earliestAt m ws l ts j)
+  earliest-relaxed j k p h = go (earliestAt m ws l ts j) refl
+    where
+      go : (x : Bound) → earliestAt m ws l ts j ≡ x → earliestAt m ws l ts k ≼ linkTo m ws ts j k x
+      go Never e = ≼-trans (earliestAt m ws l ts k) Never (linkTo m ws ts j k Never) tt (linkTo-inflate m ws ts j k Never)
+      go (At b) e = earliest-≼ (link h (earliest-chain j b p e))
 
   -- by the thread's state
 

@@ -8,6 +8,16 @@ pub mod LinkLaws
 pub mod EarliestLaws
 pub mod ForecastLaws
 pub mod HazardLaws
+pub mod LookLaws
+pub mod HearLaws
+pub mod KeptLaws
+pub mod RestLaws
+pub mod SettleLaws
+pub mod AnyOrderLaws
+pub mod FitLaws
+pub mod RangeLaws
+pub mod GrantLaws
+pub mod RequestLaws
 pub mod EdgeModels
 pub mod Edges
 pub mod RequestEdges

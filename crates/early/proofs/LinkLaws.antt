@@ -151,7 +151,7 @@ module _ (m : Model) (ws : List ℕ) (ts : List Thread) (j k : ℕ) where
   unfolding linkTo afterNotify
   linkTo-other x p = rw p refl
 
-  linkTo-case : (Q : (Bound → Bound) → Type 0) → Q (λ x. Never) → ((e : ℕ) → Q (λ x. soonestNotify m ws ts j x e ⊕ oneDelta)) → Q (linkTo m ws ts j k)
+  pub linkTo-case : (Q : (Bound → Bound) → Type 0) → Q (λ x. Never) → ((e : ℕ) → Q (λ x. soonestNotify m ws ts j x e ⊕ oneDelta)) → Q (linkTo m ws ts j k)
   unfolding linkTo afterNotify
   linkTo-case Q none some = go (awaitedBy (threadAt ts k .state))
     where

@@ -1,0 +1,166 @@
+-- One look at a thread keeps a cut: whoever hears now moves on as the plain run moves it at its next hearing, past the
+-- close of that cycle, and nobody else changes; the same places are done.
+-- Assumes nothing.
+use Prim.Native.Nat.{ℕ, suc, _≤_, _<_}
+use mathlib.Core.Path.{_≡_, refl, ap, sym, _∙_, subst₂, fun-ext}
+use mathlib.Core.Logic.{_⊎_, inl, inr}
+use mathlib.Core.Bool.{Bool}
+use mathlib.Core.List.{List, [], _∷_, _++_, List·Memᴰ, append-nil}
+use native.Mathlib.Omega.{arith}
+use native.Mathlib.Decide.{ℕ-discrete}
+use lib.ListN.{set, length-set}
+use Rattle.clock.specs.declared.Cycle.{Cycle}
+use Rattle.clock.specs.declared.Wait.the-variants as wait
+use Rattle.clock.specs.declared.Bound.{Bound}
+use Rattle.clock.specs.declared.Bound.the-variants.{At}
+use Rattle.clock.specs.Order.{Before, _≼_}
+use Rattle.clock.specs.Wait.{waitEnds}
+use Rattle.clock.proofs.OrderLaws.{Before→⊑, ≼-trans}
+use Rattle.clock.proofs.WaitLaws.{waitEnds-later}
+use Rattle.model.specs.declared.Model.{Model}
+use Rattle.model.specs.declared.State.the-variants.{Ready, Waiting}
+use Rattle.model.specs.declared.Thread.{Thread}
+use Rattle.model.specs.Record.{threadAt, awaits, stateAfter}
+use Rattle.plain.specs.History.{Item, heard, historyAt}
+use Rattle.early.specs.declared.Notification.{Notification}
+use Rattle.early.specs.Log.{pairOf}
+use Rattle.early.specs.Deliver.{heardNow, lookedAt, lookItems}
+use Rattle.early.proofs.LogLaws.{leastHeard-at}
+use Rattle.early.proofs.LookLaws.{Looked, unheard, hears, looked, heardNow-at, heardAt-waits, lookedAt-none, lookedAt-heard, lookItems-none, lookItems-other, lookItems-heard}
+use Rattle.order.proofs.Places.{nowAt, recordAt, Says}
+use Rattle.order.proofs.PlainFacts.{PlainFacts}
+use Rattle.order.proofs.KitLaws.{KitLaws}
+use Rattle.order.proofs.Invariant.{Done, Gone, IsCut, Bounded, moved, adding}
+use Rattle.order.proofs.CutLaws.{moved-same, moved-other, adding-same, adding-other, done-kept, done-back}
+use Rattle.order.proofs.PlaceLaws.{stateAfter-Ready, stateAfter-Waiting, threadAt-set-same, threadAt-set-other}
+use Rattle.order.proofs.GoodLaws.{good-moved}
+use Rattle.order.proofs.Hear.{HearingAt, next-heard}
+
+-- a cut of the same records and histories
+pub cut-same : {m : Model} {x : List ℕ} {l : List Notification} {ts ts′ : List Thread} {h h′ : ℕ → List Item} {cut : ℕ → ℕ} {low : Bound} → IsCut m x l ts h cut low → ts ≡ ts′ → ((j : ℕ) → h j ≡ h′ j) → IsCut m x l ts′ h′ cut low
+cut-same {m} {x} {l} {ts} {ts′} {h} {h′} {cut} {low} ic e f = subst₂ (λ (a : List Thread) (b : ℕ → List Item). IsCut m x l a b cut low) e (fun-ext f) ic
+
+module _ (m : Model) (pf : PlainFacts m) (marks : List (List Bool)) (ws : List ℕ) (kl : KitLaws m marks ws) where
+  module _
+      {x : List ℕ} {l : List Notification} {ts : List Thread} {h : ℕ → List Item} {cut : ℕ → ℕ} {low : Bound}
+      (ic : IsCut m x l ts h cut low)
+      (bd : Bounded m ws ts cut (kl .forecasts l ts .earliest))
+    where
+      -- a look at a thread that hears: its record, its history, and its cut past the close at which the plain run wakes it
+      module _ (k e : ℕ) (since c : Cycle) (below : k < m .t) (w : threadAt ts k .state ≡ Waiting e since) (heard-now : low ≼ At c) (ha : HearingAt m (cut k) k e since c) where
+        -- the record that it gets
+        abbrev woken : Thread
+        woken = record { segment = threadAt ts k .segment; state = stateAfter (waitEnds wait.Event c) }
+
+        abbrev later : ℕ → ℕ
+        later = moved cut k (suc (ha .place))
+
+        on : cut k ≤ suc (ha .place)
+        on = omega (arith, ha .from)
+
+        -- the same places are done
+        forth : (q a : ℕ) → Done m cut q a → Done m later q a
+        forth = done-kept m cut k (suc (ha .place)) on
+
+        back : (q a : ℕ) → Done m later q a → Done m cut q a
+        back = done-back m cut k (suc (ha .place)) on (ha .quiet)
+
+        at-k : threadAt (set ts k woken) k ≡ woken
+        at-k = threadAt-set-same ts k woken k refl (omega (arith, ic .size))
+
+        at-other : (j : ℕ) → (j ≡ k → ⊥) → threadAt (set ts k woken) j ≡ threadAt ts j
+        at-other j other = threadAt-set-other ts k woken j other
+
+        records-after : (j : ℕ) → j < m .t → threadAt (set ts k woken) j ≡ recordAt m (later j) j
+        records-after j b = go (ℕ-discrete j k)
+          where
+            woken-is : woken ≡ recordAt m (suc (ha .place)) k
+            woken-is =
+                (λ i. record { segment = ic .records k below i .segment; state = stateAfter (waitEnds wait.Event c) }) ∙ sym (ha .after)
+
+            go : Dec (j ≡ k) → threadAt (set ts k woken) j ≡ recordAt m (later j) j
+            go (yes e) = rw (moved-same cut k (suc (ha .place)) j e, e) (at-k ∙ woken-is)
+            go (no n) = rw (moved-other cut k (suc (ha .place)) j n) (at-other j n ∙ ic .records j b)
+
+        history-after : (j : ℕ) → j < m .t → adding h k (heard e c ∷ []) j ≡ historyAt m j (later j)
+        history-after j b = go (ℕ-discrete j k)
+          where
+            go : Dec (j ≡ k) → adding h k (heard e c ∷ []) j ≡ historyAt m j (later j)
+            go (yes e′) =
+                rw
+                (adding-same h k (heard e c ∷ []) j e′, moved-same cut k (suc (ha .place)) j e′, e′)
+                (ap (λ (a : List Item). a ++ (heard e c ∷ [])) (ic .history k below) ∙ sym (ha .history-after))
+            go (no n) = rw (adding-other h k (heard e c ∷ []) j n, moved-other cut k (suc (ha .place)) j n) (ic .history j b)
+
+        low-ready-after : (j : ℕ) (d : Cycle) → j < m .t → threadAt (set ts k woken) j .state ≡ Ready d → low ≼ At d
+        low-ready-after j d b r = go (ℕ-discrete j k)
+          where
+            go : Dec (j ≡ k) → low ≼ At d
+            go (yes e) =
+                let f : stateAfter (waitEnds wait.Event c) ≡ Ready d = ap (λ (t : Thread). t .state) (sym at-k) ∙ (rw e at r) in
+                ≼-trans low (At c) (At d) heard-now (Before→⊑ (waitEnds-later wait.Event c (stateAfter-Ready (waitEnds wait.Event c) d f)))
+            go (no n) = ic .low-ready j d b (ap (λ (t : Thread). t .state) (sym (at-other j n)) ∙ r)
+
+        gone-after : (f : ℕ) (d : Cycle) → Gone m ts low f d → Gone m (set ts k woken) low f d
+        gone-after f d g = record { dropped = g .dropped; unheard = λ j s b r. go j s b r (ℕ-discrete j k) }
+          where
+            go : (j : ℕ) (s : Cycle) → j < m .t → threadAt (set ts k woken) j .state ≡ Waiting f s → Dec (j ≡ k) → Before d s
+            go j s b r (yes e) =
+                absurd (stateAfter-Waiting (waitEnds wait.Event c) f s (ap (λ (t : Thread). t .state) (sym at-k) ∙ (rw e at r)))
+            go j s b r (no n) = g .unheard j s b (ap (λ (t : Thread). t .state) (sym (at-other j n)) ∙ r)
+
+        pub heard-cut : IsCut m x l (set ts k woken) (adding h k (heard e c ∷ [])) later low
+        heard-cut =
+            record {
+              size = rw length-set (ic .size);
+              records = records-after;
+              history = history-after;
+              good = good-moved m pf marks ws kl cut x k (suc (ha .place)) on (ha .quiet) (ic .good);
+              low-ready = low-ready-after;
+              low-logged = ic .low-logged;
+              logged = λ q j f d s. logged-after f (nowAt m q) (ic .logged q j f (back q j d) s);
+              notified = λ y i. notified-after y (ic .notified y i);
+              once = ic .once;
+            }
+          where
+            logged-after : (f : ℕ) (d : Cycle) → List·Memᴰ (pairOf f d) l ⊎ Gone m ts low f d → List·Memᴰ (pairOf f d) l ⊎ Gone m (set ts k woken) low f d
+            logged-after f d (inl i) = inl i
+            logged-after f d (inr g) = inr (gone-after f d g)
+
+            notified-after : (y : Notification) → (q : ℕ) × (j : ℕ) × Done m cut q j × Says m q j (y .event) × (nowAt m q ≡ y .cycle) → (q : ℕ) × (j : ℕ) × Done m later q j × Says m q j (y .event) × (nowAt m q ≡ y .cycle)
+            notified-after y (q, j, d, s, f) = (q, j, forth q j d, s, f)
+            -- One look keeps a cut. A thread that hears moves on as the plain run moves it; any other stays as it is.
+
+      pub looked-cut : (k : ℕ) → k < m .t → (cut′ : ℕ → ℕ) × IsCut m x l (lookedAt m ws l ts k) (λ j. h j ++ lookItems m ws l ts k j) cut′ low
+      looked-cut k below = go (looked m ws l ts k)
+        where
+          go : Looked m ws l ts k → (cut′ : ℕ → ℕ) × IsCut m x l (lookedAt m ws l ts k) (λ j. h j ++ lookItems m ws l ts k j) cut′ low
+          go (unheard none) = (
+            cut,
+            cut-same
+                ic
+                (sym (lookedAt-none m ws l ts k none))
+                (λ j. sym (ap (λ (a : List Item). h j ++ a) (lookItems-none m ws l ts k j none) ∙ append-nil (h j))),
+          )
+          go (hears c at-c) = moves (heardAt-waits m ws l ts k c at-c)
+            where
+              moves : (e : ℕ) × (since : Cycle) × (threadAt ts k .state ≡ Waiting e since) × (heardNow m ws l ts (awaits e since) ≡ At c) → (cut′ : ℕ → ℕ) × IsCut m x l (lookedAt m ws l ts k) (λ j. h j ++ lookItems m ws l ts k j) cut′ low
+              moves (e, since, w, now) = (
+                moved cut k (suc (ha .place)),
+                cut-same
+                    (heard-cut k e since c below w (ic .low-logged (pairOf e c) logged) ha)
+                    (sym (lookedAt-heard m ws l ts k c at-c))
+                    (λ j. added j (ℕ-discrete j k)),
+              )
+                where
+                  ha : HearingAt m (cut k) k e since c
+                  ha = next-heard m pf marks ws kl ic bd k e since c below w now
+
+                  logged : List·Memᴰ (pairOf e c) l
+                  logged = leastHeard-at l e since c (heardNow-at m ws l ts e since c now .0) .0
+
+                  added : (j : ℕ) → Dec (j ≡ k) → adding h k (heard e c ∷ []) j ≡ h j ++ lookItems m ws l ts k j
+                  added j (yes same) =
+                      adding-same h k (heard e c ∷ []) j same ∙ ap (λ (a : List Item). h j ++ a) (sym (rw same (lookItems-heard m ws l ts k e since c w at-c)))
+                  added j (no other) =
+                      adding-other h k (heard e c ∷ []) j other ∙ sym (ap (λ (a : List Item). h j ++ a) (lookItems-other m ws l ts k j other) ∙ append-nil (h j))

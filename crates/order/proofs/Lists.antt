@@ -1,0 +1,209 @@
+-- From one state to the next, and over a whole list: a fresh state is a cut, a refused request changes nothing, and after a
+-- granted one the run, the deliveries and the drop leave a cut at its floor, with room in the log.
+-- Assumes nothing.
+use Prim.Native.Nat.{ℕ, suc, _-_, _≤_, _<_}
+use mathlib.Core.Path.{_≡_, refl, sym, subst, subst₂, fun-ext}
+use mathlib.Core.Logic.{_⊎_, inl, inr}
+use mathlib.Core.Bool.{Bool, false, cond, not, _&&_}
+use mathlib.Core.List.{List, [], _∷_, _++_, append-assoc, append-nil, List·Memᴰ·not-nil}
+use native.Mathlib.Omega.{arith}
+use lib.Dec.{T, ltb, eqb, T-not, nltb→le}
+use lib.ListN.{length, replicate, length-append}
+use Rattle.base.specs.Index.{tabulate}
+use Rattle.base.proofs.BoolLaws.{true→T, false→T, not-or→both, not-and→either}
+use Rattle.base.proofs.IndexLaws.{tabulate-length}
+use Rattle.clock.specs.declared.Cycle.{Cycle}
+use Rattle.clock.specs.declared.Bound.{Bound}
+use Rattle.clock.specs.declared.Bound.the-variants.{At}
+use Rattle.clock.specs.Advance.{isBoundBefore}
+use Rattle.model.specs.declared.Model.{Model}
+use Rattle.model.specs.declared.State.the-variants.{Ready}
+use Rattle.model.specs.declared.Thread.{Thread}
+use Rattle.model.specs.Limits.{isBeforeHorizon}
+use Rattle.model.specs.Record.{threadAt, noThread}
+use Rattle.model.specs.Footprint.{listedIn, notifiesIn}
+use Rattle.model.specs.Values.{startAt}
+use Rattle.plain.specs.Start.{started, freshThreads, freshVariables, startOf}
+use Rattle.plain.specs.Step.{placeAt}
+use Rattle.plain.specs.Wake.{floorOf}
+use Rattle.plain.specs.History.{Item, ran, historyAt}
+use Rattle.early.specs.declared.Notification.{Notification}
+use Rattle.early.specs.declared.Site.{Site}
+use Rattle.early.specs.Log.{places, logOf, countedPlaces, dropBefore}
+use Rattle.early.specs.Hazard.{hazard}
+use Rattle.early.specs.Deliver.{settledItems}
+use Rattle.early.specs.Grant.{effectAt, logAfter, closedThreads, threadsAfter, siteAfter, itemsAfter}
+use Rattle.early.specs.Request.{Requested, earlyPlaces, isFull, grantedTo, requestOf, freshSite, requestsOf}
+use Rattle.early.proofs.OnceLaws.{dropBefore-length}
+use Rattle.early.proofs.RestLaws.{settled-rest}
+use Rattle.early.proofs.RequestLaws.{Asked, refused, granted, requestOf-asked, requestsOf-carries}
+use Rattle.order.proofs.PlainFacts.{PlainFacts, NextRun}
+use Rattle.order.proofs.KitLaws.{KitLaws}
+use Rattle.order.proofs.Invariant.{IsCut, none, moved, adding}
+use Rattle.order.proofs.GoodLaws.{good-fresh}
+use Rattle.order.proofs.Grant.{next-place}
+use Rattle.order.proofs.GrantedCut.{granted-cut}
+use Rattle.order.proofs.HeardCut.{cut-same}
+use Rattle.order.proofs.Settle.{settled-cut}
+use Rattle.order.proofs.Floor.{readyCycle-Ready, floor-below}
+use Rattle.order.proofs.Drop.{rest-quiet, floor-rises, dropped-cut}
+use Rattle.order.proofs.HeldOnce.{withPairs-shorter}
+use Rattle.order.proofs.Capacity.{Roomy, roomy-short, roomy-granted}
+use Rattle.order.proofs.Reached.{Reached, reached-log, reached-variables}
+
+pub reached-same : {m : Model} {site : Site} {ts : List Thread} {h h′ : ℕ → List Item} → ((j : ℕ) → h j ≡ h′ j) → Reached m site ts h → Reached m site ts h′
+reached-same {m} {site} {ts} e r = subst (λ (a : ℕ → List Item). Reached m site ts a) (fun-ext e) r
+
+-- a log that is not full has places left for what is notified
+pub room-left : (m : Model) (site : Site) (ts : List Thread) (k : ℕ) (c : Cycle) → isFull m site ts k c ≡ false
+    → (countedPlaces m site k (threadAt ts k .segment) c ≤ places) × (T (isBoundBefore (floorOf m ts) (At c)) → countedPlaces m site k (threadAt ts k .segment) c ≤ earlyPlaces)
+unfolding isFull
+room-left m site ts k c e =
+    let (a, b) = not-or→both (later-than && ltb earlyPlaces n) (ltb places n) (false→T (isFull m site ts k c) e) in
+    (nltb→le places n b, λ t. go t (not-and→either later-than (ltb earlyPlaces n) a))
+  where
+    n : ℕ
+    n = countedPlaces m site k (threadAt ts k .segment) c
+
+    later-than : Bool
+    later-than = isBoundBefore (floorOf m ts) (At c)
+
+    go : T later-than → T (not later-than) ⊎ T (not (ltb earlyPlaces n)) → n ≤ earlyPlaces
+    go t (inl s) = absurd (T-not later-than s t)
+    go t (inr s) = nltb→le earlyPlaces n s
+
+module _ (m : Model) (pf : PlainFacts m) (marks : List (List Bool)) (ws : List ℕ) (kl : KitLaws m marks ws) where
+  fresh-size : m .t ≤ length (freshThreads m)
+  unfolding freshThreads
+  fresh-size =
+      let a = length-append (tabulate (m .t) 0 (λ k. started (startAt m k))) (replicate (32 - m .t) noThread) in
+      let b = tabulate-length (m .t) 0 (λ k. started (startAt m k)) in
+      omega arith
+
+  -- "The fresh state, thread records included, is the plain run's start with an empty log"
+  pub fresh-reached : Reached m freshSite (freshThreads m) (λ j. [])
+  unfolding freshSite placeAt startOf historyAt
+  fresh-reached =
+      record {
+        variables = freshVariables;
+        log = [];
+        site-is = refl;
+        cut = λ k. 0;
+        is-cut =
+            record {
+              size = fresh-size;
+              records = λ k below. refl;
+              history = λ k below. refl;
+              good = good-fresh m pf marks ws kl;
+              low-ready = λ k c below r. floor-below m (freshThreads m) k c below r;
+              low-logged = λ y i. absurd (List·Memᴰ·not-nil i);
+              logged = λ q k e d s. absurd (omega (arith, d .passed));
+              notified = λ y i. absurd (List·Memᴰ·not-nil i);
+              once = none;
+            };
+        roomy = roomy-short (floorOf m (freshThreads m)) [] (omega arith);
+        short = omega arith;
+      }
+
+  -- After a grant: the run leaves a cut, the deliveries keep it and come to rest, and the drop keeps it at its floor.
+  module _ (site : Site) (ts : List Thread) (h : ℕ → List Item) (cut : ℕ → ℕ) (ic : IsCut m (site .variables .at) (logOf site) ts h cut (floorOf m ts)) (room : Roomy (floorOf m ts) (logOf site))
+      (k : ℕ) (c : Cycle) (below : k < m .t) (ready : threadAt ts k .state ≡ Ready c) (early : T (isBeforeHorizon m c)) (free : hazard m marks ws (logOf site) ts k c ≡ false) (places-left : isFull m site ts k c ≡ false) where
+    -- what it has logged takes no more places than were counted
+    logged-places : length (logAfter m site ts k c) ≤ countedPlaces m site k (threadAt ts k .segment) c
+    unfolding logAfter effectAt countedPlaces notifiesIn
+    logged-places =
+        withPairs-shorter
+        (logOf site)
+        c
+        (effectAt m site ts k c .notified)
+        (listedIn m k (threadAt ts k .segment))
+        (ic .once)
+        (λ e t. kl .distances .listed k (threadAt ts k .segment) c (site .variables .at) e t)
+
+    ran-cut : (cut′ : ℕ → ℕ) × IsCut m (effectAt m site ts k c .variables) (logAfter m site ts k c) (closedThreads m site ts k c) (adding h k (ran (threadAt ts k .segment) c ∷ [])) cut′ (floorOf m ts)
+    unfolding effectAt logAfter closedThreads
+    ran-cut = (moved cut k (suc (run .place)), granted-cut m pf marks ws kl ic k c below ready run free)
+      where
+        run : NextRun m (cut k) k c
+        run = next-place m pf marks ws kl ic k c below ready early
+
+    delivered-cut : (cut′ : ℕ → ℕ) × IsCut m (effectAt m site ts k c .variables) (logAfter m site ts k c) (threadsAfter m ws site ts k c) (λ j. h j ++ itemsAfter m ws site ts k c j) cut′ (floorOf m ts)
+    unfolding threadsAfter itemsAfter adding
+    delivered-cut =
+        let (cut′, ic′) = settled-cut m pf marks ws kl (effectAt m site ts k c .variables) (logAfter m site ts k c) (adding h k (ran (threadAt ts k .segment) c ∷ [])) (floorOf m ts) (closedThreads m site ts k c) ran-cut in
+        (cut′, cut-same ic′ refl (λ j. append-assoc (h j) (cond (eqb j k) (ran (threadAt ts k .segment) c ∷ []) []) (settledItems m ws (logAfter m site ts k c) (closedThreads m site ts k c) j)))
+
+    pub granted-reached : Reached m (siteAfter m ws site ts k c) (threadsAfter m ws site ts k c) (λ j. h j ++ itemsAfter m ws site ts k c j)
+    unfolding siteAfter threadsAfter logAfter
+    granted-reached =
+        record {
+          variables = effectAt m site ts k c .variables;
+          log = dropBefore floor new;
+          site-is = refl;
+          cut = delivered-cut .0;
+          is-cut = dropped-cut after (rest-quiet m marks ws kl new (threadsAfter m ws site ts k c) (settled-rest m ws new (closedThreads m site ts k c)));
+          roomy =
+              roomy-granted
+              (floorOf m ts)
+              floor
+              (logOf site)
+              c
+              (effectAt m site ts k c .notified)
+              (floor-below m ts k c below ready)
+              (floor-rises after)
+              (λ t. let a = left .1 t in let b = logged-places in omega arith)
+              room;
+          short = let a = dropBefore-length floor new in let b = logged-places in let d = left .0 in omega arith;
+        }
+      where
+        new : List Notification
+        new = logAfter m site ts k c
+
+        floor : Bound
+        floor = floorOf m (threadsAfter m ws site ts k c)
+
+        after : IsCut m (effectAt m site ts k c .variables) new (threadsAfter m ws site ts k c) (λ j. h j ++ itemsAfter m ws site ts k c j) (delivered-cut .0) (floorOf m ts)
+        after = delivered-cut .1
+
+        left : (countedPlaces m site k (threadAt ts k .segment) c ≤ places) × (T (isBoundBefore (floorOf m ts) (At c)) → countedPlaces m site k (threadAt ts k .segment) c ≤ earlyPlaces)
+        left = room-left m site ts k c places-left
+
+  -- a request leads from a reached state to a reached state
+  pub request-reached : (site : Site) (ts : List Thread) (h : ℕ → List Item) → Reached m site ts h → (k : ℕ)
+      → Reached m (requestOf m marks ws site ts k .site) (requestOf m marks ws site ts k .threads) (λ j. h j ++ requestOf m marks ws site ts k .items j)
+  unfolding grantedTo
+  request-reached site ts h r k = go (requestOf m marks ws site ts k) (requestOf-asked m marks ws site ts k)
+    where
+      here : IsCut m (site .variables .at) (logOf site) ts h (r .cut) (floorOf m ts)
+      here =
+          subst₂
+          (λ (x : List ℕ) (l : List Notification). IsCut m x l ts h (r .cut) (floorOf m ts))
+          (sym (reached-variables r))
+          (sym (reached-log r))
+          (r .is-cut)
+
+      room : Roomy (floorOf m ts) (logOf site)
+      room = subst (λ (l : List Notification). Roomy (floorOf m ts) l) (sym (reached-log r)) (r .roomy)
+
+      go : (a : Requested) → Asked m marks ws site ts k a → Reached m (a .site) (a .threads) (λ j. h j ++ a .items j)
+      go a (refused n u) = reached-same (λ j. sym (append-nil (h j))) r
+      go a (granted c g) =
+          granted-reached
+          site
+          ts
+          h
+          (r .cut)
+          here
+          room
+          k
+          c
+          (g .thread)
+          (readyCycle-Ready (threadAt ts k .state) c (g .ready))
+          (true→T (isBeforeHorizon m c) (g .before-horizon))
+          (g .no-hazard)
+          (g .room)
+
+  -- and so does a list of them
+  pub list-reached : (ks : List ℕ) (site : Site) (ts : List Thread) (h : ℕ → List Item) → Reached m site ts h
+      → Reached m (requestsOf m marks ws site ts ks .site) (requestsOf m marks ws site ts ks .threads) (λ j. h j ++ requestsOf m marks ws site ts ks .history j)
+  list-reached ks site ts h r = requestsOf-carries m marks ws (Reached m) (λ s us g k q. request-reached s us g q k) ks site ts h r
