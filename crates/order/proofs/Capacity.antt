@@ -21,8 +21,8 @@ use Rattle.model.specs.Footprint.{has}
 use Rattle.early.specs.declared.Notification.{Notification}
 use Rattle.early.specs.Log.{places, withPairs, dropBefore}
 use Rattle.early.specs.Request.{earlyPlaces}
-use Rattle.early.proofs.OnceLaws.{dropBefore-length}
-use Rattle.early.proofs.RoomLaws.{later, later-≤, later-mono, later-withPairs, later-dropBefore, withPairs-room}
+use Rattle.bounds.proofs.OnceLaws.{dropBefore-length}
+use Rattle.bounds.proofs.RoomLaws.{later, later-≤, later-mono, later-withPairs, later-dropBefore, withPairs-room}
 use Rattle.order.proofs.Invariant.{Once}
 use Rattle.order.proofs.HeldOnce.{once-early}
 

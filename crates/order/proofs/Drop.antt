@@ -28,9 +28,9 @@ use Rattle.early.specs.declared.Notification.{Notification}
 use Rattle.early.specs.Log.{pairOf, leastHeard, dropBefore}
 use Rattle.early.specs.Forecast.{forecastOf}
 use Rattle.early.specs.Deliver.{heardNow}
-use Rattle.early.proofs.LogLaws.{leastHeard-≼, dropBefore-kept, dropBefore-only}
-use Rattle.early.proofs.LookLaws.{heardNow-none}
-use Rattle.early.proofs.RestLaws.{Rest}
+use Rattle.bounds.proofs.LogLaws.{leastHeard-≼, dropBefore-kept, dropBefore-only}
+use Rattle.bounds.proofs.LookLaws.{heardNow-none}
+use Rattle.bounds.proofs.RestLaws.{Rest}
 use Rattle.order.proofs.Places.{nowAt}
 use Rattle.order.proofs.KitLaws.{KitLaws}
 use Rattle.order.proofs.Invariant.{Gone, IsCut}

@@ -28,8 +28,8 @@ use Rattle.early.specs.declared.Notification.{Notification}
 use Rattle.early.specs.Log.{pairOf, leastHeard}
 use Rattle.early.specs.Forecast.{forecastOf}
 use Rattle.early.specs.Deliver.{heardNow}
-use Rattle.early.proofs.LogLaws.{leastHeard-≼, leastHeard-at}
-use Rattle.early.proofs.LookLaws.{heardNow-at}
+use Rattle.bounds.proofs.LogLaws.{leastHeard-≼, leastHeard-at}
+use Rattle.bounds.proofs.LookLaws.{heardNow-at}
 use Rattle.order.proofs.Places.{nowAt, recordAt, Runs, Says, Hears, Happens, idle, runs, hears}
 use Rattle.order.proofs.PlainFacts.{PlainFacts, NextHearing}
 use Rattle.order.proofs.KitLaws.{KitLaws}

@@ -25,8 +25,8 @@ use Rattle.plain.specs.History.{Item, heard, historyAt}
 use Rattle.early.specs.declared.Notification.{Notification}
 use Rattle.early.specs.Log.{pairOf}
 use Rattle.early.specs.Deliver.{heardNow, lookedAt, lookItems}
-use Rattle.early.proofs.LogLaws.{leastHeard-at}
-use Rattle.early.proofs.LookLaws.{Looked, unheard, hears, looked, heardNow-at, heardAt-waits, lookedAt-none, lookedAt-heard, lookItems-none, lookItems-other, lookItems-heard}
+use Rattle.bounds.proofs.LogLaws.{leastHeard-at}
+use Rattle.bounds.proofs.LookLaws.{Looked, unheard, hears, looked, heardNow-at, heardAt-waits, lookedAt-none, lookedAt-heard, lookItems-none, lookItems-other, lookItems-heard}
 use Rattle.order.proofs.Places.{nowAt, recordAt, Says}
 use Rattle.order.proofs.PlainFacts.{PlainFacts}
 use Rattle.order.proofs.KitLaws.{KitLaws}

@@ -13,7 +13,7 @@ use Rattle.clock.specs.declared.Bound.{Bound}
 use Rattle.model.specs.Footprint.{has}
 use Rattle.early.specs.declared.Notification.{Notification}
 use Rattle.early.specs.Log.{pairOf, withPairs, dropBefore}
-use Rattle.early.proofs.OnceLaws as early
+use Rattle.bounds.proofs.OnceLaws as early
 use Rattle.order.proofs.Invariant.{Once, none, more}
 use Rattle.order.proofs.LogFacts.{withPairs-kept, withPairs-new, withPairs-only, withPairs-once}
 

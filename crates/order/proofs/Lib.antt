@@ -25,3 +25,6 @@ pub mod Lists
 pub mod CarriedOn
 pub mod SamePlaces
 pub mod Theorem
+pub mod PlainInstance
+pub mod KitInstance
+pub mod OrderIndependent

@@ -34,9 +34,9 @@ use Rattle.early.specs.Hazard.{hazard}
 use Rattle.early.specs.Deliver.{settledItems}
 use Rattle.early.specs.Grant.{effectAt, logAfter, closedThreads, threadsAfter, siteAfter, itemsAfter}
 use Rattle.early.specs.Request.{Requested, earlyPlaces, isFull, grantedTo, requestOf, freshSite, requestsOf}
-use Rattle.early.proofs.OnceLaws.{dropBefore-length}
-use Rattle.early.proofs.RestLaws.{settled-rest}
-use Rattle.early.proofs.RequestLaws.{Asked, refused, granted, requestOf-asked, requestsOf-carries}
+use Rattle.bounds.proofs.OnceLaws.{dropBefore-length}
+use Rattle.bounds.proofs.RestLaws.{settled-rest}
+use Rattle.bounds.proofs.RequestLaws.{Asked, refused, granted, requestOf-asked, requestsOf-carries}
 use Rattle.order.proofs.PlainFacts.{PlainFacts, NextRun}
 use Rattle.order.proofs.KitLaws.{KitLaws}
 use Rattle.order.proofs.Invariant.{IsCut, none, moved, adding}

@@ -36,8 +36,8 @@ use Rattle.early.specs.declared.Site.{Site}
 use Rattle.early.specs.Log.{places, siteOf, countedPlaces}
 use Rattle.early.specs.Hazard.{isSooner, hazard}
 use Rattle.early.specs.Request.{earlyPlaces, isFull, grantedTo, requestOf}
-use Rattle.early.proofs.LogLaws.{logOf-siteOf}
-use Rattle.early.proofs.RequestLaws.{requestOf-granted}
+use Rattle.bounds.proofs.LogLaws.{logOf-siteOf}
+use Rattle.bounds.proofs.RequestLaws.{requestOf-granted}
 use Rattle.order.proofs.PlainFacts.{PlainFacts}
 use Rattle.order.proofs.KitLaws.{KitLaws}
 use Rattle.order.proofs.Invariant.{IsCut}

@@ -27,8 +27,8 @@ use Rattle.early.specs.Log.{places, logOf, siteOf}
 use Rattle.early.specs.Hazard.{hazard}
 use Rattle.early.specs.Fit.{isFitCycle, isFitThread, isUnfit}
 use Rattle.early.specs.Request.{Requested, isFull, grantedTo, requestAt, requestFit, requestOf}
-use Rattle.early.proofs.LogLaws.{logOf-siteOf, siteOf-variables}
-use Rattle.early.proofs.FitLaws.{FitPair, isFitCycle→, →isUnfitThreads, →isUnfit, siteOf-fit}
+use Rattle.bounds.proofs.LogLaws.{logOf-siteOf, siteOf-variables}
+use Rattle.bounds.proofs.FitLaws.{FitPair, isFitCycle→, →isUnfitThreads, →isUnfit, siteOf-fit}
 use Rattle.order.proofs.Places.{nowAt, recordAt, Says}
 use Rattle.order.proofs.PlainFacts.{PlainFacts}
 use Rattle.order.proofs.KitLaws.{KitLaws}

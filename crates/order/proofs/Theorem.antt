@@ -30,8 +30,8 @@ use Rattle.early.specs.Log.{places, logOf}
 use Rattle.early.specs.Fit.{isUnfit}
 use Rattle.early.specs.Answer.{numberOf}
 use Rattle.early.specs.Request.{Requested, grantedTo, requestOf, freshSite, requestsOf}
-use Rattle.early.proofs.LogLaws.{siteOf-count}
-use Rattle.early.proofs.RequestLaws.{requestOf-refused}
+use Rattle.bounds.proofs.LogLaws.{siteOf-count}
+use Rattle.bounds.proofs.RequestLaws.{requestOf-refused}
 use Rattle.order.specs.Claim.{afterList, requestNext, AgreesAt, Claim, OrderIndependence}
 use Rattle.order.proofs.PlainFacts.{PlainFacts}
 use Rattle.order.proofs.KitLaws.{KitLaws}

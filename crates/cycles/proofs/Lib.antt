@@ -1,0 +1,16 @@
+pub mod RecordLaws
+pub mod WakeLaws
+pub mod StepLaws
+pub mod StartLaws
+pub mod HappenLaws
+pub mod SteadyLaws
+pub mod DoneLaws
+pub mod StampLaws
+pub mod NotifyLaws
+pub mod QuietLaws
+pub mod HearLaws
+pub mod RangeLaws
+pub mod KeepLaws
+pub mod EndLaws
+pub mod RunLaws
+pub mod BudgetLaws

@@ -1,0 +1,184 @@
+-- What the plain run uses of the model's definitions beside the model's own laws: records, effects, the horizon and lists of events.
+-- They are opened here and in no later file.
+--     thread-path, threadAt-at, threadAt-set, threadAt-other, threadAt-past, threadAt-map     one record of a list
+--     readyCycle-Ready, stateAfter-Ready, stateAfter-not-Waiting     which state it is
+--     effectOf-later, effectOf-waits     a thread that has run is ready later, or waits since now
+--     stateAfter-delta, heard-time, heard-delta     what stays in range
+--     horizon→<, <→horizon, horizon-mono     before the horizon
+--     has-append, append-has     an event among two lists
+use Prim.Native.Nat.{ℕ, _<_, _≤_}
+use mathlib.Core.Path.{_≡_, refl, ap, sym, _∙_, subst}
+use mathlib.Core.Logic.{_⊎_, inl, inr}
+use mathlib.Core.Bool.{_||_}
+use mathlib.Core.List.{List, [], _∷_, _++_, map}
+use native.Mathlib.Omega.{arith}
+use lib.Dec.{T, eqb, ltb→lt, lt→ltb}
+use lib.ListN.{length, getD, set, List·getD-map, List·getD-eq-default}
+use lib.Seq.{getD-set-same, getD-set-other}
+use Rattle.base.proofs.BoolLaws.{or→either, either→or}
+use Rattle.clock.specs.declared.Cycle.{Cycle}
+use Rattle.clock.specs.declared.Step.{Step}
+use Rattle.clock.specs.declared.Step.the-variants as step
+use Rattle.clock.specs.declared.Wait.{Wait}
+use Rattle.clock.specs.declared.Wait.the-variants as wait
+use Rattle.clock.specs.declared.Bound.the-variants.{At}
+use Rattle.clock.specs.Order.{Before, _⊑_, sooner, same-time}
+use Rattle.clock.specs.Wait.{lastDelta, waitEnds}
+use Rattle.clock.proofs.WaitLaws.{waitEnds-later, waitEnds-overrun, waitEnds-delta, waitEnds-event-time}
+use Rattle.model.specs.declared.Closer.{Closer}
+use Rattle.model.specs.declared.Closer.the-variants.{End, Time, Event}
+use Rattle.model.specs.declared.Model.{Model}
+use Rattle.model.specs.declared.State.{State}
+use Rattle.model.specs.declared.State.the-variants.{Ended, Overrun, Ready, Waiting}
+use Rattle.model.specs.declared.Thread.{Thread}
+use Rattle.model.specs.Limits.{isBeforeHorizon, isBoundBeforeHorizon}
+use Rattle.model.specs.Record.{noThread, threadAt, readyCycle, cycleOf, stateAfter}
+use Rattle.model.specs.Values.{segmentAt}
+use Rattle.model.specs.Effect.{closedAt, effectIn, effectOf}
+use Rattle.model.specs.Footprint.{has}
+
+pub thread-path : {a b : Thread} → a .segment ≡ b .segment → a .state ≡ b .state → a ≡ b
+thread-path p q = λ i. record { segment = p i; state = q i }
+
+module _ (ts : List Thread) where
+  pub threadAt-at : (k : ℕ) → threadAt ts k ≡ getD ts k noThread
+  unfolding threadAt
+  threadAt-at k = refl
+
+  pub threadAt-set : (k : ℕ) (t : Thread) → k < length ts → threadAt (set ts k t) k ≡ t
+  unfolding threadAt
+  threadAt-set k t h = getD-set-same ts k t noThread h
+
+  pub threadAt-other : (j k : ℕ) (t : Thread) → (k ≡ j → ⊥) → threadAt (set ts j t) k ≡ threadAt ts k
+  unfolding threadAt
+  threadAt-other j k t other = getD-set-other ts j k t noThread other
+
+  pub threadAt-past : (k : ℕ) → length ts ≤ k → threadAt ts k ≡ noThread
+  unfolding threadAt
+  threadAt-past k h = List·getD-eq-default ts noThread h
+
+  pub threadAt-map : (f : Thread → Thread) → f noThread ≡ noThread → (k : ℕ) → threadAt (map f ts) k ≡ f (threadAt ts k)
+  unfolding threadAt
+  threadAt-map f e k = ap (λ (d : Thread). getD (map f ts) k d) (sym e) ∙ List·getD-map f ts k noThread
+
+pub Ready-same : {c d : Cycle} → Ready c ≡ Ready d → c ≡ d
+Ready-same e = cc
+
+pub Ready-not-Waiting : {s : State} {e : ℕ} {c d : Cycle} → s ≡ Ready c → s ≡ Waiting e d → ⊥
+Ready-not-Waiting p q = let z : _≡_ {A = ℕ} 0 1 = cc in omega arith
+
+pub Waiting-event : {s : State} {v e : ℕ} {c d : Cycle} → s ≡ Waiting v c → s ≡ Waiting e d → v ≡ e
+Waiting-event p q = cc
+
+pub readyCycle-Ready : (s : State) (c : Cycle) → readyCycle s ≡ At c → s ≡ Ready c
+readyCycle-Ready (Ended d) c e = absurd (let z : _≡_ {A = ℕ} 0 1 = cc in omega arith)
+readyCycle-Ready (Overrun d) c e = absurd (let z : _≡_ {A = ℕ} 0 1 = cc in omega arith)
+readyCycle-Ready (Ready d) c e = cc
+readyCycle-Ready (Waiting v d) c e = absurd (let z : _≡_ {A = ℕ} 0 1 = cc in omega arith)
+
+pub stateAfter-Ready : (z : Step) (c : Cycle) → stateAfter z ≡ Ready c → z ≡ step.Ready c
+stateAfter-Ready (step.Ready d) c e = cc
+stateAfter-Ready (step.Overrun d) c e = absurd (let z : _≡_ {A = ℕ} 0 1 = cc in omega arith)
+
+pub stateAfter-not-Waiting : (z : Step) (e : ℕ) (c : Cycle) → stateAfter z ≡ Waiting e c → ⊥
+stateAfter-not-Waiting (step.Ready d) v c e = let z : _≡_ {A = ℕ} 0 1 = cc in omega arith
+stateAfter-not-Waiting (step.Overrun d) v c e = let z : _≡_ {A = ℕ} 0 1 = cc in omega arith
+
+closedAt-later : (s : ℕ) (g : Closer) (c d : Cycle) (v : List ℕ) → closedAt s g c v .state ≡ Ready d → Before c d
+unfolding closedAt
+closedAt-later s End c d v e = absurd (let z : _≡_ {A = ℕ} 0 1 = cc in omega arith)
+closedAt-later s (Time k x) c d v e = waitEnds-later (wait.Time k) c (stateAfter-Ready (waitEnds (wait.Time k) c) d e)
+closedAt-later s (Event w x) c d v e = absurd (let z : _≡_ {A = ℕ} 0 1 = cc in omega arith)
+
+closedAt-waits : (s : ℕ) (g : Closer) (c d : Cycle) (v : List ℕ) (e : ℕ) → closedAt s g c v .state ≡ Waiting e d → d ≡ c
+unfolding closedAt
+closedAt-waits s End c d v w e = absurd (let z : _≡_ {A = ℕ} 0 1 = cc in omega arith)
+closedAt-waits s (Time k x) c d v w e = absurd (stateAfter-not-Waiting (waitEnds (wait.Time k) c) w d e)
+closedAt-waits s (Event u x) c d v w e = cc
+
+-- where the end of a wait leaves a thread: its delta in range, and after an event its time
+pub stateAfter-delta : (w : Wait) (c : Cycle) → c .delta .0 ≤ lastDelta → cycleOf (stateAfter (waitEnds w c)) .delta .0 ≤ lastDelta
+stateAfter-delta w c h = go (waitEnds w c) refl
+  where
+    go : (z : Step) → waitEnds w c ≡ z → cycleOf (stateAfter z) .delta .0 ≤ lastDelta
+    go (step.Ready d) e = waitEnds-delta w c e h
+    go (step.Overrun d) e = let f = ap (λ (x : Cycle). x .delta .0) (waitEnds-overrun w c e) in omega arith
+
+pub heard-delta : (c : Cycle) → c .delta .0 ≤ lastDelta → cycleOf (stateAfter (waitEnds wait.Event c)) .delta .0 ≤ lastDelta
+heard-delta c h = stateAfter-delta wait.Event c h
+
+pub heard-time : (c : Cycle) → cycleOf (stateAfter (waitEnds wait.Event c)) .time .0 ≡ c .time .0
+heard-time c = go (waitEnds wait.Event c) refl
+  where
+    go : (z : Step) → waitEnds wait.Event c ≡ z → cycleOf (stateAfter z) .time .0 ≡ c .time .0
+    go (step.Ready d) e = waitEnds-event-time c e
+    go (step.Overrun d) e = ap (λ (x : Cycle). x .time .0) (waitEnds-overrun wait.Event c e)
+
+module _ (m : Model) (k s : ℕ) (c : Cycle) (v : List ℕ) where
+  pub effectOf-thread : effectOf m k s c v .thread ≡ closedAt s (segmentAt m s .closer) c (effectOf m k s c v .variables)
+  unfolding effectOf effectIn
+  effectOf-thread = refl
+
+  -- a thread that has run is ready in a later cycle
+  pub effectOf-later : (d : Cycle) → effectOf m k s c v .thread .state ≡ Ready d → Before c d
+  effectOf-later d e =
+      closedAt-later s (segmentAt m s .closer) c d (effectOf m k s c v .variables) (ap (λ (t : Thread). t .state) (sym effectOf-thread) ∙ e)
+
+  -- one that now waits has begun to in this cycle
+  pub effectOf-waits : (e : ℕ) (d : Cycle) → effectOf m k s c v .thread .state ≡ Waiting e d → d ≡ c
+  effectOf-waits e d f =
+      closedAt-waits s (segmentAt m s .closer) c d (effectOf m k s c v .variables) e (ap (λ (t : Thread). t .state) (sym effectOf-thread) ∙ f)
+
+-- "ready before H"
+module _ (m : Model) where
+  pub horizon→< : (c : Cycle) → T (isBeforeHorizon m c) → c .time .0 < m .horizon .0
+  unfolding isBeforeHorizon
+  horizon→< c t = ltb→lt (c .time .0) (m .horizon .0) t
+
+  pub <→horizon : (c : Cycle) → c .time .0 < m .horizon .0 → T (isBeforeHorizon m c)
+  unfolding isBeforeHorizon
+  <→horizon c h = lt→ltb (c .time .0) (m .horizon .0) h
+
+  -- a cycle not after one before the horizon is before it
+  pub horizon-mono : {c d : Cycle} → c ⊑ d → T (isBeforeHorizon m d) → T (isBeforeHorizon m c)
+  horizon-mono {c} {d} (sooner p) t = <→horizon c (omega (arith, horizon→< d t))
+  horizon-mono {c} {d} (same-time p q) t = <→horizon c (omega (arith, horizon→< d t))
+
+  pub readyCycle-before : (s : State) → T (isBoundBeforeHorizon m (readyCycle s)) → (c : Cycle) × (s ≡ Ready c) × T (isBeforeHorizon m c)
+  unfolding isBoundBeforeHorizon
+  readyCycle-before (Ended d) t = absurd t
+  readyCycle-before (Overrun d) t = absurd t
+  readyCycle-before (Ready d) t = (d, refl, t)
+  readyCycle-before (Waiting e d) t = absurd t
+
+  pub before-readyCycle : (s : State) (c : Cycle) → s ≡ Ready c → T (isBeforeHorizon m c) → T (isBoundBeforeHorizon m (readyCycle s))
+  unfolding isBoundBeforeHorizon
+  before-readyCycle s c e t = subst (λ (x : State). T (isBoundBeforeHorizon m (readyCycle x))) (sym e) t
+
+pub has-append : (a b : List ℕ) (e : ℕ) → T (has (a ++ b) e) → T (has a e) ⊎ T (has b e)
+unfolding has
+has-append [] b e t = inr t
+has-append (x ∷ a) b e t = go (has-append a b e) (or→either (eqb x e) (has (a ++ b) e) t)
+  where
+    go : (T (has (a ++ b) e) → T (has a e) ⊎ T (has b e)) → T (eqb x e) ⊎ T (has (a ++ b) e) → T (eqb x e || has a e) ⊎ T (has b e)
+    go ih (inl s) = inl (either→or (eqb x e) (has a e) (inl s))
+    go ih (inr s) = pass (ih s)
+      where
+        pass : T (has a e) ⊎ T (has b e) → T (eqb x e || has a e) ⊎ T (has b e)
+        pass (inl u) = inl (either→or (eqb x e) (has a e) (inr u))
+        pass (inr u) = inr u
+
+pub append-has : (a b : List ℕ) (e : ℕ) → T (has a e) ⊎ T (has b e) → T (has (a ++ b) e)
+unfolding has
+append-has [] b e (inl t) = absurd t
+append-has [] b e (inr t) = t
+append-has (x ∷ a) b e (inl t) = go (append-has a b e) (or→either (eqb x e) (has a e) t)
+  where
+    go : (T (has a e) ⊎ T (has b e) → T (has (a ++ b) e)) → T (eqb x e) ⊎ T (has a e) → T (eqb x e || has (a ++ b) e)
+    go ih (inl s) = either→or (eqb x e) (has (a ++ b) e) (inl s)
+    go ih (inr s) = either→or (eqb x e) (has (a ++ b) e) (inr (ih (inl s)))
+append-has (x ∷ a) b e (inr t) = either→or (eqb x e) (has (a ++ b) e) (inr (append-has a b e (inr t)))
+
+pub has-none : (e : ℕ) → T (has [] e) → ⊥
+unfolding has
+has-none e t = t

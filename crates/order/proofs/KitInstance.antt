@@ -1,0 +1,179 @@
+-- The kit's laws for the tables that the reader made, for every model that keeps the file rules: footprints by machine, conflict
+-- and distance by paths, earliest, forecast and hazard by bounds. Of the tables it cites what a mark means and that a
+-- distance is the least over all paths.
+-- Assumes nothing.
+use Prim.Native.Nat.{ℕ, _≤_, _<_, _+_, _*_}
+use mathlib.Core.Path.{_≡_, refl, ap, sym, _∙_, subst}
+use mathlib.Core.Logic.{_⊎_, inl, inr}
+use mathlib.Core.Bool.{Bool, true, false, cond}
+use mathlib.Core.List.{List}
+use native.Mathlib.Omega.{arith}
+use lib.Dec.{T}
+use lib.ListN.{length, getD}
+use Rattle.base.proofs.BoolLaws.{T→true}
+use Rattle.clock.specs.declared.Cycle.{Cycle}
+use Rattle.clock.specs.declared.Wait.the-variants as wait
+use Rattle.clock.specs.declared.Bound.{Bound}
+use Rattle.clock.specs.declared.Bound.the-variants.{Never, At}
+use Rattle.clock.specs.Cycle.{cycleAt}
+use Rattle.clock.specs.Advance.{_⊕_, oneDelta, noAdvance, advanceOf}
+use Rattle.clock.specs.Order.{_⊑_, _≼_}
+use Rattle.clock.specs.Wait.{waitEnds}
+use Rattle.clock.proofs.OrderLaws.{≼-refl, ≼-trans}
+use Rattle.clock.proofs.AdvanceLaws.{⊕-mono, ⊕-oneDelta, advanceOf-Event}
+use Rattle.clock.proofs.WaitLaws.{waitEnds-advance}
+use Rattle.model.specs.declared.Closer.{Closer}
+use Rattle.model.specs.declared.Closer.the-variants.{End, Time, Event}
+use Rattle.model.specs.declared.Model.{Model}
+use Rattle.model.specs.declared.State.the-variants.{Ready, Waiting}
+use Rattle.model.specs.declared.Thread.{Thread}
+use Rattle.model.specs.Limits.{isBeforeHorizon}
+use Rattle.model.specs.Values.{segmentAt}
+use Rattle.model.specs.Effect.{nextOf, closedAt, effectOf}
+use Rattle.model.specs.Footprint.{writesIn, usesIn}
+use Rattle.model.specs.Rules.{modelFault}
+use Rattle.machine.proofs.FrameLaws.{Agree, writesIn→usesIn, effectOf-frame, effectOf-length, effectOf-local}
+use Rattle.machine.proofs.RuleLaws.{modelFault-horizon, modelFault-counts}
+use Rattle.tables.specs.Conflict.{marksOf}
+use Rattle.tables.specs.Distance.{stepOf, goesTo, edge, distanceOf}
+use Rattle.tables.specs.Word.{wordsOf, distanceIn}
+use Rattle.paths.proofs.ConflictLaws.{shared→marked}
+use Rattle.paths.proofs.DistanceLaws.{distanceOf-self, distanceOf-after, goesTo-next}
+use Rattle.paths.proofs.WordLaws.{wordsOf-length, distanceIn-wordsOf, wordsOf-fit}
+use Rattle.cycles.proofs.RecordLaws.{stateAfter-Ready, stateAfter-not-Waiting, effectOf-thread, horizon→<}
+use Rattle.cycles.proofs.RangeLaws as range
+use Rattle.cycles.proofs.KeepLaws.{effectOf-notifies, modelFault-keeps}
+use Rattle.early.specs.declared.Notification.{Notification}
+use Rattle.early.specs.Hazard.{marksConflict}
+use Rattle.early.specs.Fit.{isFitWord}
+use Rattle.bounds.proofs.EarliestLaws.{earliestAt, earliest-ready, earliest-heard, earliest-linked, earliest-attained}
+use Rattle.bounds.proofs.ForecastLaws as forecast
+use Rattle.bounds.proofs.HazardLaws as danger
+use Rattle.bounds.proofs.FitLaws.{→isFitThread, →isFitCycle, →isUnfitWords}
+use Rattle.order.proofs.Places.{recordAt, nowAt}
+use Rattle.order.proofs.PlainFacts.{PlainFacts}
+use Rattle.order.proofs.KitLaws.{Footprints, Distances, Ranges, Forecasts, KitLaws}
+use Rattle.order.proofs.PlainInstance.{plain-facts}
+
+-- a segment that closes ready at d has taken a step of the segment graph, whose advance leads from c to d
+closed-ready : (s : ℕ) (g : Closer) (c d : Cycle) (v : List ℕ) → closedAt s g c v .state ≡ Ready d → At c ⊕ stepOf g (closedAt s g c v .segment) ≡ At d
+unfolding closedAt stepOf
+closed-ready s End c d v e = let z : _≡_ {A = ℕ} 0 1 = cc in absurd (omega arith)
+closed-ready s (Time k x) c d v e = rw (T→true (goesTo x (nextOf x v)) (goesTo-next x v)) (waitEnds-advance (wait.Time k) c (stateAfter-Ready _ d e))
+closed-ready s (Event w x) c d v e = let z : _≡_ {A = ℕ} 0 1 = cc in absurd (omega arith)
+
+-- one that waits on an event began at c, and its step is one delta
+closed-waits : (s : ℕ) (g : Closer) (c since : Cycle) (v : List ℕ) (e : ℕ) → closedAt s g c v .state ≡ Waiting e since → (since ≡ c) × (stepOf g (closedAt s g c v .segment) ≡ oneDelta)
+unfolding closedAt stepOf
+closed-waits s End c since v e f = let z : _≡_ {A = ℕ} 0 1 = cc in absurd (omega arith)
+closed-waits s (Time k x) c since v e f = absurd (stateAfter-not-Waiting (waitEnds (wait.Time k) c) e since f)
+closed-waits s (Event w x) c since v e f = ((cc), rw (T→true (goesTo x (nextOf x v)) (goesTo-next x v)) advanceOf-Event)
+
+module _ (m : Model) (fit : modelFault m ≡ 0) where
+  few-segments : m .n ≤ 64
+  few-segments = modelFault-counts m fit .segments
+
+  before-cut : (c : Cycle) → T (isBeforeHorizon m c) → c .time .0 < 1000000000
+  before-cut c t = omega (arith, horizon→< m c t, modelFault-horizon m fit .1)
+
+  agree : (k s : ℕ) (x y : List ℕ) → length x ≡ length y → ((v : ℕ) → T (usesIn m k s v) → getD x v 0 ≡ getD y v 0) → Agree (λ v. T (usesIn m k s v)) x y
+  agree k s x y l h = record { same-length = l; same = h }
+
+  footprints : Footprints m (marksOf m)
+  unfolding marksConflict writesIn usesIn
+  footprints =
+      record {
+        Reaches = λ k s. s < m .n;
+        reached = λ i k r. plain-facts m fit .segment-below i k (r .below);
+        writes-uses = λ k s v t. writesIn→usesIn m k s v t;
+        sized = λ k s c x. effectOf-length m k s c x;
+        frame = λ k s c x v e. effectOf-frame m k s c x v e;
+        local-variables = λ k s c x y l h v u. effectOf-local m k s c x y (agree k s x y l h) .variables-agree .same v u;
+        local-notified = λ k s c x y l h. effectOf-local m k s c x y (agree k s x y l h) .same-notified;
+        local-thread = λ k s c x y l h. effectOf-local m k s c x y (agree k s x y l h) .same-thread;
+        marked = λ i r j s v n p q h. shared→marked m fit r s p q v h;
+      }
+
+  said : (r s : ℕ) → r < m .n → s < m .n → distanceIn m (wordsOf m) r s ≡ distanceOf m r s
+  said r s h l = distanceIn-wordsOf m fit r s h l
+
+  -- the bound on the distance to the next segment, from that to this one
+  onward : (r a b : ℕ) (y : Bound) (c d : Cycle) → r < m .n → a < m .n → b < m .n → d .time .0 < 1000000000 → At c ⊕ edge m a b ≼ At d
+      → y ⊕ distanceIn m (wordsOf m) r a ≼ At c → y ⊕ distanceIn m (wordsOf m) r b ≼ At d
+  onward r a b y c d rn an bn before step h =
+      rw (said r b rn bn)
+      (distanceOf-after m r a b rn an bn y d before
+      (≼-trans ((y ⊕ distanceOf m r a) ⊕ edge m a b) (At c ⊕ edge m a b) (At d)
+      (⊕-mono (y ⊕ distanceOf m r a) (At c) (edge m a b) (edge m a b) (rw (said r a rn an) at h) (≼-refl (edge m a b)))
+      step))
+
+  next-below : (k a : ℕ) (c : Cycle) (x : List ℕ) → a < m .n → effectOf m k a c x .thread .segment < m .n
+  next-below k a c x h = modelFault-keeps m fit .next k a c x h
+
+  closes : (k a : ℕ) (c : Cycle) (x : List ℕ) → effectOf m k a c x .thread ≡ closedAt a (segmentAt m a .closer) c (effectOf m k a c x .variables)
+  closes k a c x = effectOf-thread m k a c x
+
+  edge-ready : (k a : ℕ) (c d : Cycle) (x : List ℕ) → effectOf m k a c x .thread .state ≡ Ready d → At c ⊕ edge m a (effectOf m k a c x .thread .segment) ≡ At d
+  unfolding edge
+  edge-ready k a c d x e =
+      subst (λ (t : Thread). t .state ≡ Ready d → At c ⊕ stepOf (segmentAt m a .closer) (t .segment) ≡ At d) (sym (closes k a c x))
+      (closed-ready a (segmentAt m a .closer) c d (effectOf m k a c x .variables)) e
+
+  edge-waits : (k a e : ℕ) (c since : Cycle) (x : List ℕ) → effectOf m k a c x .thread .state ≡ Waiting e since → (since ≡ c) × (edge m a (effectOf m k a c x .thread .segment) ≡ oneDelta)
+  unfolding edge
+  edge-waits k a e c since x f =
+      subst (λ (t : Thread). t .state ≡ Waiting e since → (since ≡ c) × (stepOf (segmentAt m a .closer) (t .segment) ≡ oneDelta)) (sym (closes k a c x))
+      (closed-waits a (segmentAt m a .closer) c since (effectOf m k a c x .variables) e) f
+
+  over-event : (k r a e : ℕ) (c since h : Cycle) (x : List ℕ) (y : Bound) → k < m .t → r < m .n → a < m .n → effectOf m k a c x .thread .state ≡ Waiting e since → since ⊑ h → T (isBeforeHorizon m h)
+      → y ⊕ distanceIn m (wordsOf m) r a ≼ At c → y ⊕ distanceIn m (wordsOf m) r (effectOf m k a c x .thread .segment) ≼ At h ⊕ oneDelta
+  over-event k r a e c since h x y kt rn an f b t l =
+      let (began, step) = edge-waits k a e c since x f in
+      let start : c ⊑ h = subst (λ (z : Cycle). z ⊑ h) began b in
+      rw (⊕-oneDelta h)
+      (onward r a (effectOf m k a c x .thread .segment) y c (cycleAt (h .time .0) (h .delta .0 + 1)) rn an (next-below k a c x an) (before-cut h t)
+      (rw (step, ← ⊕-oneDelta h) (⊕-mono (At c) (At h) oneDelta oneDelta start (≼-refl oneDelta)))
+      l)
+
+  distances : Distances m (wordsOf m)
+  distances =
+      record {
+        over-wait = λ k r a c d x y kt rn an f t l. onward r a (effectOf m k a c x .thread .segment) y c d rn an (next-below k a c x an) (before-cut d t) (subst (λ (z : Bound). z ≼ At d) (sym (edge-ready k a c d x f)) (≼-refl (At d))) l;
+        over-event = over-event;
+        self = λ r h. said r r h h ∙ distanceOf-self m r h;
+        segment-below = λ k a c x kt h. next-below k a c x h;
+        listed = λ k s c x e t. effectOf-notifies m k s c x e t;
+        event-below = λ k s c x e h t. modelFault-keeps m fit .notifies k s c x e h t;
+      }
+
+  ranges : Ranges m (wordsOf m)
+  unfolding isFitWord
+  ranges =
+      let kept = modelFault-keeps m fit in
+      record {
+        model = fit;
+        words = →isUnfitWords m (wordsOf m) (omega (arith, wordsOf-length m)) (λ i h. wordsOf-fit m fit i h);
+        threads = modelFault-counts m fit .threads;
+        events = modelFault-counts m fit .events;
+        horizon = modelFault-horizon m fit .1;
+        fit-record = λ i k l. let p = range.in-range m kept i in →isFitThread m (recordAt m i k) (record { segment = p .fits k l .segment; cycle = record { time = range.record-time m kept i k l; delta = p .fits k l .delta }; event = p .fits k l .event });
+        fit-now = λ i. let p = range.in-range m kept i in →isFitCycle 1000000000 (nowAt m i) (record { time = omega (arith, p .now-time, modelFault-horizon m fit .1); delta = p .now-delta });
+      }
+
+  forecasts : (l : List Notification) (ts : List Thread) → Forecasts m (marksOf m) (wordsOf m) l ts
+  forecasts l ts =
+      let ws = wordsOf m in
+      record {
+        earliest = earliestAt m ws l ts;
+        ready = earliest-ready m ws l ts;
+        heard = earliest-heard m ws l ts;
+        linked = earliest-linked m ws l ts;
+        attained = earliest-attained m ws l ts;
+        forecast-below = forecast.forecast-below m ws l ts;
+        forecast-attained = λ e b f. let (k, s, p, q, _, _, r) = forecast.forecast-attained m ws l ts e b f in (k, s, p, q, r);
+        no-hazard = λ i c. danger.no-hazard m (marksOf m) ws l ts i c;
+        some-hazard = λ i c e. let (j, s, t) = danger.hazard→threat m (marksOf m) ws l ts i c e in (j, s, t .thread, t .other, t .live, t .sooner);
+      }
+
+  pub kit-laws : KitLaws m (marksOf m) (wordsOf m)
+  kit-laws = record { footprints = footprints; distances = distances; ranges = ranges; forecasts = forecasts }

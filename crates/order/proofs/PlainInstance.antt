@@ -1,0 +1,188 @@
+-- The facts of the plain run that the argument uses, for every model that keeps the file rules. Each is a law of crate cycles,
+-- said of places in the argument's words.
+-- Assumes nothing.
+use Prim.Native.Nat.{ℕ, suc, _≤_, _<_}
+use mathlib.Core.Path.{_≡_, refl, ap, sym, _∙_, subst}
+use mathlib.Core.Logic.{_⊎_, inl, inr}
+use mathlib.Core.List.{List}
+use native.Mathlib.Omega.{arith}
+use lib.Dec.{T}
+use lib.ListN.{length}
+use borrow.Author.Tests.{lt-ltb, le-ltb}
+use Rattle.base.proofs.BoolLaws.{T→true}
+use Rattle.clock.specs.declared.Cycle.{Cycle}
+use Rattle.clock.specs.Order.{_⊑_}
+use Rattle.model.specs.declared.Model.{Model}
+use Rattle.model.specs.declared.State.{State}
+use Rattle.model.specs.declared.State.the-variants.{Ready, Waiting}
+use Rattle.model.specs.declared.Thread.{Thread}
+use Rattle.model.specs.Limits.{isBeforeHorizon}
+use Rattle.model.specs.Record.{threadAt}
+use Rattle.model.specs.Footprint.{has}
+use Rattle.model.specs.Rules.{modelFault}
+use Rattle.plain.specs.Start.{Place}
+use Rattle.plain.specs.Step.{isDue, stepped, placeAt}
+use Rattle.plain.specs.Run.{lastStep}
+use Rattle.cycles.proofs.RecordLaws.{has-none}
+use Rattle.cycles.proofs.StepLaws.{Kind, ran, passed, closed, kindOf, Sees, sees, sees-ran, sees-passed, sees-begun, sees-rested, ran-not-closed, passed-not-closed, Ready→isDue, placeAt-more, stepped-variables-ran, stepped-variables-other}
+use Rattle.cycles.proofs.HappenLaws as happen
+use Rattle.cycles.proofs.SteadyLaws as steady
+use Rattle.cycles.proofs.NotifyLaws as notify
+use Rattle.cycles.proofs.HearLaws as hear
+use Rattle.cycles.proofs.RangeLaws as range
+use Rattle.cycles.proofs.StampLaws as stamp
+use Rattle.cycles.proofs.EndLaws as end
+use Rattle.cycles.proofs.DoneLaws.{Done, isDone-parts, placeAt-stands, isDone-closed}
+use Rattle.cycles.proofs.KeepLaws.{modelFault-keeps}
+use Rattle.order.proofs.Places.{nowAt, recordAt, Runs, effectThere, Says, Hears, Happens, idle, runs, hears}
+use Rattle.order.proofs.PlainFacts.{NextRun, NextHearing, Ending, PlainFacts}
+
+-- the kind of a step, from the turn and the record
+kind-ran : (m : Model) (p : Place) → p .turn < m .t → T (isDue p) → kindOf m p ≡ ran
+unfolding kindOf
+kind-ran m p h d = rw (lt-ltb (p .turn) (m .t) h, T→true (isDue p) d) refl
+
+kind-closed : (m : Model) (p : Place) → m .t ≤ p .turn → kindOf m p ≡ closed
+unfolding kindOf
+kind-closed m p h = rw (le-ltb (p .turn) (m .t) h) refl
+
+closed-turn : (m : Model) (p : Place) → kindOf m p ≡ closed → m .t ≤ p .turn
+closed-turn m p e = go (sees m p)
+  where
+    go : Sees m p → m .t ≤ p .turn
+    go (sees-ran q h r s) = absurd (ran-not-closed q e)
+    go (sees-passed q h r s) = absurd (passed-not-closed q e)
+    go (sees-begun q h c f b s) = h
+    go (sees-rested q h l s) = h
+
+-- the record of thread k after the step from place i
+abbrev stepRecord : Model → ℕ → ℕ → Thread
+stepRecord m i k = threadAt (stepped m (placeAt m i) .threads) k
+
+module _ (m : Model) where
+  -- who runs, in either words
+  runs-there : (i k : ℕ) → happen.Runs m (placeAt m i) k → Runs m i k
+  runs-there i k r = record { below = happen.Runs-below m (placeAt m i) k r; turn = r .1; ready = happen.Runs-ready m (placeAt m i) k r }
+
+  runs-back : (i k : ℕ) → Runs m i k → happen.Runs m (placeAt m i) k
+  runs-back i k r =
+      let turn = r .turn in
+      let ready : recordAt m i (placeAt m i .turn) .state ≡ Ready (nowAt m i) = subst (λ (j : ℕ). recordAt m i j .state ≡ Ready (nowAt m i)) (sym turn) (r .ready) in
+      (kind-ran m (placeAt m i) (omega (arith, turn, r .below)) (Ready→isDue (placeAt m i) ready), turn)
+
+  -- who hears
+  hears-there : (i k e : ℕ) → k < m .t → (h : happen.Hears m (placeAt m i) k e) → Hears m i k e (h .since)
+  hears-there i k e l h = record { below = l; closes = closed-turn m (placeAt m i) (h .closing); waits = h .waiting; notified = h .notified; begun = h .begun }
+
+  hears-back : (i k e : ℕ) (since : Cycle) → Hears m i k e since → happen.Hears m (placeAt m i) k e
+  hears-back i k e since h = record { closing = kind-closed m (placeAt m i) (h .closes); since = since; waiting = h .waits; notified = h .notified; begun = h .begun }
+
+  happens-there : (i k : ℕ) → k < m .t → Happens m i k
+  happens-there i k l = go (happen.happens-at m i k)
+    where
+      step : recordAt m (suc i) k ≡ stepRecord m i k
+      step = ap (λ (p : Place). threadAt (p .threads) k) (placeAt-more m i)
+
+      go : happen.Happens m (placeAt m i) k → Happens m i k
+      go (happen.idle s r h j) = idle (step ∙ s) j (λ x. r (runs-back i k x)) (λ e since x. h e (hears-back i k e since x))
+      go (happen.runs r y s j) = runs (runs-there i k r) (step ∙ s) j
+      go (happen.hears e h s j) = hears e (h .since) (hears-there i k e l h) (step ∙ s) j
+
+  -- who notifies
+  says-back : (q j e : ℕ) → Says m q j e → notify.Says m q e
+  says-back q j e s =
+      let r = runs-back q j (s .runs) in
+      (r .0, subst (λ (k : ℕ). T (has (effectThere m q k .notified) e)) (sym (r .1)) (s .notifies))
+
+  says-there : (q e : ℕ) → notify.Says m q e → Says m q (placeAt m q .turn) e
+  says-there q e s = record { runs = runs-there q (placeAt m q .turn) (s .0, refl); notifies = s .1 }
+
+  one-runs : (i : ℕ) → ((k : ℕ) × Runs m i k) ⊎ ((k : ℕ) → Runs m i k → ⊥)
+  one-runs i = go (sees m (placeAt m i))
+    where
+      go : Sees m (placeAt m i) → ((k : ℕ) × Runs m i k) ⊎ ((k : ℕ) → Runs m i k → ⊥)
+      go (sees-ran q h r s) = inl (placeAt m i .turn, runs-there i (placeAt m i .turn) (q, refl))
+      go (sees-passed q h r s) = inr (λ k x. r (subst (λ (j : ℕ). recordAt m i j .state ≡ Ready (nowAt m i)) (sym (x .turn)) (x .ready)))
+      go (sees-begun q h c f b s) = inr (λ k x. ran-not-closed (runs-back i k x .0) q)
+      go (sees-rested q h l s) = inr (λ k x. ran-not-closed (runs-back i k x .0) q)
+
+  variables-after : (i k : ℕ) → Runs m i k → placeAt m (suc i) .variables ≡ effectThere m i k .variables
+  variables-after i k r =
+      let b = runs-back i k r in
+      ap (λ (p : Place). p .variables) (placeAt-more m i) ∙ stepped-variables-ran m (placeAt m i) (b .0) ∙ ap (λ (j : ℕ). effectThere m i j .variables) (b .1)
+
+  variables-same : (i : ℕ) → ((k : ℕ) → Runs m i k → ⊥) → placeAt m (suc i) .variables ≡ placeAt m i .variables
+  variables-same i none =
+      ap (λ (p : Place). p .variables) (placeAt-more m i) ∙ stepped-variables-other m (placeAt m i) (λ q. none (placeAt m i .turn) (runs-there i (placeAt m i .turn) (q, refl)))
+
+  source-there : (i k e : ℕ) (since : Cycle) → Hears m i k e since → (q : ℕ) × (j : ℕ) × (q < i) × Says m q j e × (nowAt m q ≡ nowAt m i)
+  source-there i k e since h =
+      let s = notify.source m i e (h .notified) in
+      (s .place, placeAt m (s .place) .turn, s .earlier, says-there (s .place) e (s .says), s .now)
+
+  module _ (kept : range.Keeps m) where
+    run-there : (n k : ℕ) (c : Cycle) → k < m .t → recordAt m n k .state ≡ Ready c → T (isBeforeHorizon m c) → NextRun m n k c
+    run-there n k c l e b =
+        let r = end.will-run m k n c kept l e b in
+        record {
+          place = r .place;
+          from = r .quiet .forth;
+          runs = runs-there (r .place) k (r .runs);
+          now = r .now;
+          still = r .quiet .still (r .place) (r .quiet .forth) (omega arith);
+          history = r .quiet .same-history;
+          quiet = λ q a d x. r .quiet .not-run q a d (runs-back q k x);
+        }
+
+    hearing-there : (n k e q j : ℕ) (since : Cycle) → k < m .t → recordAt m n k .state ≡ Waiting e since → Says m q j e → since ⊑ nowAt m q → NextHearing m n k e since (nowAt m q)
+    hearing-there n k e q j since l w s b =
+        let h = hear.will-hear m k n e since w q (says-back q j e s) b in
+        let same : recordAt m (h .place) k ≡ recordAt m n k = h .quiet .still (h .place) (h .quiet .forth) (omega arith) in
+        let waits : recordAt m (h .place) k .state ≡ Waiting e since = ap (λ (t : Thread). t .state) same ∙ w in
+        record {
+          place = h .place;
+          from = h .quiet .forth;
+          hears = record { below = l; closes = closed-turn m (placeAt m (h .place)) (h .hears .closing); waits = waits; notified = h .hears .notified; begun = hear.begun m (h .place) k e since waits };
+          by = h .not-after;
+          still = same;
+          history = h .quiet .same-history;
+          quiet = λ x a d y. h .quiet .not-run x a d (runs-back x k y);
+        }
+
+    ending-there : Ending m
+    ending-there =
+        record {
+          place = lastStep m;
+          done = end.ends m kept;
+          still = λ i h. placeAt-stands m (lastStep m) (end.ends m kept) i h;
+          no-run = λ i k h r. ran-not-closed (runs-back i k r .0) (isDone-closed m (placeAt m i) (end.done-at m kept i h));
+          no-hearing = no-hearing;
+        }
+      where
+        no-hearing : (i k e : ℕ) (since : Cycle) → lastStep m ≤ i → Hears m i k e since → ⊥
+        no-hearing i k e since h x = none-notified (isDone-parts m (placeAt m i) (end.done-at m kept i h))
+          where
+            none-notified : Done m (placeAt m i) → ⊥
+            none-notified d = has-none e (subst (λ (l : List ℕ). T (has l e)) (d .heard-all) (x .notified))
+
+    pub facts : PlainFacts m
+    facts =
+        record {
+          happens = happens-there;
+          runs-one = one-runs;
+          variables-run = variables-after;
+          variables-idle = variables-same;
+          variables-length = range.variables-length m kept;
+          segment-below = λ i k l. range.in-range m kept i .fits k l .segment;
+          now-mono = steady.now-mono m;
+          stamps = λ i j a b l r s. stamp.run-stamps m i j a b l (runs-back i a r) (runs-back j b s);
+          now-before = range.now-before m kept;
+          begun = λ i k e since l w. hear.begun m i k e since w;
+          source = source-there;
+          next-run = run-there;
+          next-hearing = hearing-there;
+          ending = ending-there;
+        }
+
+pub plain-facts : (m : Model) → modelFault m ≡ 0 → PlainFacts m
+plain-facts m e = facts m (modelFault-keeps m e)

@@ -1,0 +1,1 @@
+// What holds of conflict marks and distances. Laws alone: the definitions are those of tables.
