@@ -70,6 +70,9 @@ Ready-not-Waiting p q = let z : _≡_ {A = ℕ} 0 1 = cc in omega arith
 pub Waiting-event : {s : State} {v e : ℕ} {c d : Cycle} → s ≡ Waiting v c → s ≡ Waiting e d → v ≡ e
 Waiting-event p q = cc
 
+pub Waiting-since : {s : State} {v e : ℕ} {c d : Cycle} → s ≡ Waiting v c → s ≡ Waiting e d → c ≡ d
+Waiting-since p q = cc
+
 pub readyCycle-Ready : (s : State) (c : Cycle) → readyCycle s ≡ At c → s ≡ Ready c
 readyCycle-Ready (Ended d) c e = absurd (let z : _≡_ {A = ℕ} 0 1 = cc in omega arith)
 readyCycle-Ready (Overrun d) c e = absurd (let z : _≡_ {A = ℕ} 0 1 = cc in omega arith)

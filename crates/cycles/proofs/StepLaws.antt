@@ -1,6 +1,7 @@
 -- One step of the plain run: which of the three kinds it is, and what each leaves of the place.
 -- A step looks at one thread, which runs or is passed over, or it closes the cycle; a close begins the next cycle or rests.
 --     kindOf, Sees, sees     the kind, and what it tells
+--     closed→turned, turned→closed, ready→ran     the kind told by turn and state
 --     stepped-variables-ran, stepped-variables-other     the variables after it
 --     stepped-threads-length     the number of records is kept
 use Prim.Native.Nat.{ℕ, suc, _+_, _<_, _≤_}
@@ -144,6 +145,35 @@ ran-not-closed p q = let z : _≡_ {A = ℕ} 0 1 = cc in omega arith
 
 pub passed-not-closed : {x : Kind} → x ≡ passed → x ≡ closed → ⊥
 passed-not-closed p q = let z : _≡_ {A = ℕ} 0 1 = cc in omega arith
+
+-- the kind told by turn and state
+module _ (m : Model) (p : Place) where
+  pub closed→turned : kindOf m p ≡ closed → m .t ≤ p .turn
+  closed→turned k = go (sees m p)
+    where
+      go : Sees m p → m .t ≤ p .turn
+      go (sees-ran q h r s) = absurd (ran-not-closed q k)
+      go (sees-passed q h r s) = absurd (passed-not-closed q k)
+      go (sees-begun q h c f b s) = h
+      go (sees-rested q h l s) = h
+
+  pub turned→closed : m .t ≤ p .turn → kindOf m p ≡ closed
+  turned→closed l = go (sees m p)
+    where
+      go : Sees m p → kindOf m p ≡ closed
+      go (sees-ran q h r s) = absurd (omega arith)
+      go (sees-passed q h r s) = absurd (omega arith)
+      go (sees-begun q h c f b s) = q
+      go (sees-rested q h l s) = q
+
+  pub ready→ran : p .turn < m .t → stateOf p (p .turn) ≡ Ready (p .now) → kindOf m p ≡ ran
+  ready→ran l e = go (sees m p)
+    where
+      go : Sees m p → kindOf m p ≡ ran
+      go (sees-ran q h r s) = q
+      go (sees-passed q h r s) = absurd (r e)
+      go (sees-begun q h c f b s) = absurd (omega arith)
+      go (sees-rested q h f s) = absurd (omega arith)
 
 -- what each kind leaves of the variables
 pub stepped-variables-ran : (m : Model) (p : Place) → kindOf m p ≡ ran → stepped m p .variables ≡ effectAt m p .variables

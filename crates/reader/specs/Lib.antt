@@ -3,3 +3,4 @@ pub mod Closer
 pub mod Statement
 pub mod Record
 pub mod File
+pub mod Parts
