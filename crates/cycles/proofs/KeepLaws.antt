@@ -23,7 +23,7 @@ use Rattle.model.specs.Footprint.{has, notifiesIn}
 use Rattle.model.specs.Rules.{modelFault}
 use Rattle.machine.proofs.EffectLaws.{delayOf, closedAt-cycle}
 use Rattle.machine.proofs.FrameLaws.{notified-listed, effectOf-length}
-use Rattle.machine.proofs.RuleLaws.{closerFault-delay, closerFault-event, closedAt-segment, modelFault-horizon, modelFault-counts, modelFault-closer, modelFault-next, modelFault-first, modelFault-notifies}
+use Rattle.rules.proofs.RuleLaws.{closerFault-delay, closerFault-event, closedAt-segment, modelFault-horizon, modelFault-counts, modelFault-closer, modelFault-next, modelFault-first, modelFault-notifies}
 use Rattle.cycles.proofs.RecordLaws.{stateAfter-not-Waiting, stateAfter-delta, effectOf-thread}
 use Rattle.cycles.proofs.RangeLaws.{Keeps}
 

@@ -33,7 +33,7 @@ use Rattle.model.specs.Effect.{nextOf, closedAt, effectOf}
 use Rattle.model.specs.Footprint.{writesIn, usesIn}
 use Rattle.model.specs.Rules.{modelFault}
 use Rattle.machine.proofs.FrameLaws.{Agree, writesIn→usesIn, effectOf-frame, effectOf-length, effectOf-local}
-use Rattle.machine.proofs.RuleLaws.{modelFault-horizon, modelFault-counts}
+use Rattle.rules.proofs.RuleLaws.{modelFault-horizon, modelFault-counts}
 use Rattle.tables.specs.Conflict.{marksOf}
 use Rattle.tables.specs.Distance.{stepOf, goesTo, edge, distanceOf}
 use Rattle.tables.specs.Word.{wordsOf, distanceIn}

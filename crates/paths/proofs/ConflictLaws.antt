@@ -20,7 +20,7 @@ use Rattle.model.specs.declared.Model.{Model}
 use Rattle.model.specs.Values.{segmentAt}
 use Rattle.model.specs.Footprint.{writesOf, usesOf}
 use Rattle.model.specs.Rules.{modelFault}
-use Rattle.machine.proofs.RuleLaws.{modelFault-counts, segmentFault-uses, modelFault-segment}
+use Rattle.rules.proofs.RuleLaws.{modelFault-counts, segmentFault-uses, modelFault-segment}
 use Rattle.machine.proofs.FrameLaws.{writesOf→usesOf}
 use Rattle.tables.specs.Conflict.{conflict, mark, marksOf, noMarks, markAt}
 

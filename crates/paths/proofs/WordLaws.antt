@@ -21,7 +21,7 @@ use Rattle.clock.specs.Cycle.{cycleAt}
 use Rattle.clock.proofs.OrderLaws.{cycle-path}
 use Rattle.model.specs.declared.Model.{Model}
 use Rattle.model.specs.Rules.{modelFault}
-use Rattle.machine.proofs.RuleLaws.{modelFault-counts}
+use Rattle.rules.proofs.RuleLaws.{modelFault-counts}
 use Rattle.tables.specs.Distance.{distanceTable, distanceOf, cell, cut}
 use Rattle.tables.specs.Word.{allOnes, wordOf, boundOf, joined, wordsOf, stored, distanceIn}
 use Rattle.paths.proofs.DistanceLaws.{distanceOf-time, distanceOf-delta}

@@ -1,8 +1,2 @@
-pub mod CloserLaws
-pub mod StatementLaws
-pub mod RecordLaws
-pub mod SegmentLaws
-pub mod BodyLaws
-pub mod FileLaws
 pub mod Computed
 pub mod Edges

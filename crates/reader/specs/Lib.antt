@@ -3,4 +3,3 @@ pub mod Closer
 pub mod Statement
 pub mod Record
 pub mod File
-pub mod Parts

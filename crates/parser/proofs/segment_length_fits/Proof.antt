@@ -1,0 +1,20 @@
+-- `parser::segment_length_fits` meets its contract, test by test.
+use borrow.Author.Tests.{le-leb, lt-leb}
+use Rattle.parser.specs.Parts.{segmentLengthFits}
+use Rattle.parser.proofs.segment_length_fits.Statement.{statement}
+use Rattle.parser.proofs.segment_length_fits.Tie as tie
+
+returns : tie.Need-returns
+unfolding segmentLengthFits
+returns c = rw (lt-leb _ _ (c .if1 .taken))
+
+returns-2 : tie.Need-returns-2
+unfolding segmentLengthFits
+returns-2 c = rw (le-leb _ _ (c .before .if1 .left), lt-leb _ _ (c .if2 .taken))
+
+returns-3 : tie.Need-returns-3
+unfolding segmentLengthFits
+returns-3 c = rw (le-leb _ _ (c .before .if1 .left), le-leb _ _ (c .if2 .left))
+
+pub segment-length-fits-spec : {M : Type 1} → statement M
+segment-length-fits-spec = tie.close (tie.spec returns returns-2 returns-3)

@@ -1,0 +1,13 @@
+-- `rules::name_fault` meets its contract.
+use borrow.Author.Tests.{lt-ltb, le-ltb}
+use Rattle.rules.proofs.name_fault.Statement.{statement}
+use Rattle.rules.proofs.name_fault.Tie as tie
+
+returns : tie.Need-returns
+returns c = simp (lt-ltb _ _ (c .if1 .taken))
+
+returns-2 : tie.Need-returns-2
+returns-2 c = simp (le-ltb _ _ (c .if1 .left))
+
+pub name-fault-spec : {M : Type 1} → statement M
+name-fault-spec = tie.close (tie.spec returns returns-2)
