@@ -1,24 +1,24 @@
 -- Every comparison and limit of `specs/` at, below and above its edge: closed examples, worked out from document 01.
-use Prim.Native.Nat.{ℕ, _+_, _*_}
+use Prim.Native.Nat.{ℕ}
 use mathlib.Core.Path.{_≡_, refl}
 use mathlib.Core.Bool.{true, false}
-use mathlib.Core.List.{List, [], _∷_, _++_}
+use mathlib.Core.List.{List, [], _∷_}
 use lib.ListN.{length, getD, replicate}
 use Rattle.clock.specs.declared.Bound.{Bound}
 use Rattle.clock.specs.declared.Bound.the-variants.{Never, At}
 use Rattle.clock.specs.Cycle.{cycleAt}
 use Rattle.model.specs.declared.Op.{Op}
 use Rattle.model.specs.declared.Op.the-variants.{Set, Copy, Notify}
-use Rattle.model.specs.declared.Statement.{Statement}
 use Rattle.model.specs.declared.Next.{Next}
 use Rattle.model.specs.declared.Closer.{Closer}
 use Rattle.model.specs.declared.Closer.the-variants.{End, Time, Event}
 use Rattle.model.specs.declared.Segment.{Segment}
 use Rattle.model.specs.declared.Model.{Model}
-use Rattle.model.specs.Values.{noStatement, noModel, withHead, withSegment}
+use Rattle.model.specs.Values.{noStatement, noModel, withHead, withSegment, withStart}
 use Rattle.tables.specs.Conflict.{conflict, mark, marksOf, noMarks, markAt}
-use Rattle.tables.specs.Distance.{goesTo, stepOf, edge, cut, cell, rounds, distanceOf}
+use Rattle.tables.specs.Distance.{goesTo, stepOf, edge, cut, distanceOf}
 use Rattle.tables.specs.Word.{allOnes, wordOf, boundOf, wordsOf, stored, distanceIn}
+use Rattle.tables.specs.Outcome.{conflictNumber, conflictMarks, distancesNumber, distancesBuffer}
 use Rattle.tables.proofs.Computed.{computed}
 
 -- SMALL MODELS
@@ -277,3 +277,46 @@ pub distanceIn-places :
     (distanceIn (wait 7) (0 ∷ 7168 ∷ 9217 ∷ 0 ∷ []) 1 0 ≡ boundAt 9 1)
 unfolding wait modelOf withSegments computed
 distanceIn-places = (refl, refl)
+
+-- NUMBERS
+
+-- a model that keeps the file rules: one segment that ends, one thread
+unfoldable pub kept : ℕ → Model
+kept h = withStart (withSegments (withHead noModel h 0 0) (closing End ∷ [])) (record { first = 0 })
+
+-- "the tables refuse a held model with 11 if the file rules would refuse it": H = 0, no horizon
+pub conflictNumber-edges : (conflictNumber (kept 0) ≡ 11) × (conflictNumber (kept 1) ≡ 0)
+unfolding kept withSegments computed
+conflictNumber-edges = (refl, refl)
+
+-- the marks of one segment that writes: set, or all unset where the number is not 0
+unfoldable pub writer : ℕ → Model
+writer h = withStart (withSegments (withHead noModel h 1 0) (doing (Set 0 0) End ∷ [])) (record { first = 0 })
+
+pub conflictMarks-edges : (markAt (conflictMarks (writer 1)) 0 0 ≡ true) × (markAt (conflictMarks (writer 0)) 0 0 ≡ false) × (length (conflictMarks (writer 0)) ≡ 64)
+unfolding writer withSegments computed
+conflictMarks-edges = (refl, refl, refl)
+
+-- 16, "table buffer below N × N words": none and one; 11 "before 16"
+pub distancesNumber-edges :
+    (distancesNumber (kept 1) [] ≡ 16) ×
+    (distancesNumber (kept 1) (5 ∷ []) ≡ 0) ×
+    (distancesNumber (kept 0) [] ≡ 11) ×
+    (distancesNumber (kept 0) (5 ∷ []) ≡ 11)
+unfolding kept withSegments computed
+distancesNumber-edges = (refl, refl, refl, refl)
+
+-- "the table buffer is not written" on a refusal
+unfoldable pub two : ℕ → Model
+two h = withStart (withSegments (withHead noModel h 0 0) (closing (units 7 (onward 1)) ∷ closing End ∷ [])) (record { first = 0 })
+
+pub distancesBuffer-edges :
+    (distancesBuffer (two 1) (5 ∷ 6 ∷ 7 ∷ []) ≡ 5 ∷ 6 ∷ 7 ∷ []) ×
+    (distancesBuffer (two 0) (5 ∷ 6 ∷ 7 ∷ 8 ∷ 9 ∷ []) ≡ 5 ∷ 6 ∷ 7 ∷ 8 ∷ 9 ∷ []) ×
+    (distancesBuffer (two 1) (5 ∷ 6 ∷ 7 ∷ 8 ∷ 9 ∷ []) ≡ 0 ∷ 7168 ∷ allOnes ∷ 0 ∷ 9 ∷ [])
+unfolding two withSegments computed
+distancesBuffer-edges = (refl, refl, refl)
+
+pub distancesNumber-two : (distancesNumber (two 1) (5 ∷ 6 ∷ 7 ∷ []) ≡ 16) × (distancesNumber (two 1) (5 ∷ 6 ∷ 7 ∷ 8 ∷ []) ≡ 0)
+unfolding two withSegments computed
+distancesNumber-two = (refl, refl)

@@ -1,3 +1,4 @@
 pub mod Conflict
 pub mod Distance
 pub mod Word
+pub mod Outcome
