@@ -30,6 +30,10 @@ pub false→T : (b : Bool) → b ≡ false → T (not b)
 false→T true e = absurd (subst T e tt)
 false→T false e = tt
 
+pub not-not : (b : Bool) → T (not (not b)) → T b
+not-not true t = tt
+not-not false t = absurd t
+
 pub and→both : (a b : Bool) → T (a && b) → T a × T b
 and→both true b t = (tt, t)
 and→both false b t = absurd t

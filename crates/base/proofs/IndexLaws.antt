@@ -111,3 +111,23 @@ find-below (suc n) P d = go (d n) (find-below n P d)
         last : (i : ℕ) → i < suc n → P i → Dec (i ≡ n) → ⊥
         last i h q (yes e) = p (rw e at q)
         last i h q (no e) = f i (omega arith) q
+
+-- the first index below n at which P holds
+pub record FirstOf (n : ℕ) (P : ℕ → Type 0) : Type 0 where
+  pub index : ℕ
+  pub below : index < n
+  pub holds : P index
+  pub first : (j : ℕ) → j < index → P j → ⊥
+
+pub find-first : (n : ℕ) (P : ℕ → Type 0) → ((i : ℕ) → Dec (P i)) → FirstOf n P ⊎ ((i : ℕ) → i < n → P i → ⊥)
+find-first zero P d = inr (λ i h p. omega arith)
+find-first (suc n) P d = go (find-first n P d) (d n)
+  where
+    go : FirstOf n P ⊎ ((i : ℕ) → i < n → P i → ⊥) → Dec (P n) → FirstOf (suc n) P ⊎ ((i : ℕ) → i < suc n → P i → ⊥)
+    go (inl f) _ = inl (record { index = f .index; below = omega (arith, f .below); holds = f .holds; first = f .first })
+    go (inr none) (yes p) = inl (record { index = n; below = omega arith; holds = p; first = λ j h. none j h })
+    go (inr none) (no p) = inr (λ i h q. last i h q (ℕ-discrete i n))
+      where
+        last : (i : ℕ) → i < suc n → P i → Dec (i ≡ n) → ⊥
+        last i h q (yes e) = p (rw e at q)
+        last i h q (no e) = none i (omega arith) q

@@ -1,4 +1,5 @@
 pub mod BoolLaws
 pub mod IndexLaws
 pub mod ListLaws
+pub mod PigeonLaws
 pub mod Computed

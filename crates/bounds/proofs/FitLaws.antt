@@ -3,7 +3,7 @@
 use Prim.Native.Nat.{ℕ, _<_, _≤_, _*_, _/_}
 use mathlib.Core.Path.{_≡_, refl, sym, _∙_, subst}
 use mathlib.Core.Logic.{_⊎_, inl, inr}
-use mathlib.Core.Bool.{Bool, true, false, not, _&&_, _||_}
+use mathlib.Core.Bool.{Bool, false, not, _&&_, _||_}
 use mathlib.Core.List.{List}
 use native.Mathlib.Omega.{arith}
 use lib.Dec.{T, ltb, leb, eqb, T-not, not-T, ltb→lt, lt→ltb, nltb→le, leb→le, le→leb, eqb→eq}
@@ -11,7 +11,7 @@ use lib.ListN.{length, getD, length-take, List·getD-append}
 use lib.Seq.{getD-take}
 use borrow.Author.Tests.{le-ltb, eq-eqb}
 use Rattle.base.specs.Index.{anyBelow}
-use Rattle.base.proofs.BoolLaws.{T→false, false→T, and→both, both→and, or→either, either→or, not-or→both, eq→eqb}
+use Rattle.base.proofs.BoolLaws.{T→false, false→T, not-not, and→both, both→and, or→either, either→or, not-or→both, eq→eqb}
 use Rattle.base.proofs.IndexLaws.{anyBelow-none, anyBelow-some}
 use Rattle.clock.specs.declared.Cycle.{Cycle}
 use Rattle.clock.specs.Cycle.{cycleAt}
@@ -127,11 +127,7 @@ module _ (a b n : ℕ) (f : ℕ → Bool) where
   within→ : (ltb a b || anyBelow n (λ i. not (f i))) ≡ false → (b ≤ a) × ((i : ℕ) → i < n → T (f i))
   within→ e =
       let (p, q) = not-or→both (ltb a b) (anyBelow n (λ i. not (f i))) (false→T (ltb a b || anyBelow n (λ i. not (f i))) e) in
-      (nltb→le a b p, λ i h. twice (f i) (anyBelow-none n (λ i. not (f i)) q i h))
-    where
-      twice : (x : Bool) → T (not (not x)) → T x
-      twice true t = tt
-      twice false t = absurd t
+      (nltb→le a b p, λ i h. not-not (f i) (anyBelow-none n (λ i. not (f i)) q i h))
 
   →within : b ≤ a → ((i : ℕ) → i < n → T (f i)) → (ltb a b || anyBelow n (λ i. not (f i))) ≡ false
   →within h all = rw (le-ltb a b h) (T→false (anyBelow n (λ i. not (f i))) (not-T (anyBelow n (λ i. not (f i))) none))
@@ -191,12 +187,8 @@ isUnfit→ m ws site ts e =
       words = T→false (isUnfitWords m ws) d;
     }
   where
-    twice : (x : Bool) → T (not (not x)) → T x
-    twice true t = tt
-    twice false t = absurd t
-
     sound : (n : ℕ) → T (not (not (eqb n accepted))) → n ≡ accepted
-    sound n t = eqb→eq n accepted (twice (eqb n accepted) t)
+    sound n t = eqb→eq n accepted (not-not (eqb n accepted) t)
 
 pub →isUnfit : (m : Model) (ws : List ℕ) (site : Site) (ts : List Thread) → Fit m ws site ts → isUnfit m ws site ts ≡ false
 unfolding isUnfit

@@ -6,7 +6,6 @@ use mathlib.Core.Bool.{false, _&&_, _||_}
 use mathlib.Core.List.{List, _∷_}
 use lib.Dec.{T, ltb, nltb→le}
 use lib.ListN.{length, length-set}
-use lib.Seq.{getD-set-same, getD-set-other}
 use borrow.Author.Tests.{le-ltb, eq-eqb, ne-eqb}
 use Rattle.base.proofs.BoolLaws.{T→true, T→false, false→T, not-or→both}
 use Rattle.clock.specs.declared.Cycle.{Cycle}
@@ -16,10 +15,11 @@ use Rattle.clock.specs.Order.{_≼_}
 use Rattle.clock.proofs.LeastLaws.{≼→not-isBoundBefore}
 use Rattle.model.specs.declared.Model.{Model}
 use Rattle.model.specs.declared.Thread.{Thread}
-use Rattle.model.specs.Record.{noThread, threadAt, nothing, awaitedBy}
+use Rattle.model.specs.Record.{threadAt, nothing, awaitedBy}
 use Rattle.machine.proofs.FrameLaws.{notified-listed}
 use Rattle.plain.specs.Wake.{floorOf}
 use Rattle.plain.specs.History.{ran}
+use Rattle.cycles.proofs.RecordLaws.{threadAt-set, threadAt-other}
 use Rattle.early.specs.declared.Site.{Site}
 use Rattle.early.specs.Log.{places, logOf, withPairs, dropBefore, countedPlaces}
 use Rattle.early.specs.Deliver.{settledItems}
@@ -38,12 +38,12 @@ module _ (m : Model) (site : Site) (ts : List Thread) (k : ℕ) (c : Cycle) wher
   -- "its closer is applied at its cycle"
 
   pub closedThreads-self : k < length ts → threadAt (closedThreads m site ts k c) k ≡ effectAt m site ts k c .thread
-  unfolding closedThreads threadAt
-  closedThreads-self h = getD-set-same ts k (effectAt m site ts k c .thread) noThread h
+  unfolding closedThreads
+  closedThreads-self h = threadAt-set ts k (effectAt m site ts k c .thread) h
 
   pub closedThreads-other : (j : ℕ) → (j ≡ k → ⊥) → threadAt (closedThreads m site ts k c) j ≡ threadAt ts j
-  unfolding closedThreads threadAt
-  closedThreads-other j other = getD-set-other ts k j (effectAt m site ts k c .thread) noThread other
+  unfolding closedThreads
+  closedThreads-other j other = threadAt-other ts k j (effectAt m site ts k c .thread) other
 
   pub closedThreads-length : length (closedThreads m site ts k c) ≡ length ts
   unfolding closedThreads

@@ -20,17 +20,17 @@ use Rattle.clock.proofs.WaitLaws.{waitEnds-advance}
 use Rattle.model.specs.declared.Model.{Model}
 use Rattle.model.specs.declared.State.the-variants.{Overrun, Ready}
 use Rattle.model.specs.declared.Thread.{Thread}
-use Rattle.model.specs.Record.{threadAt, Awaited, nothing, awaits, awaitedBy, stateAfter}
+use Rattle.model.specs.Record.{threadAt, nothing, awaitedBy, stateAfter}
 use Rattle.tables.specs.Word.{distanceIn}
 use Rattle.early.specs.declared.Notification.{Notification}
 use Rattle.early.specs.Log.{leastHeard}
-use Rattle.early.specs.Earliest.{sourceOf, soonestNotify, linkTo, Chain, source, link}
+use Rattle.early.specs.Earliest.{sourceOf, linkTo, Chain, source, link}
 use Rattle.early.specs.Forecast.{forecastOf}
 use Rattle.early.specs.Deliver.{heardNow, lookedAt}
-use Rattle.bounds.proofs.LinkLaws.{sourceOf-ready, sourceOf-idle, soonestNotify-≼, soonestNotify-glb, linkTo-waiting, linkTo-other, linkTo-mono}
+use Rattle.bounds.proofs.LinkLaws.{sourceOf-ready, sourceOf-idle, linkTo-other, linkTo-mono, linkTo-rises}
 use Rattle.bounds.proofs.EarliestLaws.{earliestAt, chain-below, earliest-≼, earliest-glb, earliest-relaxed}
 use Rattle.bounds.proofs.ForecastLaws.{forecast-below, forecast-glb, earliest-waiting}
-use Rattle.bounds.proofs.LookLaws.{heardAt, awaits→state, heardNow-at, heardNow-some, heardAt-waits, lookedAt-none, lookedAt-other, lookedAt-self, lookedAt-segment, lookedAt-live, lookedAt-deaf, Looked, unheard, hears, looked}
+use Rattle.bounds.proofs.LookLaws.{heardAt, heardNow-at, heardNow-some, heardAt-waits, lookedAt-none, lookedAt-other, lookedAt-self, lookedAt-segment, lookedAt-live, lookedAt-deaf, Looked, unheard, hears, looked}
 
 module _ (m : Model) (ws : List ℕ) (l : List Notification) (ts : List Thread) (k : ℕ) (h : k < m .t) where
   -- the records after the look
@@ -65,39 +65,21 @@ module _ (m : Model) (ws : List ℕ) (l : List Notification) (ts : List Thread) 
   link-rises : (j i : ℕ) (x : Bound) → linkTo m ws ts j i x ≼ linkTo m ws us j i x
   link-rises j i x = go (looked m ws l ts k) (ℕ-discrete i k)
     where
-      notify : (e : ℕ) → soonestNotify m ws ts j x e ≼ soonestNotify m ws us j x e
-      notify e =
-          soonestNotify-glb
-          m
-          ws
-          us
-          j
-          (soonestNotify m ws ts j x e)
-          x
-          e
-          (λ s live p t.
-          subst
-          (λ (r : ℕ). soonestNotify m ws ts j x e ≼ x ⊕ distanceIn m ws r s)
-          (sym (lookedAt-segment m ws l ts k j))
-          (soonestNotify-≼ m ws ts j x e s (lookedAt-live m ws l ts k j live) p t))
-
-      same : (a : Awaited) → awaitedBy (threadAt us i .state) ≡ a → awaitedBy (threadAt ts i .state) ≡ a → linkTo m ws ts j i x ≼ linkTo m ws us j i x
-      same nothing p q = rw (linkTo-other m ws us j i x p) tt
-      same (awaits e since) p q =
-          rw (
-            linkTo-waiting m ws us j i e since x (awaits→state (threadAt us i .state) e since p),
-            linkTo-waiting m ws ts j i e since x (awaits→state (threadAt ts i .state) e since q),
-          )
-          (⊕-mono (soonestNotify m ws ts j x e) (soonestNotify m ws us j x e) oneDelta oneDelta (notify e) (≼-refl oneDelta))
-
       go : Looked m ws l ts k → Dec (i ≡ k) → linkTo m ws ts j i x ≼ linkTo m ws us j i x
       go (unheard e) d = rw (lookedAt-none m ws l ts k e) (≼-refl (linkTo m ws ts j i x))
       go (hears y e) (yes f) = rw (linkTo-other m ws us j i x (subst (λ (a : ℕ). awaitedBy (threadAt us a .state) ≡ nothing) (sym f) (lookedAt-deaf m ws l ts k y e))) tt
       go (hears y e) (no f) =
-          same
-          (awaitedBy (threadAt ts i .state))
+          linkTo-rises
+          m
+          ws
+          ts
+          us
+          j
+          i
+          x
+          (lookedAt-segment m ws l ts k j)
+          (lookedAt-live m ws l ts k j)
           (ap (λ (t : Thread). awaitedBy (t .state)) (lookedAt-other m ws l ts k i f))
-          refl
 
   source-rises : (i : ℕ) → i < m .t → earliestAt m ws l ts i ≼ sourceOf l (threadAt us i .state)
   source-rises i p = go (looked m ws l ts k) (ℕ-discrete i k)

@@ -1,7 +1,7 @@
 -- Where the thread that hears does not overrun, no bound changes at all: it is ready at exactly the cycle that its earliest was, and the chains
 -- of before the look lead no sooner after it. With `HearLaws`: bounds change only where a thread overruns on hearing, and then they rise.
 use Prim.Native.Nat.{ℕ, _<_}
-use mathlib.Core.Path.{_≡_, refl, ap, sym, _∙_, subst}
+use mathlib.Core.Path.{_≡_, ap, sym, _∙_, subst}
 use mathlib.Core.List.{List}
 use native.Mathlib.Decide.{ℕ-discrete}
 use lib.Dec.{T}
@@ -11,22 +11,21 @@ use Rattle.clock.specs.declared.Step.the-variants as step
 use Rattle.clock.specs.declared.Bound.{Bound}
 use Rattle.clock.specs.declared.Bound.the-variants.{At}
 use Rattle.clock.specs.Wait.{waitEnds}
-use Rattle.clock.specs.Advance.{_⊕_, oneDelta}
+use Rattle.clock.specs.Advance.{_⊕_}
 use Rattle.clock.specs.Order.{_≼_}
-use Rattle.clock.proofs.OrderLaws.{≼-refl, ≼-trans, ≼-antisym}
-use Rattle.clock.proofs.AdvanceLaws.{⊕-mono, advanceOf-Event}
+use Rattle.clock.proofs.OrderLaws.{≼-trans, ≼-antisym}
+use Rattle.clock.proofs.AdvanceLaws.{advanceOf-Event}
 use Rattle.clock.proofs.WaitLaws.{waitEnds-advance}
 use Rattle.model.specs.declared.Model.{Model}
 use Rattle.model.specs.declared.State.the-variants.{Ready}
 use Rattle.model.specs.declared.Thread.{Thread}
-use Rattle.model.specs.Record.{threadAt, isLive, Awaited, nothing, awaits, awaitedBy, stateAfter}
-use Rattle.tables.specs.Word.{distanceIn}
+use Rattle.model.specs.Record.{threadAt, isLive, awaitedBy, stateAfter}
 use Rattle.early.specs.declared.Notification.{Notification}
-use Rattle.early.specs.Earliest.{sourceOf, soonestNotify, linkTo, Chain, source, link}
+use Rattle.early.specs.Earliest.{sourceOf, linkTo, Chain, source, link}
 use Rattle.early.specs.Deliver.{lookedAt}
-use Rattle.bounds.proofs.LinkLaws.{soonestNotify-≼, soonestNotify-glb, linkTo-waiting, linkTo-other, linkTo-mono}
+use Rattle.bounds.proofs.LinkLaws.{linkTo-mono, linkTo-rises}
 use Rattle.bounds.proofs.EarliestLaws.{earliestAt, chain-below, earliest-≼, earliest-glb, earliest-relaxed, earliest-ready}
-use Rattle.bounds.proofs.LookLaws.{heardAt, awaits→state, lookedAt-other, lookedAt-self, lookedAt-segment}
+use Rattle.bounds.proofs.LookLaws.{heardAt, lookedAt-other, lookedAt-self, lookedAt-segment}
 use Rattle.bounds.proofs.HearLaws.{heard-earliest, earliest-rises}
 
 -- thread k hears x and is ready at d; the records after the look
@@ -52,34 +51,18 @@ module _ (m : Model) (ws : List ℕ) (l : List Notification) (ts : List Thread) 
       go (no f) = rw (lookedAt-other m ws l ts k j f) t
 
   link-falls : (j i : ℕ) (y : Bound) → (i ≡ k → ⊥) → linkTo m ws us j i y ≼ linkTo m ws ts j i y
-  link-falls j i y other = go (awaitedBy (threadAt ts i .state)) refl
-    where
-      notify : (a : ℕ) → soonestNotify m ws us j y a ≼ soonestNotify m ws ts j y a
-      notify a =
-          soonestNotify-glb
-          m
-          ws
-          ts
-          j
-          (soonestNotify m ws us j y a)
-          y
-          a
-          (λ s live q t.
-          subst
-          (λ (r : ℕ). soonestNotify m ws us j y a ≼ y ⊕ distanceIn m ws r s)
-          (lookedAt-segment m ws l ts k j)
-          (soonestNotify-≼ m ws us j y a s (live-kept j live) q t))
-
-      same : threadAt us i ≡ threadAt ts i
-      same = lookedAt-other m ws l ts k i other
-
-      go : (a : Awaited) → awaitedBy (threadAt ts i .state) ≡ a → linkTo m ws us j i y ≼ linkTo m ws ts j i y
-      go nothing f = rw (linkTo-other m ws ts j i y f) tt
-      go (awaits a since) f =
-          let w = awaits→state (threadAt ts i .state) a since f in
-          rw
-          (linkTo-waiting m ws ts j i a since y w, linkTo-waiting m ws us j i a since y (ap (λ (t : Thread). t .state) same ∙ w))
-          (⊕-mono (soonestNotify m ws us j y a) (soonestNotify m ws ts j y a) oneDelta oneDelta (notify a) (≼-refl oneDelta))
+  link-falls j i y other =
+      linkTo-rises
+      m
+      ws
+      us
+      ts
+      j
+      i
+      y
+      (sym (lookedAt-segment m ws l ts k j))
+      (live-kept j)
+      (ap (λ (t : Thread). awaitedBy (t .state)) (sym (lookedAt-other m ws l ts k i other)))
 
   chain-falls : {i : ℕ} {y : Bound} → Chain m ws l ts i y → earliestAt m ws l us i ≼ y
   chain-falls (source {k = i} q) = go (ℕ-discrete i k)

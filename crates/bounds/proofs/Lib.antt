@@ -1,4 +1,3 @@
-pub mod PigeonLaws
 pub mod LogLaws
 pub mod OnceLaws
 pub mod RoomLaws

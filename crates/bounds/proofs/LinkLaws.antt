@@ -205,3 +205,33 @@ module _ (m : Model) (ws : List ℕ) (ts : List Thread) (j k : ℕ) where
       go (At b) p =
           let (d, e, l) = linkTo-from x b p in
           rw e (λ h. Before→not-⊑ l h)
+
+-- Of two lists of records in which thread k waits on the same and thread j is in the same segment: a link from j to k is no sooner
+-- in the one in which j is live only if it is so in the other.
+pub linkTo-rises : (m : Model) (ws : List ℕ) (ts us : List Thread) (j k : ℕ) (x : Bound)
+    → threadAt us j .segment ≡ threadAt ts j .segment → (T (isLive (threadAt us j .state)) → T (isLive (threadAt ts j .state)))
+    → awaitedBy (threadAt us k .state) ≡ awaitedBy (threadAt ts k .state)
+    → linkTo m ws ts j k x ≼ linkTo m ws us j k x
+unfolding linkTo afterNotify
+linkTo-rises m ws ts us j k x segment live waits = rw waits (go (awaitedBy (threadAt ts k .state)))
+  where
+    notify : (e : ℕ) → soonestNotify m ws ts j x e ≼ soonestNotify m ws us j x e
+    notify e =
+        soonestNotify-glb
+        m
+        ws
+        us
+        j
+        (soonestNotify m ws ts j x e)
+        x
+        e
+        (λ s t h u.
+        subst
+        (λ (r : ℕ). soonestNotify m ws ts j x e ≼ x ⊕ distanceIn m ws r s)
+        (sym segment)
+        (soonestNotify-≼ m ws ts j x e s (live t) h u))
+
+    go : (a : Awaited) → afterNotify m ws ts j x a ≼ afterNotify m ws us j x a
+    go nothing = tt
+    go (awaits e since) =
+        ⊕-mono (soonestNotify m ws ts j x e) (soonestNotify m ws us j x e) oneDelta oneDelta (notify e) (≼-refl oneDelta)

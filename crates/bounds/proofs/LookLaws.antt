@@ -6,8 +6,8 @@ use mathlib.Core.List.{List, [], _∷_}
 use native.Mathlib.Omega.{arith}
 use native.Mathlib.Decide.{decLt, ℕ-discrete}
 use lib.Dec.{T, eqb}
-use lib.ListN.{length, set, length-set, List·getD-eq-default}
-use lib.Seq.{getD-set-same, getD-set-other, set-getD}
+use lib.ListN.{length, set, length-set}
+use lib.Seq.{set-getD}
 use borrow.Author.Tests.{eq-eqb, ne-eqb}
 use Rattle.base.proofs.BoolLaws.{cond-case, T→false}
 use Rattle.clock.specs.declared.Cycle.{Cycle}
@@ -26,6 +26,7 @@ use Rattle.model.specs.declared.State.the-variants.{Ended, Overrun, Ready, Wait
 use Rattle.model.specs.declared.Thread.{Thread}
 use Rattle.model.specs.Record.{noThread, threadAt, isLive, Awaited, nothing, awaits, awaitedBy, stateAfter}
 use Rattle.plain.specs.History.{Item, heard, heardItem}
+use Rattle.cycles.proofs.RecordLaws.{threadAt-set, threadAt-other, threadAt-past}
 use Rattle.early.specs.declared.Notification.{Notification}
 use Rattle.early.specs.Log.{leastHeard}
 use Rattle.early.specs.Forecast.{forecastOf}
@@ -82,13 +83,13 @@ module _ (m : Model) (ws : List ℕ) (l : List Notification) (ts : List Thread) 
       go (awaits e since) w q = (e, since, awaits→state (threadAt ts k .state) e since w, q)
 
   pub heardAt-lent : (k : ℕ) (x : Cycle) → heardAt m ws l ts k ≡ At x → k < length ts
-  unfolding heardNow threadAt
+  unfolding heardNow
   heardAt-lent k x p = go (decLt k (length ts))
     where
       go : Dec (k < length ts) → k < length ts
       go (yes h) = h
       go (no h) =
-          let none : heardAt m ws l ts k ≡ Never = rw (List·getD-eq-default ts noThread {n = k} (omega arith)) refl in
+          let none : heardAt m ws l ts k ≡ Never = rw (threadAt-past ts k (omega arith)) refl in
           let z : _≡_ {A = ℕ} 0 1 = cc in
           absurd (omega arith)
 
@@ -112,13 +113,12 @@ module _ (m : Model) (ws : List ℕ) (l : List Notification) (ts : List Thread) 
   lookedAt-length k = simp length-set
 
   pub lookedAt-other : (k j : ℕ) → (j ≡ k → ⊥) → threadAt (lookedAt m ws l ts k) j ≡ threadAt ts j
-  unfolding lookedAt threadAt
+  unfolding lookedAt
   lookedAt-other k j other =
-      getD-set-other ts k j (record { segment = threadAt ts k .segment; state = afterHearing (heardAt m ws l ts k) (threadAt ts k .state) }) noThread other
+      threadAt-other ts k j (record { segment = threadAt ts k .segment; state = afterHearing (heardAt m ws l ts k) (threadAt ts k .state) }) other
 
   pub lookedAt-self : (k : ℕ) (x : Cycle) → heardAt m ws l ts k ≡ At x → threadAt (lookedAt m ws l ts k) k ≡ heardThread x (threadAt ts k)
-  unfolding threadAt
-  lookedAt-self k x e = rw (lookedAt-heard k x e) (getD-set-same ts k (heardThread x (threadAt ts k)) noThread (heardAt-lent k x e))
+  lookedAt-self k x e = rw (lookedAt-heard k x e) (threadAt-set ts k (heardThread x (threadAt ts k)) (heardAt-lent k x e))
 
   -- by cases: a look changes nothing, or its thread alone
   pub data Looked (k : ℕ) : Type 0 where

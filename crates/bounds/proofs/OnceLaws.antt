@@ -1,22 +1,23 @@
 -- "An equal pair held once": a log that holds no pair twice stays so, through new pairs and drops.
--- So at one cycle it holds at most as many pairs as there are events.
+-- So at one cycle it holds at most as many pairs as there are events, and it is no longer than a log in which all its pairs stand.
 use Prim.Native.Nat.{ℕ, zero, suc, _+_, _≤_, _<_}
-use mathlib.Core.Path.{_≡_, refl, sym, _∙_, subst}
+use mathlib.Core.Path.{_≡_, refl, ap, sym, _∙_, subst}
 use mathlib.Core.Logic.{_⊎_, inl, inr}
-use mathlib.Core.List.{List, [], _∷_, _++_, List·Memᴰ·head, List·Memᴰ·tail, List·Memᴰ·not-nil, List·Memᴰ·append-cases, List·Memᴰ·eq-of-singleton}
+use mathlib.Core.List.{List, [], _∷_, _++_, List·Memᴰ·head, List·Memᴰ·tail, List·Memᴰ·not-nil, List·Memᴰ·cases-cons, List·Memᴰ·append-cases, List·Memᴰ·eq-of-singleton}
 use native.Mathlib.Nat.{le-of-suc-le-suc}
 use native.Mathlib.Omega.{arith}
 use native.Mathlib.Decide.{decLe}
-use lib.Dec.{T-not}
+use lib.Dec.{T, T-not}
 use lib.ListN.{length, getD, length-append}
 use Rattle.base.proofs.BoolLaws.{cond-case}
+use Rattle.base.proofs.PigeonLaws.{Twice, pigeon}
 use Rattle.clock.specs.declared.Cycle.{Cycle}
 use Rattle.clock.specs.declared.Bound.{Bound}
 use Rattle.clock.specs.Cycle.{cycleAt}
+use Rattle.model.specs.Footprint.{has}
 use Rattle.early.specs.declared.Notification.{Notification}
 use Rattle.early.specs.Log.{pairOf, holds, withPair, withPairs, isDropped, dropBefore}
-use Rattle.bounds.proofs.PigeonLaws.{Twice, pigeon}
-use Rattle.bounds.proofs.LogLaws.{In, pair-path, In→holds, dropBefore-only}
+use Rattle.bounds.proofs.LogLaws.{In, pair-path, In→holds, withPairs-kept, withPairs-new, withPairs-only, dropBefore-only}
 
 -- no pair is held twice
 pub data Once : List Notification → Type 0 where
@@ -114,3 +115,51 @@ once-at-cycle n c l once all = go (decLe (length l) n)
     go : Dec (length l ≤ n) → length l ≤ n
     go (yes h) = h
     go (no h) = absurd (two (omega arith) (pigeon n (λ i. getD l i d .event) (λ i k. at i (omega arith) .0)))
+
+-- a log with one of its pairs taken out
+
+taken : {x : Notification} {l : List Notification} → In x l → List Notification
+taken (List·Memᴰ·head {xs = l} e) = l
+taken (List·Memᴰ·tail {x = y} h) = y ∷ taken h
+
+taken-length : {x : Notification} {l : List Notification} (h : In x l) → suc (length (taken h)) ≡ length l
+unfolding taken
+taken-length (List·Memᴰ·head e) = refl
+taken-length (List·Memᴰ·tail h) = ap suc (taken-length h)
+
+taken-other : {x : Notification} {l : List Notification} (h : In x l) (y : Notification) → (y ≡ x → ⊥) → In y l → In y (taken h)
+unfolding taken
+taken-other (List·Memᴰ·head {x = z} {xs = l} e) y other k = go (List·Memᴰ·cases-cons k)
+  where
+    go : (y ≡ z) ⊎ In y l → In y l
+    go (inl p) = absurd (other (p ∙ sym e))
+    go (inr q) = q
+taken-other (List·Memᴰ·tail {x = z} {xs = l} h) y other k = go (λ q. taken-other h y other q) (List·Memᴰ·cases-cons k)
+  where
+    go : (In y l → In y (taken h)) → (y ≡ z) ⊎ In y l → In y (z ∷ taken h)
+    go ih (inl p) = List·Memᴰ·head p
+    go ih (inr q) = List·Memᴰ·tail (ih q)
+
+-- By induction: the first pair stands in l, and the others, none of which is it, stand in l without it.
+pub once-length : {a : List Notification} → Once a → (l : List Notification) → ((x : Notification) → In x a → In x l) → length a ≤ length l
+once-length none l within = omega arith
+once-length (more {x = x} {l = a} apart rest) l within =
+    let h : In x l = within x (List·Memᴰ·head refl) in
+    let k =
+    once-length rest (taken h) (λ y j. taken-other h y (λ p. apart (subst (λ (z : Notification). In z a) p j)) (within y (List·Memᴰ·tail j)))
+    in
+    let e = taken-length h in
+    omega arith
+
+-- fewer events take fewer places
+pub withPairs-shorter : (l : List Notification) (c : Cycle) (es fs : List ℕ) → Once l → ((e : ℕ) → T (has es e) → T (has fs e)) → length (withPairs l c es) ≤ length (withPairs l c fs)
+withPairs-shorter l c es fs once within =
+    once-length (withPairs-once l c es once) (withPairs l c fs) (λ x h. go x (withPairs-only l c es h))
+  where
+    go : (x : Notification) → In x l ⊎ ((x .cycle ≡ c) × T (has es (x .event))) → In x (withPairs l c fs)
+    go x (inl h) = withPairs-kept l c fs h
+    go x (inr (p, t)) =
+        subst
+        (λ (d : Cycle). In (pairOf (x .event) d) (withPairs l c fs))
+        (sym p)
+        (withPairs-new l c fs (x .event) (within (x .event) t))

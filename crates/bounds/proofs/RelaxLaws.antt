@@ -10,13 +10,13 @@ use native.Mathlib.Decide.{ℕ-discrete}
 use lib.Dec.{T, eqb}
 use borrow.Author.Tests.{eq-eqb, ne-eqb}
 use Rattle.base.proofs.BoolLaws.{T-case}
+use Rattle.base.proofs.PigeonLaws.{Twice, pigeon}
 use Rattle.clock.specs.declared.Bound.{Bound}
 use Rattle.clock.specs.declared.Bound.the-variants.{Never}
 use Rattle.clock.specs.Advance.{isBoundBefore, least, leastBelow}
 use Rattle.clock.specs.Order.{_≼_}
 use Rattle.clock.proofs.OrderLaws.{≼-refl, ≼-trans, ≼-antisym, ≼-total}
 use Rattle.clock.proofs.LeastLaws.{isBoundBefore→, not-isBoundBefore→≼, least-left, least-right, least-one, leastBelow-≼, leastBelow-one}
-use Rattle.bounds.proofs.PigeonLaws.{Twice, pigeon}
 
 -- a is strictly sooner than b
 abbrev pub Sooner : Bound → Bound → Type 0

@@ -1,14 +1,14 @@
--- A request is refused, and then changes nothing, or is granted; and demand 2 as a sentence: on a fit state, for a thread ready before the
--- horizon and with places left, it is granted exactly where no hazard stands.
+-- A request is refused, and then changes nothing, or is granted; 11 is answered on an unfit state only; and demand 2 as a sentence: on a fit
+-- state, for a thread ready before the horizon and with places left, it is granted exactly where no hazard stands.
 use Prim.Native.Nat.{ℕ, _<_}
 use mathlib.Core.Path.{_≡_, refl, ap, sym, subst, fun-ext}
 use mathlib.Core.Logic.{_↔_}
 use mathlib.Core.Bool.{Bool, true, false, cond, not}
 use mathlib.Core.List.{List, [], _∷_, _++_, append-assoc, append-nil}
 use native.Mathlib.Omega.{arith}
-use lib.Dec.{T, ltb, ltb→lt}
+use lib.Dec.{T, ltb, ltb→lt, T-not}
 use borrow.Author.Tests.{lt-ltb}
-use Rattle.base.proofs.BoolLaws.{T→true, T→false}
+use Rattle.base.proofs.BoolLaws.{T→true, T→false, true→T, false→T, not-not}
 use Rattle.clock.specs.declared.Cycle.{Cycle}
 use Rattle.clock.specs.declared.Bound.{Bound}
 use Rattle.clock.specs.declared.Bound.the-variants.{Never, At}
@@ -19,7 +19,7 @@ use Rattle.model.specs.Limits.{isBeforeHorizon}
 use Rattle.model.specs.Record.{threadAt, readyCycle}
 use Rattle.plain.specs.History.{Item}
 use Rattle.early.specs.declared.Site.{Site}
-use Rattle.early.specs.declared.Answer.the-variants.{Granted}
+use Rattle.early.specs.declared.Answer.the-variants.{Granted, Refused}
 use Rattle.early.specs.Log.{logOf}
 use Rattle.early.specs.Hazard.{hazard}
 use Rattle.early.specs.Fit.{isUnfit}
@@ -38,7 +38,7 @@ module _ (m : Model) (marks : List (List Bool)) (ws : List ℕ) (site : Site) (t
 
   -- the answers, by case
   pub data Asked : Requested → Type 0 where
-    refused : (n : ℕ) → (n ≡ 0 → ⊥) → Asked (refusedWith n site ts)
+    refused : (n : ℕ) → (n ≡ 0 → ⊥) → (n ≡ unfit → isUnfit m ws site ts ≡ true) → Asked (refusedWith n site ts)
     granted : (c : Cycle) → Grantable c → Asked (grantedTo m ws site ts k c)
 
   cond-asked : (b : Bool) (x y : Requested) → (T b → Asked x) → (T (not b) → Asked y) → Asked (cond b x y)
@@ -52,39 +52,35 @@ module _ (m : Model) (marks : List (List Bool)) (ws : List ℕ) (site : Site) (t
       (isUnfit m ws site ts)
       (refusedWith unfit site ts)
       (requestFit m marks ws site ts k)
-      (λ t. refused unfit (λ e. omega arith))
+      (λ t. refused unfit (λ e. omega arith) (λ e. T→true (isUnfit m ws site ts) t))
       (λ t.
       cond-asked
       (not (ltb k (m .t)))
       (refusedWith wrongThread site ts)
       (requestAt m marks ws site ts k (readyCycle (threadAt ts k .state)))
-      (λ u. refused wrongThread (λ e. omega arith))
-      (λ u. at t (twice (ltb k (m .t)) u) (readyCycle (threadAt ts k .state)) refl))
+      (λ u. refused wrongThread (λ e. omega arith) (λ e. absurd (omega arith)))
+      (λ u. at t (not-not (ltb k (m .t)) u) (readyCycle (threadAt ts k .state)) refl))
     where
-      twice : (b : Bool) → T (not (not b)) → T b
-      twice true t = tt
-      twice false t = absurd t
-
       at : T (not (isUnfit m ws site ts)) → T (ltb k (m .t)) → (b : Bound) → readyCycle (threadAt ts k .state) ≡ b → Asked (requestAt m marks ws site ts k b)
-      at t u Never e = refused notReady (λ e. omega arith)
+      at t u Never e = refused notReady (λ e. omega arith) (λ e. absurd (omega arith))
       at t u (At c) e =
           cond-asked
           (not (isBeforeHorizon m c))
           (refusedWith atHorizon site ts)
           (cond (hazard m marks ws (logOf site) ts k c) (refusedWith hazardStands site ts) (cond (isFull m site ts k c) (refusedWith logFull site ts) (grantedTo m ws site ts k c)))
-          (λ a. refused atHorizon (λ e. omega arith))
+          (λ a. refused atHorizon (λ e. omega arith) (λ e. absurd (omega arith)))
           (λ a.
           cond-asked
           (hazard m marks ws (logOf site) ts k c)
           (refusedWith hazardStands site ts)
           (cond (isFull m site ts k c) (refusedWith logFull site ts) (grantedTo m ws site ts k c))
-          (λ b. refused hazardStands (λ e. omega arith))
+          (λ b. refused hazardStands (λ e. omega arith) (λ e. absurd (omega arith)))
           (λ b.
           cond-asked
           (isFull m site ts k c)
           (refusedWith logFull site ts)
           (grantedTo m ws site ts k c)
-          (λ d. refused logFull (λ e. omega arith))
+          (λ d. refused logFull (λ e. omega arith) (λ e. absurd (omega arith)))
           (λ d.
           granted
           c
@@ -92,7 +88,7 @@ module _ (m : Model) (marks : List (List Bool)) (ws : List ℕ) (site : Site) (t
             fit = T→false (isUnfit m ws site ts) t;
             thread = ltb→lt k (m .t) u;
             ready = e;
-            before-horizon = T→true (isBeforeHorizon m c) (twice (isBeforeHorizon m c) a);
+            before-horizon = T→true (isBeforeHorizon m c) (not-not (isBeforeHorizon m c) a);
             no-hazard = T→false (hazard m marks ws (logOf site) ts k c) b;
             room = T→false (isFull m site ts k c) d;
           }))))
@@ -104,8 +100,17 @@ module _ (m : Model) (marks : List (List Bool)) (ws : List ℕ) (site : Site) (t
   requestOf-refused other = go requestOf-asked other
     where
       go : {r : Requested} → Asked r → (numberOf (r .answer) ≡ 0 → ⊥) → (r .site ≡ site) × (r .threads ≡ ts) × ((j : ℕ) → r .items j ≡ [])
-      go (refused n h) f = (refl, refl, λ j. refl)
+      go (refused n h u) f = (refl, refl, λ j. refl)
       go (granted c g) f = absurd (f refl)
+
+  -- on a fit state no request answers 11
+  pub requestOf-fit : isUnfit m ws site ts ≡ false → requestOf m marks ws site ts k .answer ≡ Refused unfit → ⊥
+  unfolding grantedTo
+  requestOf-fit fit e = T-not (isUnfit m ws site ts) (false→T (isUnfit m ws site ts) fit) (true→T (isUnfit m ws site ts) (go requestOf-asked e))
+    where
+      go : {r : Requested} → Asked r → r .answer ≡ Refused unfit → isUnfit m ws site ts ≡ true
+      go (refused n h u) f = u (cc)
+      go (granted c g) f = let z : _≡_ {A = ℕ} 0 1 = cc in absurd (omega arith)
 
   pub requestOf-granted : (c : Cycle) → Grantable c → requestOf m marks ws site ts k ≡ grantedTo m ws site ts k c
   unfolding requestOf requestFit requestAt
@@ -117,7 +122,7 @@ module _ (m : Model) (marks : List (List Bool)) (ws : List ℕ) (site : Site) (t
   granted→ s c e = go requestOf-asked e
     where
       go : {r : Requested} → Asked r → r .answer ≡ Granted s c → (s ≡ threadAt ts k .segment) × Grantable c
-      go (refused n h) f = let z : _≡_ {A = ℕ} 0 1 = cc in absurd (omega arith)
+      go (refused n h u) f = let z : _≡_ {A = ℕ} 0 1 = cc in absurd (omega arith)
       go (granted d g) f =
           let same : d ≡ c = cc in
           ((cc), subst Grantable same g)
@@ -152,3 +157,12 @@ module _ (m : Model) (marks : List (List Bool)) (ws : List ℕ) (P : Site → Li
         (P (r .site) (r .threads))
         (fun-ext (λ j. append-assoc (is j) (a .items j) (r .history j)))
         (requestsOf-carries ks (a .site) (a .threads) (λ j. is j ++ a .items j) (each site ts is k p))
+
+-- one list after another
+pub requestsOf-append : (m : Model) (marks : List (List Bool)) (ws : List ℕ) (ks more : List ℕ) (site : Site) (ts : List Thread)
+    → requestsOf m marks ws site ts (ks ++ more) .threads
+    ≡ requestsOf m marks ws (requestsOf m marks ws site ts ks .site) (requestsOf m marks ws site ts ks .threads) more .threads
+unfolding requestsOf
+requestsOf-append m marks ws [] more site ts = refl
+requestsOf-append m marks ws (k ∷ ks) more site ts =
+    requestsOf-append m marks ws ks more (requestOf m marks ws site ts k .site) (requestOf m marks ws site ts k .threads)

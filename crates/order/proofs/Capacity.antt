@@ -21,10 +21,8 @@ use Rattle.model.specs.Footprint.{has}
 use Rattle.early.specs.declared.Notification.{Notification}
 use Rattle.early.specs.Log.{places, withPairs, dropBefore}
 use Rattle.early.specs.Request.{earlyPlaces}
-use Rattle.bounds.proofs.OnceLaws.{dropBefore-length}
+use Rattle.bounds.proofs.OnceLaws.{Once, dropBefore-length}
 use Rattle.bounds.proofs.RoomLaws.{later, later-≤, later-mono, later-withPairs, later-dropBefore, withPairs-room}
-use Rattle.order.proofs.Invariant.{Once}
-use Rattle.order.proofs.HeldOnce.{once-early}
 
 -- at most 96 pairs are later than a bound
 abbrev pub Roomy : Bound → List Notification → Type 0
@@ -57,4 +55,4 @@ roomy-granted (At f) (At g) l c es fc fg early room = go (T-case (isBoundBefore 
 -- A grant at the floor has places: what is later than the floor, and one place for each event at the floor.
 pub floor-places : (n : ℕ) (l : List Notification) (c : Cycle) (es : List ℕ) → Once l → n ≤ 32 → Roomy (At c) l
     → ((y : Notification) → List·Memᴰ y l → (y .event < n) × (c ⊑ y .cycle)) → ((e : ℕ) → T (has es e) → e < n) → length (withPairs l c es) ≤ places
-floor-places n l c es o small room old new = let h = withPairs-room n l c es (once-early o) old new in omega arith
+floor-places n l c es o small room old new = let h = withPairs-room n l c es o old new in omega arith

@@ -1,13 +1,12 @@
 -- Any list can be carried on to an end: a history so far is a beginning of the plain run's, so that all of them together
 -- grow only so far, and as long as a thread is ready before the horizon some request is granted and makes one longer.
--- Takes as given that what a segment lists are events of the model.
+-- Takes as given the facts of the plain run (PlainFacts) and the laws of the kit (KitLaws).
 use Prim.Native.Nat.{ℕ, zero, suc, _+_, _-_, _≤_, _<_}
 use mathlib.Core.Path.{_≡_, refl, ap, sym, _∙_, subst}
 use mathlib.Core.Bool.{Bool, true, false}
 use mathlib.Core.List.{List, [], _∷_, _++_, append-assoc, append-nil}
 use native.Mathlib.Omega.{arith}
 use native.Mathlib.Decide.{decLe, ℕ-discrete}
-use borrow.Author.Tests.{eq-eqb}
 use lib.ListN.{length, length-append}
 use Rattle.clock.specs.declared.Cycle.{Cycle}
 use Rattle.model.specs.declared.Model.{Model}
@@ -15,13 +14,14 @@ use Rattle.model.specs.declared.Thread.{Thread}
 use Rattle.plain.specs.Step.{placeAt}
 use Rattle.plain.specs.Wake.{someReady}
 use Rattle.plain.specs.History.{Item, historyAt, itemsAt}
+use Rattle.cycles.proofs.HappenLaws.{historyAt-more}
 use Rattle.early.specs.declared.Site.{Site}
-use Rattle.early.specs.Grant.{itemsAfter}
 use Rattle.early.specs.Request.{Requested, grantedTo, requestOf, requestsOf}
+use Rattle.bounds.proofs.GrantLaws.{itemsAfter-self}
 use Rattle.order.proofs.PlainFacts.{PlainFacts}
 use Rattle.order.proofs.KitLaws.{KitLaws}
 use Rattle.order.proofs.Reached.{Reached}
-use Rattle.order.proofs.Progress.{ListsEvents, some-granted}
+use Rattle.order.proofs.Progress.{some-granted}
 use Rattle.order.proofs.End.{history-past}
 use Rattle.order.proofs.Lists.{request-reached}
 
@@ -31,13 +31,12 @@ Begins a b = (rest : List Item) × (b ≡ a ++ rest)
 
 -- a history only grows
 history-grows : (m : Model) (k i d : ℕ) → Begins (historyAt m k i) (historyAt m k (i + d))
-unfolding historyAt
 history-grows m k i zero = let e : i + 0 ≡ i = omega arith in ([], ap (historyAt m k) e ∙ sym (append-nil (historyAt m k i)))
 history-grows m k i (suc d) =
     let (rest, p) = history-grows m k i d in
     let e : i + suc d ≡ suc (i + d) = omega arith in
     let items = itemsAt m (placeAt m (i + d)) k in
-    (rest ++ items, ap (historyAt m k) e ∙ ap (λ (a : List Item). a ++ items) p ∙ append-assoc (historyAt m k i) rest items)
+    (rest ++ items, ap (historyAt m k) e ∙ historyAt-more m k (i + d) ∙ ap (λ (a : List Item). a ++ items) p ∙ append-assoc (historyAt m k i) rest items)
 
 -- a history up to any place is a beginning of the whole
 pub history-begins : (m : Model) (pf : PlainFacts m) (k i : ℕ) → k < m .t → Begins (historyAt m k i) (historyAt m k (pf .ending .place))
@@ -91,24 +90,17 @@ reached-total m pf {site} {ts} {h} r = total-≤ (m .t) h (λ k. historyAt m k (
 
 -- a granted request has an item for its thread
 granted-item : (m : Model) (ws : List ℕ) (site : Site) (ts : List Thread) (k : ℕ) (c : Cycle) → 0 < length (grantedTo m ws site ts k c .items k)
-unfolding grantedTo itemsAfter
-granted-item m ws site ts k c = rw (eq-eqb k k refl) (omega arith)
+unfolding grantedTo
+granted-item m ws site ts k c = rw (itemsAfter-self m site ts k c ws) (omega arith)
 
--- one list after another
-pub requestsOf-append : (m : Model) (marks : List (List Bool)) (ws : List ℕ) (ks more : List ℕ) (site : Site) (ts : List Thread) → requestsOf m marks ws site ts (ks ++ more) .threads ≡ requestsOf m marks ws (requestsOf m marks ws site ts ks .site) (requestsOf m marks ws site ts ks .threads) more .threads
-unfolding requestsOf
-requestsOf-append m marks ws [] more site ts = refl
-requestsOf-append m marks ws (k ∷ ks) more site ts =
-    requestsOf-append m marks ws ks more (requestOf m marks ws site ts k .site) (requestOf m marks ws site ts k .threads)
-
-module _ (m : Model) (pf : PlainFacts m) (marks : List (List Bool)) (ws : List ℕ) (kl : KitLaws m marks ws) (events : ListsEvents m) where
+module _ (m : Model) (pf : PlainFacts m) (marks : List (List Bool)) (ws : List ℕ) (kl : KitLaws m marks ws) where
   abbrev whole : ℕ
   whole = total (m .t) (λ k. historyAt m k (pf .ending .place))
 
   -- a granted request makes the histories longer
   longer-by-grant : (site : Site) (ts : List Thread) (h : ℕ → List Item) → Reached m site ts h → someReady m ts ≡ true → (k : ℕ) × (total (m .t) h < total (m .t) (λ j. h j ++ requestOf m marks ws site ts k .items j))
   longer-by-grant site ts h r e =
-      let (k, c, below, p) = some-granted m pf marks ws kl events site ts h r e in (
+      let (k, c, below, p) = some-granted m pf marks ws kl site ts h r e in (
         k,
         total-more
             (m .t)

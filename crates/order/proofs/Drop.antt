@@ -1,7 +1,7 @@
 -- What is dropped is never missed (section 5 of the argument). Where nobody hears, no waiting thread has a logged
 -- notification that it can hear before the floor: the least such would have a smaller forecast, which comes from a ready
 -- thread, at the floor or later, or from a smaller such notification. So a drop keeps a cut, and the floor never falls.
--- Assumes nothing.
+-- Takes as given the laws of the kit (KitLaws).
 use Prim.Native.Nat.{ℕ, _<_}
 use mathlib.Core.Path.{_≡_, refl, sym, _∙_, subst}
 use mathlib.Core.Logic.{_⊎_, inl, inr}
@@ -21,6 +21,7 @@ use Rattle.model.specs.declared.State.{State}
 use Rattle.model.specs.declared.State.the-variants.{Ended, Overrun, Ready, Waiting}
 use Rattle.model.specs.declared.Thread.{Thread}
 use Rattle.model.specs.Record.{threadAt, isLive, Awaited, nothing, awaits, awaitedBy}
+use Rattle.paths.proofs.PathLaws.{At-not-Never}
 use Rattle.plain.specs.Wake.{floorOf}
 use Rattle.plain.specs.History.{Item}
 use Rattle.tables.specs.Word.{distanceIn}
@@ -29,13 +30,13 @@ use Rattle.early.specs.Log.{pairOf, leastHeard, dropBefore}
 use Rattle.early.specs.Forecast.{forecastOf}
 use Rattle.early.specs.Deliver.{heardNow}
 use Rattle.bounds.proofs.LogLaws.{leastHeard-≼, dropBefore-kept, dropBefore-only}
+use Rattle.bounds.proofs.OnceLaws.{dropBefore-once}
 use Rattle.bounds.proofs.LookLaws.{heardNow-none}
 use Rattle.bounds.proofs.RestLaws.{Rest}
 use Rattle.order.proofs.Places.{nowAt}
 use Rattle.order.proofs.KitLaws.{KitLaws}
 use Rattle.order.proofs.Invariant.{Gone, IsCut}
-use Rattle.order.proofs.Floor.{At-not-Never, finite-below, floor-below, floor-glb}
-use Rattle.order.proofs.HeldOnce.{dropBefore-once}
+use Rattle.order.proofs.Floor.{finite-below, floor-below, floor-glb}
 
 -- what a thread could hear of the log, by its wait
 abbrev hearable : List Notification → Awaited → Bound
@@ -83,25 +84,25 @@ kept-or-dropped (At f) c = go (⊑-total f c)
     go (inr h) = inr (λ k. Before→not-⊑ h k)
 
 module _ (m : Model) (marks : List (List Bool)) (ws : List ℕ) (kl : KitLaws m marks ws) (l : List Notification) (ts : List Thread) where
-  abbrev least : Bound
-  least = leastBelow (m .t) (λ k. hearable l (awaitedBy (threadAt ts k .state)))
+  abbrev leastHearable : Bound
+  leastHearable = leastBelow (m .t) (λ k. hearable l (awaitedBy (threadAt ts k .state)))
 
   -- the least that anybody could hear
-  least-hearable : (k : ℕ) (y : Notification) → Hearable m l ts k y → least ≼ At (y .cycle)
-  least-hearable k y h =
+  leastHearable-≼ : (k : ℕ) (y : Notification) → Hearable m l ts k y → leastHearable ≼ At (y .cycle)
+  leastHearable-≼ k y h =
       ≼-trans
-      least
+      leastHearable
       (leastHeard l (y .event) (h .since))
       (At (y .cycle))
       (subst
-      (λ (s : State). least ≼ hearable l (awaitedBy s))
+      (λ (s : State). leastHearable ≼ hearable l (awaitedBy s))
       (h .waits)
       (leastBelow-≼ (m .t) (λ k. hearable l (awaitedBy (threadAt ts k .state))) k (h .below)))
       (leastHeard-≼ l (y .event) (h .since) y (h .logged) refl (h .begun))
 
   -- If the least that anybody could hear is at c and nobody hears, the floor is not after c: some forecast is before c,
   -- so some earliest; that comes from a ready thread, or from something smaller that somebody could hear.
-  floor-below-least : Rest m ws l ts → (k e : ℕ) (since c : Cycle) → k < m .t → threadAt ts k .state ≡ Waiting e since → leastHeard l e since ≡ At c → least ≡ At c → floorOf m ts ≼ At c
+  floor-below-least : Rest m ws l ts → (k e : ℕ) (since c : Cycle) → k < m .t → threadAt ts k .state ≡ Waiting e since → leastHeard l e since ≡ At c → leastHearable ≡ At c → floorOf m ts ≼ At c
   floor-below-least rest k e since c below w p q =
       forecast (before-or-not (forecastOf m ws l ts e) c (heardNow-none m ws l ts e since c none p))
     where
@@ -120,9 +121,9 @@ module _ (m : Model) (marks : List (List Bool)) (ws : List ℕ) (kl : KitLaws m 
       from j a b ab bc (inr (i, f, u, y, i-below, waits, logged, ev, uy, ya)) =
           absurd (Before→not-⊑ bc (⊑-trans (subst (λ (z : Bound). z ≼ At (y .cycle)) q smaller) (⊑-trans (Before→⊑ ya) ab)))
         where
-          smaller : least ≼ At (y .cycle)
+          smaller : leastHearable ≼ At (y .cycle)
           smaller =
-              least-hearable
+              leastHearable-≼
               i
               y
               (record { below = i-below; since = u; waits = subst (λ (g : ℕ). threadAt ts i .state ≡ Waiting g u) (sym ev) waits; logged = logged; begun = uy })
@@ -138,12 +139,12 @@ module _ (m : Model) (marks : List (List Bool)) (ws : List ℕ) (kl : KitLaws m 
 
   -- where nobody hears, nothing before the floor can be heard
   pub rest-quiet : Rest m ws l ts → Quiet m l ts
-  rest-quiet rest k y h = found (finite-below least (y .cycle) (least-hearable k y h))
+  rest-quiet rest k y h = found (finite-below leastHearable (y .cycle) (leastHearable-≼ k y h))
     where
-      found : (c : Cycle) × (least ≡ At c) × (c ⊑ y .cycle) → floorOf m ts ≼ At (y .cycle)
+      found : (c : Cycle) × (leastHearable ≡ At c) × (c ⊑ y .cycle) → floorOf m ts ≼ At (y .cycle)
       found (c, p, cy) = go (leastBelow-one (m .t) (λ k. hearable l (awaitedBy (threadAt ts k .state))))
         where
-          go : (least ≡ Never) ⊎ ((i : ℕ) × (i < m .t) × (least ≡ hearable l (awaitedBy (threadAt ts i .state)))) → floorOf m ts ≼ At (y .cycle)
+          go : (leastHearable ≡ Never) ⊎ ((i : ℕ) × (i < m .t) × (leastHearable ≡ hearable l (awaitedBy (threadAt ts i .state)))) → floorOf m ts ≼ At (y .cycle)
           go (inl n) = absurd (At-not-Never (sym p ∙ n))
           go (inr (i, below, q)) =
               let (e, since, w, r) = hearable-waits l (threadAt ts i .state) c (sym q ∙ p) in

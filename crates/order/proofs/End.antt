@@ -1,7 +1,7 @@
 -- The end (section 7 of the argument). Where no thread is ready before the horizon, every place that runs a thread is done:
 -- its thread's earliest would be before the horizon, and with it the floor. Nor is a wake left: it would be by a done place,
 -- so logged, so not before the floor. So variables, histories and records are the plain run's, carried on until it is done.
--- Takes the lower bound at this cut as given.
+-- Takes as given the facts of the plain run (PlainFacts), the laws of the kit (KitLaws) and the lower bound at this cut (`LowerBound`).
 use Prim.Native.Nat.{ℕ, zero, suc, _+_, _-_, _≤_, _<_}
 use mathlib.Core.Path.{_≡_, ap, sym, _∙_, subst}
 use mathlib.Core.Logic.{_⊎_, inl, inr}
@@ -28,23 +28,25 @@ use Rattle.plain.specs.Step.{placeAt}
 use Rattle.plain.specs.Wake.{floorOf, someReady}
 use Rattle.plain.specs.History.{Item, historyAt, itemsAt}
 use Rattle.tables.specs.Word.{distanceIn}
+use Rattle.cycles.proofs.RecordLaws.{horizon-mono}
+use Rattle.cycles.proofs.HappenLaws.{historyAt-more}
+use Rattle.cycles.proofs.WakeLaws.{floorOf-attained}
 use Rattle.early.specs.declared.Notification.{Notification}
 use Rattle.early.specs.Log.{pairOf}
 use Rattle.order.proofs.Places.{nowAt, recordAt, Runs, Says, Hears, Happens, idle, runs, hears}
 use Rattle.order.proofs.PlainFacts.{PlainFacts}
 use Rattle.order.proofs.KitLaws.{KitLaws}
 use Rattle.order.proofs.Invariant.{Gone, IsCut, Bounded}
-use Rattle.order.proofs.Floor.{floor-ready, finite-below}
+use Rattle.order.proofs.Floor.{finite-below}
 use Rattle.order.proofs.Drop.{cut-quiet, floor-below-earliest}
-use Rattle.order.proofs.LeastReady.{horizon-down, someReady-none}
+use Rattle.order.proofs.LeastReady.{someReady-none}
 
 -- from where the run is done, histories stand still
 pub history-ended : (m : Model) (pf : PlainFacts m) (k : ℕ) → k < m .t → (d : ℕ) → historyAt m k (pf .ending .place + d) ≡ historyAt m k (pf .ending .place)
-unfolding historyAt
 history-ended m pf k below zero = let e : pf .ending .place + 0 ≡ pf .ending .place = omega arith in ap (historyAt m k) e
 history-ended m pf k below (suc d) =
     let e : pf .ending .place + suc d ≡ suc (pf .ending .place + d) = omega arith in
-    ap (historyAt m k) e ∙ ap (λ (a : List Item). historyAt m k (pf .ending .place + d) ++ a) (quiet (pf .happens i k below)) ∙ append-nil (historyAt m k i) ∙ history-ended m pf k below d
+    ap (historyAt m k) e ∙ historyAt-more m k i ∙ ap (λ (a : List Item). historyAt m k i ++ a) (quiet (pf .happens i k below)) ∙ append-nil (historyAt m k i) ∙ history-ended m pf k below d
   where
     i : ℕ
     i = pf .ending .place + d
@@ -70,8 +72,8 @@ module _ (m : Model) (pf : PlainFacts m) (marks : List (List Bool)) (ws : List �
     floor-late : (c : Cycle) → floorOf m ts ≼ At c → T (isBeforeHorizon m c) → ⊥
     floor-late c fc early =
         let (f, fl, below) = finite-below (floorOf m ts) c fc in
-        let (k, inside, ready) = floor-ready m ts f fl in
-        someReady-none m ts over k f inside ready (horizon-down m f c below early)
+        let (k, inside, ready) = floorOf-attained m ts f fl in
+        someReady-none m ts over k f inside ready (horizon-mono m below early)
 
     -- every place that runs a thread is done
     pub all-done : (q j : ℕ) → Runs m q j → q < cut j
@@ -118,12 +120,11 @@ module _ (m : Model) (pf : PlainFacts m) (marks : List (List Bool)) (ws : List �
 
     -- from its cut on, a thread's record and history stand still
     stands : (k : ℕ) → k < m .t → (d : ℕ) → (recordAt m (cut k + d) k ≡ recordAt m (cut k) k) × (historyAt m k (cut k + d) ≡ historyAt m k (cut k))
-    unfolding historyAt
     stands k below zero = let e : cut k + 0 ≡ cut k = omega arith in (ap (λ (i : ℕ). recordAt m i k) e, ap (historyAt m k) e)
     stands k below (suc d) =
         let e : cut k + suc d ≡ suc (cut k + d) = omega arith in
         let (r, s) = next (stands k below d) (pf .happens i k below) in
-        (ap (λ (n : ℕ). recordAt m n k) e ∙ r, ap (historyAt m k) e ∙ s)
+        (ap (λ (n : ℕ). recordAt m n k) e ∙ r, ap (historyAt m k) e ∙ historyAt-more m k i ∙ s)
       where
         i : ℕ
         i = cut k + d

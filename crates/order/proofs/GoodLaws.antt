@@ -1,7 +1,7 @@
 -- The variables of the done places. At the start nothing is done. A place that is run next finds on what it uses the
 -- values that the plain run has there (B), if every earlier place that it touches is done; and running it keeps the
 -- variables good (C). Whether earlier places are done is the matter of `Grant`.
--- Assumes nothing.
+-- Takes as given the facts of the plain run (PlainFacts) and the laws of the kit (KitLaws).
 use Prim.Native.Nat.{ℕ, zero, suc, _≤_, _<_}
 use mathlib.Core.Path.{_≡_, refl, ap, sym, _∙_, subst}
 use mathlib.Core.Logic.{_⊎_, inl, inr}

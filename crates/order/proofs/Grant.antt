@@ -1,10 +1,9 @@
 -- A grant is a place of the plain run, taken early. Where no hazard stands, no earlier place that is not done touches the next
 -- place of the granted thread (A), since each such place runs no sooner than its bound (`LowerBound`). So it finds what the plain
 -- run finds there (B, `GoodLaws`), does what the plain run does, and leaves the cut of the plain run just past it.
--- Assumes nothing.
+-- Takes as given the facts of the plain run (PlainFacts) and the laws of the kit (KitLaws).
 use Prim.Native.Nat.{ℕ, suc, _<_}
 use mathlib.Core.Path.{_≡_, ap, ap₂, sym, _∙_, subst}
-use mathlib.Core.Logic.{inl, inr}
 use mathlib.Core.Bool.{Bool, false}
 use mathlib.Core.List.{List}
 use native.Mathlib.Omega.{arith}
@@ -14,12 +13,9 @@ use lib.ListN.{length, getD}
 use Rattle.base.proofs.BoolLaws.{false→T}
 use Rattle.clock.specs.declared.Cycle.{Cycle}
 use Rattle.clock.specs.declared.Bound.{Bound}
-use Rattle.clock.specs.declared.Bound.the-variants.{Never, At}
 use Rattle.clock.specs.Cycle.{stampAt}
 use Rattle.clock.specs.Advance.{_⊕_}
-use Rattle.clock.specs.Order.{_≼_}
-use Rattle.clock.proofs.OrderLaws.{Three, before, same, after, Before-total, Before→not-⊑, ⊑-Before-trans}
-use Rattle.clock.proofs.CycleLaws.{StampBefore, →isStampBefore}
+use Rattle.clock.proofs.CycleLaws.{StampBefore}
 use Rattle.model.specs.declared.Model.{Model}
 use Rattle.model.specs.declared.State.the-variants.{Ready}
 use Rattle.model.specs.declared.Thread.{Thread}
@@ -32,24 +28,13 @@ use Rattle.plain.specs.History.{Item}
 use Rattle.tables.specs.Word.{distanceIn}
 use Rattle.early.specs.declared.Notification.{Notification}
 use Rattle.early.specs.Hazard.{marksConflict, isSooner, hazard}
+use Rattle.bounds.proofs.HazardLaws.{→isSooner}
 use Rattle.order.proofs.Places.{nowAt, recordAt, effectThere, Runs}
 use Rattle.order.proofs.PlainFacts.{PlainFacts, NextRun}
 use Rattle.order.proofs.KitLaws.{KitLaws}
 use Rattle.order.proofs.Invariant.{Done, Touch, Good, IsCut, Bounded, moved}
 use Rattle.order.proofs.GoodLaws.{touch-swap, values, good-step}
 use Rattle.order.proofs.LowerBound.{bounded}
-
--- a thread whose bound is not after d, and whose stamp at d is before another, is sooner by its bound
-pub isSooner-by : (b : Bound) (d c : Cycle) (j i : ℕ) → b ≼ At d → StampBefore (stampAt d j) (stampAt c i) → T (isSooner b j (stampAt c i))
-unfolding isSooner
-isSooner-by Never d c j i h s = absurd h
-isSooner-by (At b) d c j i h (inl p) = →isStampBefore (stampAt b j) (stampAt c i) (inl (⊑-Before-trans h p))
-isSooner-by (At b) d c j i h (inr (e, p)) = →isStampBefore (stampAt b j) (stampAt c i) (go (Before-total b c))
-  where
-    go : Three b c → StampBefore (stampAt b j) (stampAt c i)
-    go (before q) = inl q
-    go (same q) = inr (q, p)
-    go (after q) = absurd (Before→not-⊑ q (rw e at h))
 
 module _ (m : Model) (pf : PlainFacts m) (marks : List (List Bool)) (ws : List ℕ) (kl : KitLaws m marks ws)
     {x : List ℕ} {l : List Notification} {ts : List Thread} {h : ℕ → List Item} {cut : ℕ → ℕ} {low : Bound}
@@ -67,7 +52,7 @@ module _ (m : Model) (pf : PlainFacts m) (marks : List (List Bool)) (ws : List �
       -- another thread's place before it that is not done would be a hazard
       no-hazard-before : (p a : ℕ) → p < r .place → Runs m p a → (a ≡ k → ⊥) → (p < cut a → ⊥) → Touch m p a (r .place) k → ⊥
       no-hazard-before p a sooner runs other undone touch =
-          T-not (isSooner b a (stampAt c k)) (false→T (isSooner b a (stampAt c k)) quiet) (isSooner-by b (nowAt m p) c a k (bd .sound p a runs undone) stamps)
+          T-not (isSooner b a (stampAt c k)) (false→T (isSooner b a (stampAt c k)) quiet) (→isSooner b (nowAt m p) a c k (bd .sound p a runs undone) stamps)
         where
           bd : Bounded m ws ts cut (kl .forecasts l ts .earliest)
           bd = bounded m pf marks ws kl ic (kl .forecasts l ts)

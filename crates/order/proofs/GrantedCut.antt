@@ -1,7 +1,7 @@
 -- After a grant, before anything is delivered: variables, log, records and histories are again a cut of the plain run, the
 -- granted thread's cut moved just past its place. What was past for all stays so: a wait that begins now begins at the granted
 -- cycle, and nothing ready is before the floor of the last drop.
--- Assumes nothing.
+-- Takes as given the facts of the plain run (PlainFacts) and the laws of the kit (KitLaws).
 use Prim.Native.Nat.{ℕ, suc, _<_}
 use mathlib.Core.Path.{_≡_, ap, ap₂, sym, _∙_}
 use mathlib.Core.Logic.{_⊎_, inl, inr}
@@ -23,16 +23,18 @@ use Rattle.model.specs.Record.{threadAt}
 use Rattle.model.specs.Effect.{Effect, effectOf}
 use Rattle.model.specs.Footprint.{has}
 use Rattle.plain.specs.History.{Item, ran, historyAt}
+use Rattle.cycles.proofs.RecordLaws.{threadAt-set, threadAt-other}
 use Rattle.early.specs.declared.Notification.{Notification}
 use Rattle.early.specs.Log.{pairOf, withPairs}
 use Rattle.early.specs.Hazard.{hazard}
+use Rattle.bounds.proofs.LogLaws.{withPairs-kept, withPairs-new, withPairs-only}
+use Rattle.bounds.proofs.OnceLaws.{withPairs-once}
 use Rattle.order.proofs.Places.{nowAt, recordAt, effectThere, Says}
 use Rattle.order.proofs.PlainFacts.{PlainFacts, NextRun}
 use Rattle.order.proofs.KitLaws.{KitLaws}
-use Rattle.order.proofs.PlaceLaws.{wait-begins, threadAt-set-same, threadAt-set-other, run-record, run-history, run-later}
+use Rattle.order.proofs.PlaceLaws.{run-record, run-history, run-later}
 use Rattle.order.proofs.Invariant.{Done, Gone, IsCut, moved, adding}
 use Rattle.order.proofs.CutLaws.{moved-same, moved-other, adding-same, adding-other, done-kept, done-here, done-now}
-use Rattle.order.proofs.LogFacts.{withPairs-kept, withPairs-new, withPairs-only, withPairs-once}
 use Rattle.order.proofs.Grant.{same-record, effect-thread, effect-notified, effect-good}
 
 module _ (m : Model) (pf : PlainFacts m) (marks : List (List Bool)) (ws : List ℕ) (kl : KitLaws m marks ws)
@@ -54,10 +56,10 @@ module _ (m : Model) (pf : PlainFacts m) (marks : List (List Bool)) (ws : List �
     newCut = moved cut k (suc (r .place))
 
     record-granted : (j : ℕ) → j ≡ k → threadAt newRecords j ≡ effect .thread
-    record-granted j e = threadAt-set-same ts k (effect .thread) j e (omega (arith, ic .size))
+    record-granted j e = ap (threadAt newRecords) e ∙ threadAt-set ts k (effect .thread) (omega (arith, ic .size))
 
     record-other : (j : ℕ) → (j ≡ k → ⊥) → threadAt newRecords j ≡ threadAt ts j
-    record-other j other = threadAt-set-other ts k (effect .thread) j other
+    record-other j other = threadAt-other ts k j (effect .thread) other
 
     thread-there : effect .thread ≡ effectThere m (r .place) k .thread
     thread-there = effect-thread m pf marks ws kl ic k c kt ready r clear
@@ -102,11 +104,11 @@ module _ (m : Model) (pf : PlainFacts m) (marks : List (List Bool)) (ws : List �
         go (no e) = ic .low-ready j d jt (ap (λ (t : Thread). t .state) (sym (record-other j e)) ∙ st)
 
     low-logged-after : (y : Notification) → List·Memᴰ y newLog → low ≼ At (y .cycle)
-    low-logged-after y held = go (withPairs-only l c (effect .notified) y held)
+    low-logged-after y held = go (withPairs-only l c (effect .notified) held)
       where
-        go : List·Memᴰ y l ⊎ (T (has (effect .notified) (y .event)) × (y .cycle ≡ c)) → low ≼ At (y .cycle)
+        go : List·Memᴰ y l ⊎ ((y .cycle ≡ c) × T (has (effect .notified) (y .event))) → low ≼ At (y .cycle)
         go (inl old) = ic .low-logged y old
-        go (inr (_, e)) = rw e low-now
+        go (inr (e, _)) = rw e low-now
 
     -- what was past for all is past for the wait that may begin now
     gone-kept : (e : ℕ) (d : Cycle) → Gone m ts low e d → Gone m newRecords low e d
@@ -120,14 +122,14 @@ module _ (m : Model) (pf : PlainFacts m) (marks : List (List Bool)) (ws : List �
             by (inr p) = p
 
         go : (j : ℕ) (since : Cycle) → j < m .t → threadAt newRecords j .state ≡ Waiting e since → Dec (j ≡ k) → Before d since
-        go j since jt st (yes f) = rw (wait-begins m k (threadAt ts k .segment) c x e since (ap (λ (t : Thread). t .state) (sym (record-granted j f)) ∙ st)) earlier
+        go j since jt st (yes f) = rw (kl .distances .wait-begins k (threadAt ts k .segment) c x e since (ap (λ (t : Thread). t .state) (sym (record-granted j f)) ∙ st)) earlier
         go j since jt st (no f) = gone .unheard j since jt (ap (λ (t : Thread). t .state) (sym (record-other j f)) ∙ st)
 
     logged-after : (q j e : ℕ) → Done m newCut q j → Says m q j e → List·Memᴰ (pairOf e (nowAt m q)) newLog ⊎ Gone m newRecords low e (nowAt m q)
     logged-after q j e d says = go (done-now m cut k (r .place) (r .from) (r .runs) (r .quiet) q j d)
       where
         kept : List·Memᴰ (pairOf e (nowAt m q)) l ⊎ Gone m ts low e (nowAt m q) → List·Memᴰ (pairOf e (nowAt m q)) newLog ⊎ Gone m newRecords low e (nowAt m q)
-        kept (inl held) = inl (withPairs-kept l c (effect .notified) (pairOf e (nowAt m q)) held)
+        kept (inl held) = inl (withPairs-kept l c (effect .notified) held)
         kept (inr gone) = inr (gone-kept e (nowAt m q) gone)
 
         go : Done m cut q j ⊎ ((q ≡ r .place) × (j ≡ k)) → List·Memᴰ (pairOf e (nowAt m q)) newLog ⊎ Gone m newRecords low e (nowAt m q)
@@ -137,13 +139,13 @@ module _ (m : Model) (pf : PlainFacts m) (marks : List (List Bool)) (ws : List �
             inl (Memᴰ·cast (ap (pairOf e) (ap (nowAt m) p ∙ r .now)) (withPairs-new l c (effect .notified) e (rw notified-there (here .notifies))))
 
     notified-after : (y : Notification) → List·Memᴰ y newLog → (q : ℕ) × (j : ℕ) × Done m newCut q j × Says m q j (y .event) × (nowAt m q ≡ y .cycle)
-    notified-after y held = go (withPairs-only l c (effect .notified) y held)
+    notified-after y held = go (withPairs-only l c (effect .notified) held)
       where
-        go : List·Memᴰ y l ⊎ (T (has (effect .notified) (y .event)) × (y .cycle ≡ c)) → (q : ℕ) × (j : ℕ) × Done m newCut q j × Says m q j (y .event) × (nowAt m q ≡ y .cycle)
+        go : List·Memᴰ y l ⊎ ((y .cycle ≡ c) × T (has (effect .notified) (y .event))) → (q : ℕ) × (j : ℕ) × Done m newCut q j × Says m q j (y .event) × (nowAt m q ≡ y .cycle)
         go (inl old) =
             let (q, j, d, says, now) = ic .notified y old in
             (q, j, done-kept m cut k (suc (r .place)) (omega (arith, r .from)) q j d, says, now)
-        go (inr (t, e)) = (r .place, k, done-here m cut k (r .place) (r .from) (r .runs) (r .quiet), record { runs = r .runs; notifies = rw notified-there at t }, r .now ∙ sym e)
+        go (inr (e, t)) = (r .place, k, done-here m cut k (r .place) (r .from) (r .runs) (r .quiet), record { runs = r .runs; notifies = rw notified-there at t }, r .now ∙ sym e)
 
     pub granted-cut : IsCut m (effectOf m k (threadAt ts k .segment) c x .variables) (withPairs l c (effectOf m k (threadAt ts k .segment) c x .notified)) (set ts k (effectOf m k (threadAt ts k .segment) c x .thread)) (adding h k (ran (threadAt ts k .segment) c ∷ [])) (moved cut k (suc (r .place))) low
     granted-cut =

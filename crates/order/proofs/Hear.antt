@@ -1,7 +1,7 @@
 -- What is heard is what the plain run hears (section 4 of the argument). The least logged notification that a waiting
 -- thread can hear, where no forecast is smaller, is the one by which the plain run next wakes it: done places are logged or
 -- past for it, and places that are not done come no sooner than the forecast.
--- Assumes nothing.
+-- Takes as given the facts of the plain run (PlainFacts) and the laws of the kit (KitLaws).
 use Prim.Native.Nat.{ℕ, suc, _≤_, _<_}
 use mathlib.Core.Path.{_≡_, refl, ap, sym, _∙_, subst}
 use mathlib.Core.Logic.{_⊎_, inl, inr}
@@ -22,8 +22,10 @@ use Rattle.model.specs.declared.State.the-variants.{Waiting}
 use Rattle.model.specs.declared.Thread.{Thread}
 use Rattle.model.specs.Record.{threadAt, awaits, stateAfter}
 use Rattle.plain.specs.Step.{placeAt}
-use Rattle.plain.specs.History.{Item, heard, historyAt, itemsAt}
+use Rattle.plain.specs.History.{Item, heard, historyAt}
 use Rattle.tables.specs.Word.{distanceIn}
+use Rattle.cycles.proofs.RecordLaws.{Ready-not-Waiting}
+use Rattle.cycles.proofs.HappenLaws.{historyAt-more}
 use Rattle.early.specs.declared.Notification.{Notification}
 use Rattle.early.specs.Log.{pairOf, leastHeard}
 use Rattle.early.specs.Forecast.{forecastOf}
@@ -34,7 +36,6 @@ use Rattle.order.proofs.Places.{nowAt, recordAt, Runs, Says, Hears, Hap
 use Rattle.order.proofs.PlainFacts.{PlainFacts, NextHearing}
 use Rattle.order.proofs.KitLaws.{KitLaws}
 use Rattle.order.proofs.Invariant.{Done, Gone, IsCut, Bounded}
-use Rattle.order.proofs.PlaceLaws.{Ready-not-Waiting}
 
 -- the plain run's next hearing of thread k after its cut, at cycle c
 pub record HearingAt (m : Model) (n k e : ℕ) (since c : Cycle) : Type 0 where
@@ -91,7 +92,6 @@ module _ (m : Model) (pf : PlainFacts m) (marks : List (List Bool)) (ws : List �
 
     -- what is heard now, the plain run hears next
     pub next-heard : (k e : ℕ) (since c : Cycle) → k < m .t → threadAt ts k .state ≡ Waiting e since → heardNow m ws l ts (awaits e since) ≡ At c → HearingAt m (cut k) k e since c
-    unfolding historyAt
     next-heard k e since c below w now = found (ic .notified (pairOf e c) logged)
       where
         logged : List·Memᴰ (pairOf e c) l
@@ -137,18 +137,18 @@ module _ (m : Model) (pf : PlainFacts m) (marks : List (List Bool)) (ws : List �
                   still = n .still;
                   history = n .history;
                   quiet = quiet;
-                  after = new ∙ ap₂-after;
+                  after = new ∙ record-after;
                   history-after = item;
                 }
               where
                 same-event : e′ ≡ e
                 same-event = let f : Waiting e′ since′ ≡ Waiting e since = sym (u .waits) ∙ n .hears .waits in cc
 
-                ap₂-after : _≡_ {A = Thread} (record { segment = recordAt m r k .segment; state = stateAfter (waitEnds wait.Event (nowAt m r)) }) (record { segment = recordAt m (cut k) k .segment; state = stateAfter (waitEnds wait.Event c) })
-                ap₂-after = λ i. record { segment = n .still i .segment; state = stateAfter (waitEnds wait.Event (at-c i)) }
+                record-after : _≡_ {A = Thread} (record { segment = recordAt m r k .segment; state = stateAfter (waitEnds wait.Event (nowAt m r)) }) (record { segment = recordAt m (cut k) k .segment; state = stateAfter (waitEnds wait.Event c) })
+                record-after = λ i. record { segment = n .still i .segment; state = stateAfter (waitEnds wait.Event (at-c i)) }
 
-                item : historyAt m k r ++ itemsAt m (placeAt m r) k ≡ historyAt m k (cut k) ++ (heard e c ∷ [])
-                item = rw (n .history, items, same-event, at-c) refl
+                item : historyAt m k (suc r) ≡ historyAt m k (cut k) ++ (heard e c ∷ [])
+                item = rw (historyAt-more m k r, n .history, items, same-event, at-c) refl
 
         found : (q : ℕ) × (j : ℕ) × Done m cut q j × Says m q j e × (nowAt m q ≡ c) → HearingAt m (cut k) k e since c
         found (q, j, _, says, same) =

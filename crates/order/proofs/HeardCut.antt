@@ -1,8 +1,8 @@
 -- One look at a thread keeps a cut: whoever hears now moves on as the plain run moves it at its next hearing, past the
 -- close of that cycle, and nobody else changes; the same places are done.
--- Assumes nothing.
+-- Takes as given the facts of the plain run (PlainFacts) and the laws of the kit (KitLaws).
 use Prim.Native.Nat.{ℕ, suc, _≤_, _<_}
-use mathlib.Core.Path.{_≡_, refl, ap, sym, _∙_, subst₂, fun-ext}
+use mathlib.Core.Path.{_≡_, ap, sym, _∙_, subst₂, fun-ext}
 use mathlib.Core.Logic.{_⊎_, inl, inr}
 use mathlib.Core.Bool.{Bool}
 use mathlib.Core.List.{List, [], _∷_, _++_, List·Memᴰ, append-nil}
@@ -22,6 +22,7 @@ use Rattle.model.specs.declared.State.the-variants.{Ready, Waiting}
 use Rattle.model.specs.declared.Thread.{Thread}
 use Rattle.model.specs.Record.{threadAt, awaits, stateAfter}
 use Rattle.plain.specs.History.{Item, heard, historyAt}
+use Rattle.cycles.proofs.RecordLaws.{threadAt-set, threadAt-other, stateAfter-Ready, stateAfter-not-Waiting}
 use Rattle.early.specs.declared.Notification.{Notification}
 use Rattle.early.specs.Log.{pairOf}
 use Rattle.early.specs.Deliver.{heardNow, lookedAt, lookItems}
@@ -32,7 +33,6 @@ use Rattle.order.proofs.PlainFacts.{PlainFacts}
 use Rattle.order.proofs.KitLaws.{KitLaws}
 use Rattle.order.proofs.Invariant.{Done, Gone, IsCut, Bounded, moved, adding}
 use Rattle.order.proofs.CutLaws.{moved-same, moved-other, adding-same, adding-other, done-kept, done-back}
-use Rattle.order.proofs.PlaceLaws.{stateAfter-Ready, stateAfter-Waiting, threadAt-set-same, threadAt-set-other}
 use Rattle.order.proofs.GoodLaws.{good-moved}
 use Rattle.order.proofs.Hear.{HearingAt, next-heard}
 
@@ -66,10 +66,10 @@ module _ (m : Model) (pf : PlainFacts m) (marks : List (List Bool)) (ws : List �
         back = done-back m cut k (suc (ha .place)) on (ha .quiet)
 
         at-k : threadAt (set ts k woken) k ≡ woken
-        at-k = threadAt-set-same ts k woken k refl (omega (arith, ic .size))
+        at-k = threadAt-set ts k woken (omega (arith, ic .size))
 
         at-other : (j : ℕ) → (j ≡ k → ⊥) → threadAt (set ts k woken) j ≡ threadAt ts j
-        at-other j other = threadAt-set-other ts k woken j other
+        at-other j other = threadAt-other ts k j woken other
 
         records-after : (j : ℕ) → j < m .t → threadAt (set ts k woken) j ≡ recordAt m (later j) j
         records-after j b = go (ℕ-discrete j k)
@@ -106,7 +106,7 @@ module _ (m : Model) (pf : PlainFacts m) (marks : List (List Bool)) (ws : List �
           where
             go : (j : ℕ) (s : Cycle) → j < m .t → threadAt (set ts k woken) j .state ≡ Waiting f s → Dec (j ≡ k) → Before d s
             go j s b r (yes e) =
-                absurd (stateAfter-Waiting (waitEnds wait.Event c) f s (ap (λ (t : Thread). t .state) (sym at-k) ∙ (rw e at r)))
+                absurd (stateAfter-not-Waiting (waitEnds wait.Event c) f s (ap (λ (t : Thread). t .state) (sym at-k) ∙ (rw e at r)))
             go j s b r (no n) = g .unheard j s b (ap (λ (t : Thread). t .state) (sym (at-other j n)) ∙ r)
 
         pub heard-cut : IsCut m x l (set ts k woken) (adding h k (heard e c ∷ [])) later low
@@ -129,8 +129,8 @@ module _ (m : Model) (pf : PlainFacts m) (marks : List (List Bool)) (ws : List �
 
             notified-after : (y : Notification) → (q : ℕ) × (j : ℕ) × Done m cut q j × Says m q j (y .event) × (nowAt m q ≡ y .cycle) → (q : ℕ) × (j : ℕ) × Done m later q j × Says m q j (y .event) × (nowAt m q ≡ y .cycle)
             notified-after y (q, j, d, s, f) = (q, j, forth q j d, s, f)
-            -- One look keeps a cut. A thread that hears moves on as the plain run moves it; any other stays as it is.
 
+      -- One look keeps a cut. A thread that hears moves on as the plain run moves it; any other stays as it is.
       pub looked-cut : (k : ℕ) → k < m .t → (cut′ : ℕ → ℕ) × IsCut m x l (lookedAt m ws l ts k) (λ j. h j ++ lookItems m ws l ts k j) cut′ low
       looked-cut k below = go (looked m ws l ts k)
         where

@@ -5,27 +5,26 @@
 use Prim.Native.Nat.{ℕ, _≤_, _<_}
 use mathlib.Core.Path.{_≡_}
 use mathlib.Core.Logic.{_⊎_}
-use mathlib.Core.Bool.{Bool, cond}
-use mathlib.Core.List.{List, [], _∷_, _++_, List·Memᴰ}
+use mathlib.Core.Bool.{cond}
+use mathlib.Core.List.{List, [], _++_, List·Memᴰ}
 use lib.Dec.{T, eqb}
 use lib.ListN.{length, getD}
 use Rattle.clock.specs.declared.Cycle.{Cycle}
 use Rattle.clock.specs.declared.Bound.{Bound}
-use Rattle.clock.specs.declared.Bound.the-variants.{Never, At}
+use Rattle.clock.specs.declared.Bound.the-variants.{At}
 use Rattle.clock.specs.Advance.{_⊕_}
-use Rattle.clock.specs.Order.{Before, _⊑_, _≼_}
+use Rattle.clock.specs.Order.{Before, _≼_}
 use Rattle.model.specs.declared.Model.{Model}
 use Rattle.model.specs.declared.State.the-variants.{Ready, Waiting}
 use Rattle.model.specs.declared.Thread.{Thread}
 use Rattle.model.specs.Record.{threadAt, isLive}
 use Rattle.model.specs.Footprint.{writesIn, usesIn}
-use Rattle.plain.specs.Start.{Place}
 use Rattle.plain.specs.Step.{placeAt}
-use Rattle.plain.specs.Wake.{floorOf}
 use Rattle.plain.specs.History.{Item, historyAt}
 use Rattle.tables.specs.Word.{distanceIn}
 use Rattle.early.specs.declared.Notification.{Notification}
 use Rattle.early.specs.Log.{pairOf}
+use Rattle.bounds.proofs.OnceLaws.{Once}
 use Rattle.order.proofs.Places.{nowAt, recordAt, Runs, Says}
 
 -- place q runs thread k, and k has passed it
@@ -48,11 +47,6 @@ pub record Good (m : Model) (cut : ℕ → ℕ) (x : List ℕ) : Type 0 where
       → ((p a : ℕ) → p < q → Runs m p a → T (writesIn m a (recordAt m p a .segment) v) → Done m cut p a)
       → ((p a : ℕ) → q ≤ p → Runs m p a → T (writesIn m a (recordAt m p a .segment) v) → Done m cut p a → ⊥)
       → getD x v 0 ≡ getD (placeAt m q .variables) v 0
-
--- no pair is held twice
-pub data Once : List Notification → Type 0 where
-  none : Once []
-  more : {x : Notification} {l : List Notification} → (List·Memᴰ x l → ⊥) → Once l → Once (x ∷ l)
 
 -- event e, notified at c before the bound low, is past for all: whoever waits on it began later
 pub record Gone (m : Model) (ts : List Thread) (low : Bound) (e : ℕ) (c : Cycle) : Type 0 where

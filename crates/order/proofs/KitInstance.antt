@@ -2,11 +2,9 @@
 -- and distance by paths, earliest, forecast and hazard by bounds. Of the tables it cites what a mark means and that a
 -- distance is the least over all paths.
 -- Assumes nothing.
-use Prim.Native.Nat.{ℕ, _≤_, _<_, _+_, _*_}
-use mathlib.Core.Path.{_≡_, refl, ap, sym, _∙_, subst}
-use mathlib.Core.Logic.{_⊎_, inl, inr}
-use mathlib.Core.Bool.{Bool, true, false, cond}
-use mathlib.Core.List.{List}
+use Prim.Native.Nat.{ℕ, _<_, _+_}
+use mathlib.Core.Path.{_≡_, sym, _∙_, subst}
+use mathlib.Core.List.{List, []}
 use native.Mathlib.Omega.{arith}
 use lib.Dec.{T}
 use lib.ListN.{length, getD}
@@ -14,9 +12,9 @@ use Rattle.base.proofs.BoolLaws.{T→true}
 use Rattle.clock.specs.declared.Cycle.{Cycle}
 use Rattle.clock.specs.declared.Wait.the-variants as wait
 use Rattle.clock.specs.declared.Bound.{Bound}
-use Rattle.clock.specs.declared.Bound.the-variants.{Never, At}
+use Rattle.clock.specs.declared.Bound.the-variants.{At}
 use Rattle.clock.specs.Cycle.{cycleAt}
-use Rattle.clock.specs.Advance.{_⊕_, oneDelta, noAdvance, advanceOf}
+use Rattle.clock.specs.Advance.{_⊕_, oneDelta}
 use Rattle.clock.specs.Order.{_⊑_, _≼_}
 use Rattle.clock.specs.Wait.{waitEnds}
 use Rattle.clock.proofs.OrderLaws.{≼-refl, ≼-trans}
@@ -30,9 +28,9 @@ use Rattle.model.specs.declared.Thread.{Thread}
 use Rattle.model.specs.Limits.{isBeforeHorizon}
 use Rattle.model.specs.Values.{segmentAt}
 use Rattle.model.specs.Effect.{nextOf, closedAt, effectOf}
-use Rattle.model.specs.Footprint.{writesIn, usesIn}
+use Rattle.model.specs.Footprint.{has, writesIn, usesIn, notifiesIn}
 use Rattle.model.specs.Rules.{modelFault}
-use Rattle.machine.proofs.FrameLaws.{Agree, writesIn→usesIn, effectOf-frame, effectOf-length, effectOf-local}
+use Rattle.machine.proofs.FrameLaws.{Agree, writesIn→usesIn, effectOf-frame, effectOf-length, notified-listed, effectOf-local}
 use Rattle.rules.proofs.RuleLaws.{modelFault-horizon, modelFault-counts}
 use Rattle.tables.specs.Conflict.{marksOf}
 use Rattle.tables.specs.Distance.{stepOf, goesTo, edge, distanceOf}
@@ -40,7 +38,7 @@ use Rattle.tables.specs.Word.{wordsOf, distanceIn}
 use Rattle.paths.proofs.ConflictLaws.{shared→marked}
 use Rattle.paths.proofs.DistanceLaws.{distanceOf-self, distanceOf-after, goesTo-next}
 use Rattle.paths.proofs.WordLaws.{wordsOf-length, distanceIn-wordsOf, wordsOf-fit}
-use Rattle.cycles.proofs.RecordLaws.{stateAfter-Ready, stateAfter-not-Waiting, effectOf-thread, horizon→<}
+use Rattle.cycles.proofs.RecordLaws.{stateAfter-Ready, stateAfter-not-Waiting, effectOf-thread, effectOf-waits, horizon→<}
 use Rattle.cycles.proofs.RangeLaws as range
 use Rattle.cycles.proofs.KeepLaws.{effectOf-notifies, modelFault-keeps}
 use Rattle.early.specs.declared.Notification.{Notification}
@@ -51,7 +49,6 @@ use Rattle.bounds.proofs.ForecastLaws as forecast
 use Rattle.bounds.proofs.HazardLaws as danger
 use Rattle.bounds.proofs.FitLaws.{→isFitThread, →isFitCycle, →isUnfitWords}
 use Rattle.order.proofs.Places.{recordAt, nowAt}
-use Rattle.order.proofs.PlainFacts.{PlainFacts}
 use Rattle.order.proofs.KitLaws.{Footprints, Distances, Ranges, Forecasts, KitLaws}
 use Rattle.order.proofs.PlainInstance.{plain-facts}
 
@@ -62,17 +59,14 @@ closed-ready s End c d v e = let z : _≡_ {A = ℕ} 0 1 = cc in absurd (omega a
 closed-ready s (Time k x) c d v e = rw (T→true (goesTo x (nextOf x v)) (goesTo-next x v)) (waitEnds-advance (wait.Time k) c (stateAfter-Ready _ d e))
 closed-ready s (Event w x) c d v e = let z : _≡_ {A = ℕ} 0 1 = cc in absurd (omega arith)
 
--- one that waits on an event began at c, and its step is one delta
-closed-waits : (s : ℕ) (g : Closer) (c since : Cycle) (v : List ℕ) (e : ℕ) → closedAt s g c v .state ≡ Waiting e since → (since ≡ c) × (stepOf g (closedAt s g c v .segment) ≡ oneDelta)
+-- one that waits on an event has taken a step of one delta
+closed-waits : (s : ℕ) (g : Closer) (c since : Cycle) (v : List ℕ) (e : ℕ) → closedAt s g c v .state ≡ Waiting e since → stepOf g (closedAt s g c v .segment) ≡ oneDelta
 unfolding closedAt stepOf
 closed-waits s End c since v e f = let z : _≡_ {A = ℕ} 0 1 = cc in absurd (omega arith)
 closed-waits s (Time k x) c since v e f = absurd (stateAfter-not-Waiting (waitEnds (wait.Time k) c) e since f)
-closed-waits s (Event w x) c since v e f = ((cc), rw (T→true (goesTo x (nextOf x v)) (goesTo-next x v)) advanceOf-Event)
+closed-waits s (Event w x) c since v e f = rw (T→true (goesTo x (nextOf x v)) (goesTo-next x v)) advanceOf-Event
 
 module _ (m : Model) (fit : modelFault m ≡ 0) where
-  few-segments : m .n ≤ 64
-  few-segments = modelFault-counts m fit .segments
-
   before-cut : (c : Cycle) → T (isBeforeHorizon m c) → c .time .0 < 1000000000
   before-cut c t = omega (arith, horizon→< m c t, modelFault-horizon m fit .1)
 
@@ -94,56 +88,56 @@ module _ (m : Model) (fit : modelFault m ≡ 0) where
         marked = λ i r j s v n p q h. shared→marked m fit r s p q v h;
       }
 
-  said : (r s : ℕ) → r < m .n → s < m .n → distanceIn m (wordsOf m) r s ≡ distanceOf m r s
-  said r s h l = distanceIn-wordsOf m fit r s h l
-
   -- the bound on the distance to the next segment, from that to this one
   onward : (r a b : ℕ) (y : Bound) (c d : Cycle) → r < m .n → a < m .n → b < m .n → d .time .0 < 1000000000 → At c ⊕ edge m a b ≼ At d
       → y ⊕ distanceIn m (wordsOf m) r a ≼ At c → y ⊕ distanceIn m (wordsOf m) r b ≼ At d
   onward r a b y c d rn an bn before step h =
-      rw (said r b rn bn)
+      rw (distanceIn-wordsOf m fit r b rn bn)
       (distanceOf-after m r a b rn an bn y d before
       (≼-trans ((y ⊕ distanceOf m r a) ⊕ edge m a b) (At c ⊕ edge m a b) (At d)
-      (⊕-mono (y ⊕ distanceOf m r a) (At c) (edge m a b) (edge m a b) (rw (said r a rn an) at h) (≼-refl (edge m a b)))
+      (⊕-mono (y ⊕ distanceOf m r a) (At c) (edge m a b) (edge m a b) (rw (distanceIn-wordsOf m fit r a rn an) at h) (≼-refl (edge m a b)))
       step))
 
   next-below : (k a : ℕ) (c : Cycle) (x : List ℕ) → a < m .n → effectOf m k a c x .thread .segment < m .n
   next-below k a c x h = modelFault-keeps m fit .next k a c x h
 
-  closes : (k a : ℕ) (c : Cycle) (x : List ℕ) → effectOf m k a c x .thread ≡ closedAt a (segmentAt m a .closer) c (effectOf m k a c x .variables)
-  closes k a c x = effectOf-thread m k a c x
-
   edge-ready : (k a : ℕ) (c d : Cycle) (x : List ℕ) → effectOf m k a c x .thread .state ≡ Ready d → At c ⊕ edge m a (effectOf m k a c x .thread .segment) ≡ At d
   unfolding edge
   edge-ready k a c d x e =
-      subst (λ (t : Thread). t .state ≡ Ready d → At c ⊕ stepOf (segmentAt m a .closer) (t .segment) ≡ At d) (sym (closes k a c x))
+      subst (λ (t : Thread). t .state ≡ Ready d → At c ⊕ stepOf (segmentAt m a .closer) (t .segment) ≡ At d) (sym (effectOf-thread m k a c x))
       (closed-ready a (segmentAt m a .closer) c d (effectOf m k a c x .variables)) e
 
-  edge-waits : (k a e : ℕ) (c since : Cycle) (x : List ℕ) → effectOf m k a c x .thread .state ≡ Waiting e since → (since ≡ c) × (edge m a (effectOf m k a c x .thread .segment) ≡ oneDelta)
+  edge-waits : (k a e : ℕ) (c since : Cycle) (x : List ℕ) → effectOf m k a c x .thread .state ≡ Waiting e since → edge m a (effectOf m k a c x .thread .segment) ≡ oneDelta
   unfolding edge
   edge-waits k a e c since x f =
-      subst (λ (t : Thread). t .state ≡ Waiting e since → (since ≡ c) × (stepOf (segmentAt m a .closer) (t .segment) ≡ oneDelta)) (sym (closes k a c x))
+      subst (λ (t : Thread). t .state ≡ Waiting e since → stepOf (segmentAt m a .closer) (t .segment) ≡ oneDelta) (sym (effectOf-thread m k a c x))
       (closed-waits a (segmentAt m a .closer) c since (effectOf m k a c x .variables) e) f
 
   over-event : (k r a e : ℕ) (c since h : Cycle) (x : List ℕ) (y : Bound) → k < m .t → r < m .n → a < m .n → effectOf m k a c x .thread .state ≡ Waiting e since → since ⊑ h → T (isBeforeHorizon m h)
       → y ⊕ distanceIn m (wordsOf m) r a ≼ At c → y ⊕ distanceIn m (wordsOf m) r (effectOf m k a c x .thread .segment) ≼ At h ⊕ oneDelta
   over-event k r a e c since h x y kt rn an f b t l =
-      let (began, step) = edge-waits k a e c since x f in
-      let start : c ⊑ h = subst (λ (z : Cycle). z ⊑ h) began b in
+      let start : c ⊑ h = subst (λ (z : Cycle). z ⊑ h) (effectOf-waits m k a c x e since f) b in
       rw (⊕-oneDelta h)
       (onward r a (effectOf m k a c x .thread .segment) y c (cycleAt (h .time .0) (h .delta .0 + 1)) rn an (next-below k a c x an) (before-cut h t)
-      (rw (step, ← ⊕-oneDelta h) (⊕-mono (At c) (At h) oneDelta oneDelta start (≼-refl oneDelta)))
+      (rw (edge-waits k a e c since x f, ← ⊕-oneDelta h) (⊕-mono (At c) (At h) oneDelta oneDelta start (≼-refl oneDelta)))
       l)
+
+  -- a segment notifies all that it lists, so that what it lists are events of the model
+  listed-below : (k s e : ℕ) → s < m .n → T (notifiesIn m k s e) → e < m .e
+  unfolding notifiesIn
+  listed-below k s e below t =
+      modelFault-keeps m fit .notifies k s (cycleAt 0 0) [] e below (subst (λ (es : List ℕ). T (has es e)) (sym (notified-listed m k s (cycleAt 0 0) [])) t)
 
   distances : Distances m (wordsOf m)
   distances =
       record {
         over-wait = λ k r a c d x y kt rn an f t l. onward r a (effectOf m k a c x .thread .segment) y c d rn an (next-below k a c x an) (before-cut d t) (subst (λ (z : Bound). z ≼ At d) (sym (edge-ready k a c d x f)) (≼-refl (At d))) l;
         over-event = over-event;
-        self = λ r h. said r r h h ∙ distanceOf-self m r h;
+        self = λ r h. distanceIn-wordsOf m fit r r h h ∙ distanceOf-self m r h;
         segment-below = λ k a c x kt h. next-below k a c x h;
         listed = λ k s c x e t. effectOf-notifies m k s c x e t;
-        event-below = λ k s c x e h t. modelFault-keeps m fit .notifies k s c x e h t;
+        listed-below = listed-below;
+        wait-begins = λ k s c x e since f. effectOf-waits m k s c x e since f;
       }
 
   ranges : Ranges m (wordsOf m)

@@ -1,7 +1,7 @@
 -- What the argument uses of the kit: footprints and conflicts, distances, earliest, forecast, hazard and the log's places.
 -- A later change request proves these laws anew, and the argument stays.
 -- Assumes nothing.
-use Prim.Native.Nat.{ℕ, _≤_, _<_, _+_}
+use Prim.Native.Nat.{ℕ, _≤_, _<_}
 use mathlib.Core.Path.{_≡_}
 use mathlib.Core.Logic.{_⊎_}
 use mathlib.Core.Bool.{Bool, true, false}
@@ -10,7 +10,7 @@ use lib.Dec.{T}
 use lib.ListN.{length, getD}
 use Rattle.clock.specs.declared.Cycle.{Cycle}
 use Rattle.clock.specs.declared.Bound.{Bound}
-use Rattle.clock.specs.declared.Bound.the-variants.{Never, At}
+use Rattle.clock.specs.declared.Bound.the-variants.{At}
 use Rattle.clock.specs.Cycle.{stampAt}
 use Rattle.clock.specs.Advance.{_⊕_, oneDelta, noAdvance}
 use Rattle.clock.specs.Order.{Before, _⊑_, _≼_}
@@ -19,12 +19,11 @@ use Rattle.model.specs.declared.State.the-variants.{Ready, Waiting}
 use Rattle.model.specs.declared.Thread.{Thread}
 use Rattle.model.specs.Limits.{cutTime, isBeforeHorizon}
 use Rattle.model.specs.Record.{threadAt, isLive}
-use Rattle.model.specs.Effect.{Effect, effectOf}
+use Rattle.model.specs.Effect.{effectOf}
 use Rattle.model.specs.Footprint.{writesIn, usesIn, has, notifiesIn}
 use Rattle.model.specs.Rules.{modelFault}
 use Rattle.tables.specs.Word.{distanceIn}
 use Rattle.early.specs.declared.Notification.{Notification}
-use Rattle.early.specs.Earliest.{earliestOf}
 use Rattle.early.specs.Forecast.{forecastOf}
 use Rattle.early.specs.Hazard.{marksConflict, isSooner, hazard}
 use Rattle.early.specs.Fit.{isFitCycle, isFitThread, isUnfitWords}
@@ -54,7 +53,9 @@ pub record Distances (m : Model) (ws : List ℕ) : Type 0 where
   pub self : (r : ℕ) → r < m .n → distanceIn m ws r r ≡ noAdvance
   pub segment-below : (k a : ℕ) (c : Cycle) (x : List ℕ) → k < m .t → a < m .n → effectOf m k a c x .thread .segment < m .n
   pub listed : (k s : ℕ) (c : Cycle) (x : List ℕ) (e : ℕ) → T (has (effectOf m k s c x .notified) e) → T (notifiesIn m k s e)
-  pub event-below : (k s : ℕ) (c : Cycle) (x : List ℕ) (e : ℕ) → s < m .n → T (has (effectOf m k s c x .notified) e) → e < m .e
+  pub listed-below : (k s e : ℕ) → s < m .n → T (notifiesIn m k s e) → e < m .e
+  -- a wait begins at the cycle in which its segment runs
+  pub wait-begins : (k s : ℕ) (c : Cycle) (x : List ℕ) (e : ℕ) (since : Cycle) → effectOf m k s c x .thread .state ≡ Waiting e since → since ≡ c
 
 -- L4 and L5: earliest is sound at its links, and attained; forecast and hazard read by it. For every log and records.
 pub record Forecasts (m : Model) (marks : List (List Bool)) (ws : List ℕ) (l : List Notification) (ts : List Thread) : Type 0 where

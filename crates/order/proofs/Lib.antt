@@ -2,18 +2,15 @@ pub mod Places
 pub mod PlainFacts
 pub mod KitLaws
 pub mod Invariant
-pub mod Accepted
 pub mod CutLaws
 pub mod GoodLaws
 pub mod PlaceLaws
 pub mod LowerBound
-pub mod LogFacts
 pub mod Grant
 pub mod GrantedCut
 pub mod Hear
 pub mod HeardCut
 pub mod Settle
-pub mod HeldOnce
 pub mod Floor
 pub mod Drop
 pub mod Capacity
@@ -25,6 +22,8 @@ pub mod Lists
 pub mod CarriedOn
 pub mod SamePlaces
 pub mod Theorem
+pub mod ReadSoFar
+pub mod Accepted
 pub mod PlainInstance
 pub mod KitInstance
 pub mod OrderIndependent

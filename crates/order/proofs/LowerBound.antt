@@ -1,7 +1,7 @@
 -- Bounds are sound: a place that is not done runs no sooner than its thread's earliest plus the distance to its segment.
 -- By induction on the place. A ready thread goes on by its own steps. A waiting one is woken by a notification of an earlier
 -- place: if that is done, it is logged, and earliest knows it; if not, the bound holds there, and earliest knows the link.
--- Assumes nothing.
+-- Takes as given the facts of the plain run (PlainFacts) and the laws of the kit (KitLaws).
 use Prim.Native.Nat.{ℕ, zero, suc, _≤_, _<_}
 use mathlib.Core.Path.{_≡_, refl, ap, sym, _∙_, subst}
 use mathlib.Core.Logic.{_⊎_, inl, inr}
@@ -29,12 +29,13 @@ use Rattle.model.specs.Record.{threadAt, isLive, stateAfter}
 use Rattle.plain.specs.History.{Item}
 use Rattle.plain.specs.Step.{placeAt}
 use Rattle.tables.specs.Word.{distanceIn}
+use Rattle.cycles.proofs.RecordLaws.{stateAfter-not-Waiting}
 use Rattle.early.specs.declared.Notification.{Notification}
 use Rattle.early.specs.Log.{pairOf}
 use Rattle.order.proofs.Places.{nowAt, recordAt, effectThere, Runs, Says, Hears, Happens, idle, runs, hears}
 use Rattle.order.proofs.PlainFacts.{PlainFacts}
 use Rattle.order.proofs.KitLaws.{KitLaws, Forecasts}
-use Rattle.order.proofs.PlaceLaws.{Over, over-ready-not, over-stays, heard-ready, stateAfter-Waiting}
+use Rattle.order.proofs.PlaceLaws.{Over, over-ready-not, over-stays, heard-ready}
 use Rattle.order.proofs.Invariant.{Gone, IsCut, Bounded}
 
 module _ (m : Model) (pf : PlainFacts m) (marks : List (List Bool)) (ws : List ℕ) (kl : KitLaws m marks ws)
@@ -67,23 +68,23 @@ module _ (m : Model) (pf : PlainFacts m) (marks : List (List Bool)) (ws : List �
 
     -- What is shown of thread k at place n, by its state there. Ready: the bound is not after its cycle, if that is before the
     -- horizon. Waiting: the record is still the one at the cut, or the bound is not after the delta that follows any hearing.
-    abbrev Reached : ℕ → ℕ → State → Type 0
-    Reached k n (Ready c) = T (isBeforeHorizon m c) → far k n ≼ At c
-    Reached k n (Waiting e since) = (recordAt m n k ≡ threadAt ts k) ⊎ ((c : Cycle) → since ⊑ c → T (isBeforeHorizon m c) → far k n ≼ At c ⊕ oneDelta)
-    Reached k n (Ended c) = Unit {0}
-    Reached k n (Overrun c) = Unit {0}
+    abbrev BoundAt : ℕ → ℕ → State → Type 0
+    BoundAt k n (Ready c) = T (isBeforeHorizon m c) → far k n ≼ At c
+    BoundAt k n (Waiting e since) = (recordAt m n k ≡ threadAt ts k) ⊎ ((c : Cycle) → since ⊑ c → T (isBeforeHorizon m c) → far k n ≼ At c ⊕ oneDelta)
+    BoundAt k n (Ended c) = Unit {0}
+    BoundAt k n (Overrun c) = Unit {0}
 
     abbrev UpTo : ℕ → Type 0
-    UpTo n = (k j : ℕ) → j ≤ n → k < m .t → cut k ≤ j → (s : State) → recordAt m j k .state ≡ s → Reached k j s
+    UpTo n = (k j : ℕ) → j ≤ n → k < m .t → cut k ≤ j → (s : State) → recordAt m j k .state ≡ s → BoundAt k j s
 
-    reached-cut : (k : ℕ) → k < m .t → (s : State) → recordAt m (cut k) k .state ≡ s → Reached k (cut k) s
-    reached-cut k kt (Ready c) e = λ before. rw (far-still k (cut k) kt (sym (ic .records k kt)), f .ready k c kt (ap (λ (t : Thread). t .state) (ic .records k kt) ∙ e)) ⊑-refl
-    reached-cut k kt (Waiting v since) e = inl (sym (ic .records k kt))
-    reached-cut k kt (Ended c) e = tt
-    reached-cut k kt (Overrun c) e = tt
+    bound-at-cut : (k : ℕ) → k < m .t → (s : State) → recordAt m (cut k) k .state ≡ s → BoundAt k (cut k) s
+    bound-at-cut k kt (Ready c) e = λ before. rw (far-still k (cut k) kt (sym (ic .records k kt)), f .ready k c kt (ap (λ (t : Thread). t .state) (ic .records k kt) ∙ e)) ⊑-refl
+    bound-at-cut k kt (Waiting v since) e = inl (sym (ic .records k kt))
+    bound-at-cut k kt (Ended c) e = tt
+    bound-at-cut k kt (Overrun c) e = tt
 
-    at-place : (k n : ℕ) → cut k ≡ n → k < m .t → (s : State) → recordAt m n k .state ≡ s → Reached k n s
-    at-place k n here kt s e = subst (λ (i : ℕ). recordAt m i k .state ≡ s → Reached k i s) here (reached-cut k kt s) e
+    at-place : (k n : ℕ) → cut k ≡ n → k < m .t → (s : State) → recordAt m n k .state ≡ s → BoundAt k n s
+    at-place k n here kt s e = subst (λ (i : ℕ). recordAt m i k .state ≡ s → BoundAt k i s) here (bound-at-cut k kt s) e
 
     -- a thread that still waits as at its cut, and hears at place n: earliest is not after the delta that follows
     heard-next : (n : ℕ) → UpTo n → (k e : ℕ) (since : Cycle) → Hears m n k e since → recordAt m n k ≡ threadAt ts k → f .earliest k ≼ At (nowAt m n) ⊕ oneDelta
@@ -104,44 +105,44 @@ module _ (m : Model) (pf : PlainFacts m) (marks : List (List Bool)) (ws : List �
             (kl .distances .listed j (recordAt m q j .segment) (nowAt m q) (placeAt m q .variables) e (says .notifies)) (rw now (hear .begun))
             (ih j q (omega arith) (run .below) (omega arith) (Ready (nowAt m q)) (run .ready) (pf .now-before q))
 
-    reached-idle : (n k : ℕ) → recordAt m (suc n) k ≡ recordAt m n k → (s : State) → Reached k n s → Reached k (suc n) s
-    reached-idle n k same (Ready c) p = λ b. subst (λ (t : Thread). boundTo k t ≼ At c) (sym same) (p b)
-    reached-idle n k same (Waiting e since) (inl p) = inl (same ∙ p)
-    reached-idle n k same (Waiting e since) (inr p) = inr (λ c a b. subst (λ (t : Thread). boundTo k t ≼ At c ⊕ oneDelta) (sym same) (p c a b))
-    reached-idle n k same (Ended c) p = tt
-    reached-idle n k same (Overrun c) p = tt
+    bound-idle : (n k : ℕ) → recordAt m (suc n) k ≡ recordAt m n k → (s : State) → BoundAt k n s → BoundAt k (suc n) s
+    bound-idle n k same (Ready c) p = λ b. subst (λ (t : Thread). boundTo k t ≼ At c) (sym same) (p b)
+    bound-idle n k same (Waiting e since) (inl p) = inl (same ∙ p)
+    bound-idle n k same (Waiting e since) (inr p) = inr (λ c a b. subst (λ (t : Thread). boundTo k t ≼ At c ⊕ oneDelta) (sym same) (p c a b))
+    bound-idle n k same (Ended c) p = tt
+    bound-idle n k same (Overrun c) p = tt
 
-    reached-run : (n k : ℕ) → k < m .t → recordAt m (suc n) k ≡ effectThere m n k .thread → far k n ≼ At (nowAt m n) → (s : State) → recordAt m (suc n) k .state ≡ s → Reached k (suc n) s
-    reached-run n k kt next p (Ready d) e = λ b. subst (λ (t : Thread). boundTo k t ≼ At d) (sym next)
+    bound-run : (n k : ℕ) → k < m .t → recordAt m (suc n) k ≡ effectThere m n k .thread → far k n ≼ At (nowAt m n) → (s : State) → recordAt m (suc n) k .state ≡ s → BoundAt k (suc n) s
+    bound-run n k kt next p (Ready d) e = λ b. subst (λ (t : Thread). boundTo k t ≼ At d) (sym next)
         (kl .distances .over-wait k (threadAt ts k .segment) (recordAt m n k .segment) (nowAt m n) d (placeAt m n .variables) (f .earliest k) kt (segment-cut k kt) (pf .segment-below n k kt) (ap (λ (t : Thread). t .state) (sym next) ∙ e) b p)
-    reached-run n k kt next p (Waiting v since) e = inr (λ c a b. subst (λ (t : Thread). boundTo k t ≼ At c ⊕ oneDelta) (sym next)
+    bound-run n k kt next p (Waiting v since) e = inr (λ c a b. subst (λ (t : Thread). boundTo k t ≼ At c ⊕ oneDelta) (sym next)
         (kl .distances .over-event k (threadAt ts k .segment) (recordAt m n k .segment) v (nowAt m n) since c (placeAt m n .variables) (f .earliest k) kt (segment-cut k kt) (pf .segment-below n k kt) (ap (λ (t : Thread). t .state) (sym next) ∙ e) a b p))
-    reached-run n k kt next p (Ended d) e = tt
-    reached-run n k kt next p (Overrun d) e = tt
+    bound-run n k kt next p (Ended d) e = tt
+    bound-run n k kt next p (Overrun d) e = tt
 
-    reached-heard : (n k : ℕ) → recordAt m (suc n) k ≡ record { segment = recordAt m n k .segment; state = stateAfter (waitEnds wait.Event (nowAt m n)) } → far k n ≼ At (nowAt m n) ⊕ oneDelta → (s : State) → recordAt m (suc n) k .state ≡ s → Reached k (suc n) s
-    reached-heard n k next p (Ready d) e = λ b. subst (λ (t : Thread). boundTo k t ≼ At d) (sym next) (subst (λ (y : Bound). far k n ≼ y) (heard-ready (nowAt m n) d (ap (λ (t : Thread). t .state) (sym next) ∙ e)) p)
-    reached-heard n k next p (Waiting v since) e = absurd (stateAfter-Waiting (waitEnds wait.Event (nowAt m n)) v since (ap (λ (t : Thread). t .state) (sym next) ∙ e))
-    reached-heard n k next p (Ended d) e = tt
-    reached-heard n k next p (Overrun d) e = tt
+    bound-heard : (n k : ℕ) → recordAt m (suc n) k ≡ record { segment = recordAt m n k .segment; state = stateAfter (waitEnds wait.Event (nowAt m n)) } → far k n ≼ At (nowAt m n) ⊕ oneDelta → (s : State) → recordAt m (suc n) k .state ≡ s → BoundAt k (suc n) s
+    bound-heard n k next p (Ready d) e = λ b. subst (λ (t : Thread). boundTo k t ≼ At d) (sym next) (subst (λ (y : Bound). far k n ≼ y) (heard-ready (nowAt m n) d (ap (λ (t : Thread). t .state) (sym next) ∙ e)) p)
+    bound-heard n k next p (Waiting v since) e = absurd (stateAfter-not-Waiting (waitEnds wait.Event (nowAt m n)) v since (ap (λ (t : Thread). t .state) (sym next) ∙ e))
+    bound-heard n k next p (Ended d) e = tt
+    bound-heard n k next p (Overrun d) e = tt
 
-    reached-next : (n : ℕ) → UpTo n → (k : ℕ) → k < m .t → cut k ≤ n → Happens m n k → (s : State) → recordAt m (suc n) k .state ≡ s → Reached k (suc n) s
-    reached-next n ih k kt from (idle same _ _ _) s e = reached-idle n k same s (ih k n (omega arith) kt from s (ap (λ (t : Thread). t .state) (sym same) ∙ e))
-    reached-next n ih k kt from (runs r next _) s e = reached-run n k kt next (ih k n (omega arith) kt from (Ready (nowAt m n)) (r .ready) (pf .now-before n)) s e
-    reached-next n ih k kt from (hears v since hear next _) s e = reached-heard n k next (go (ih k n (omega arith) kt from (Waiting v since) (hear .waits))) s e
+    bound-next : (n : ℕ) → UpTo n → (k : ℕ) → k < m .t → cut k ≤ n → Happens m n k → (s : State) → recordAt m (suc n) k .state ≡ s → BoundAt k (suc n) s
+    bound-next n ih k kt from (idle same _ _ _) s e = bound-idle n k same s (ih k n (omega arith) kt from s (ap (λ (t : Thread). t .state) (sym same) ∙ e))
+    bound-next n ih k kt from (runs r next _) s e = bound-run n k kt next (ih k n (omega arith) kt from (Ready (nowAt m n)) (r .ready) (pf .now-before n)) s e
+    bound-next n ih k kt from (hears v since hear next _) s e = bound-heard n k next (go (ih k n (omega arith) kt from (Waiting v since) (hear .waits))) s e
       where
         go : (recordAt m n k ≡ threadAt ts k) ⊎ ((c : Cycle) → since ⊑ c → T (isBeforeHorizon m c) → far k n ≼ At c ⊕ oneDelta) → far k n ≼ At (nowAt m n) ⊕ oneDelta
         go (inl same) = rw (far-still k n kt same) (heard-next n ih k v since hear same)
         go (inr p) = p (nowAt m n) (hear .begun) (pf .now-before n)
 
-    reached : (n : ℕ) → UpTo n
-    reached zero k j h kt from s e = at-place k j (omega arith) kt s e
-    reached (suc n) k j h kt from s e = go (ℕ-discrete j (suc n)) (ℕ-discrete (cut k) j) (reached n)
+    bound-up-to : (n : ℕ) → UpTo n
+    bound-up-to zero k j h kt from s e = at-place k j (omega arith) kt s e
+    bound-up-to (suc n) k j h kt from s e = go (ℕ-discrete j (suc n)) (ℕ-discrete (cut k) j) (bound-up-to n)
       where
-        go : Dec (j ≡ suc n) → Dec (cut k ≡ j) → UpTo n → Reached k j s
+        go : Dec (j ≡ suc n) → Dec (cut k ≡ j) → UpTo n → BoundAt k j s
         go _ (yes here) ih = at-place k j here kt s e
         go (no below) (no _) ih = ih k j (omega arith) kt from s e
-        go (yes top) (no late) ih = subst (λ (i : ℕ). recordAt m i k .state ≡ s → Reached k i s) (sym top) (reached-next n ih k kt (omega arith) (pf .happens n k kt) s) e
+        go (yes top) (no late) ih = subst (λ (i : ℕ). recordAt m i k .state ≡ s → BoundAt k i s) (sym top) (bound-next n ih k kt (omega arith) (pf .happens n k kt) s) e
 
     pub bounded : Bounded m ws ts cut (f .earliest)
-    bounded = record { sound = λ q j r new. reached q j q (omega arith) (r .below) (omega arith) (Ready (nowAt m q)) (r .ready) (pf .now-before q); live = live-undone }
+    bounded = record { sound = λ q j r new. bound-up-to q j q (omega arith) (r .below) (omega arith) (Ready (nowAt m q)) (r .ready) (pf .now-before q); live = live-undone }

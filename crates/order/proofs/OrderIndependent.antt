@@ -2,15 +2,14 @@
 -- argument applies.
 -- Assumes nothing.
 use Rattle.order.specs.Claim.{OrderIndependence}
-use Rattle.reader.specs.declared.Read.{Read}
 use Rattle.reader.specs.File.{readFile}
 use Rattle.order.proofs.Accepted.{accepted-kept}
 use Rattle.order.proofs.PlainInstance.{plain-facts}
 use Rattle.order.proofs.KitInstance.{kit-laws}
-use Rattle.order.proofs.Theorem as theorem
+use Rattle.order.proofs.Theorem.{claims-hold}
 
 pub order-independence : OrderIndependence
 order-independence =
-    theorem.order-independence
+    claims-hold
     (λ bytes e. kit-laws (readFile bytes .model) (accepted-kept bytes e))
     (λ bytes e. plain-facts (readFile bytes .model) (accepted-kept bytes e))

@@ -1,7 +1,7 @@
 -- What follows for one thread at one place of the plain run: a run leaves the record and the item that the effect says, and
--- no sooner a ready cycle or a wait than its own cycle; a hearing leaves the thread ready one delta later, or overrun; a thread
--- that has ended or overrun stays so.
--- Assumes nothing.
+-- no sooner a ready cycle than its own; a hearing leaves the thread ready one delta later, or overrun; a thread that has ended or
+-- overrun stays so.
+-- Takes as given the facts of the plain run (PlainFacts).
 use Prim.Native.Nat.{ℕ, zero, suc, _≤_, _<_}
 use mathlib.Core.Path.{_≡_, refl, ap, sym, _∙_, subst}
 use mathlib.Core.Logic.{_⊎_, inl, inr}
@@ -9,65 +9,41 @@ use mathlib.Core.Bool.{not}
 use mathlib.Core.List.{List, [], _∷_, _++_}
 use native.Mathlib.Omega.{arith}
 use native.Mathlib.Decide.{ℕ-discrete}
-use lib.Dec.{T, ltb→lt, nltb→le}
-use lib.ListN.{length, set}
-use lib.Seq.{getD-set-same, getD-set-other}
+use lib.Dec.{T, T-not}
 use Rattle.base.proofs.BoolLaws.{T-case}
 use Rattle.clock.specs.declared.Cycle.{Cycle}
 use Rattle.clock.specs.declared.Wait.the-variants as wait
-use Rattle.clock.specs.declared.Step.{Step}
-use Rattle.clock.specs.declared.Step.the-variants as step
 use Rattle.clock.specs.declared.Bound.the-variants.{At}
 use Rattle.clock.specs.Wait.{waitEnds}
 use Rattle.clock.specs.Advance.{_⊕_, oneDelta}
-use Rattle.clock.specs.Order.{_⊑_, sooner}
+use Rattle.clock.specs.Order.{Before, _⊑_}
+use Rattle.clock.proofs.OrderLaws.{⊑-total, Before→⊑}
 use Rattle.clock.proofs.AdvanceLaws.{advanceOf-Event}
 use Rattle.clock.proofs.WaitLaws.{waitEnds-advance}
 use Rattle.model.specs.declared.Model.{Model}
-use Rattle.model.specs.declared.Closer.{Closer}
-use Rattle.model.specs.declared.Closer.the-variants as closer
 use Rattle.model.specs.declared.State.{State}
 use Rattle.model.specs.declared.State.the-variants.{Ready, Waiting}
 use Rattle.model.specs.declared.Thread.{Thread}
 use Rattle.model.specs.Limits.{isBeforeHorizon}
-use Rattle.model.specs.Values.{segmentAt, bodyOf}
-use Rattle.model.specs.Statement.{execute}
-use Rattle.model.specs.Record.{noThread, threadAt, isLive, stateAfter}
-use Rattle.model.specs.Effect.{closedAt, effectIn, effectOf}
+use Rattle.model.specs.Record.{isLive, stateAfter}
 use Rattle.plain.specs.Step.{placeAt}
 use Rattle.plain.specs.History.{Item, ran, itemsAt, historyAt}
+use Rattle.cycles.proofs.RecordLaws.{Ready-not-Waiting, stateAfter-Ready, horizon-mono}
+use Rattle.cycles.proofs.HappenLaws.{historyAt-more}
 use Rattle.order.proofs.Places.{nowAt, recordAt, effectThere, Runs, Happens, idle, runs, hears}
 use Rattle.order.proofs.PlainFacts.{PlainFacts}
-
-pub Ready-not-Waiting : {c d : Cycle} {e : ℕ} {s : State} → s ≡ Ready c → s ≡ Waiting e d → ⊥
-Ready-not-Waiting p q = let z : _≡_ {A = ℕ} 0 1 = cc in omega arith
-
-pub stateAfter-Ready : (s : Step) (d : Cycle) → stateAfter s ≡ Ready d → s ≡ step.Ready d
-stateAfter-Ready (step.Ready c) d e = let f : c ≡ d = cc in ap step.Ready f
-stateAfter-Ready (step.Overrun c) d e = let z : _≡_ {A = ℕ} 0 1 = cc in absurd (omega arith)
-
-pub stateAfter-Waiting : (s : Step) (e : ℕ) (d : Cycle) → stateAfter s ≡ Waiting e d → ⊥
-stateAfter-Waiting (step.Ready c) e d f = let z : _≡_ {A = ℕ} 0 1 = cc in omega arith
-stateAfter-Waiting (step.Overrun c) e d f = let z : _≡_ {A = ℕ} 0 1 = cc in omega arith
 
 -- whoever hears at c, and is then ready, is so one delta later
 pub heard-ready : (c d : Cycle) → stateAfter (waitEnds wait.Event c) ≡ Ready d → At c ⊕ oneDelta ≡ At d
 heard-ready c d e = rw (← advanceOf-Event) (waitEnds-advance wait.Event c (stateAfter-Ready (waitEnds wait.Event c) d e))
 
--- a wait on an event begins at the cycle in which the segment runs: this opens what a thread does
-pub wait-begins : (m : Model) (k s : ℕ) (c : Cycle) (x : List ℕ) (e : ℕ) (since : Cycle) → effectOf m k s c x .thread .state ≡ Waiting e since → since ≡ c
-unfolding effectOf effectIn closedAt
-wait-begins m k s c x e since p = go (segmentAt m s .closer) p
-  where
-    go : (z : Closer) → closedAt s z c (execute (bodyOf (segmentAt m s)) x) .state ≡ Waiting e since → since ≡ c
-    go closer.End q = let z : _≡_ {A = ℕ} 0 1 = cc in absurd (omega arith)
-    go (closer.Time d n) q = absurd (stateAfter-Waiting (waitEnds (wait.Time d) c) e since q)
-    go (closer.Event v n) q = cc
-
 -- a cycle before the horizon is not after one that is not
-pub horizon-⊑ : (m : Model) (c d : Cycle) → T (isBeforeHorizon m c) → T (not (isBeforeHorizon m d)) → c ⊑ d
-unfolding isBeforeHorizon
-horizon-⊑ m c d before after = sooner (omega (arith, ltb→lt (c .time .0) (m .horizon .0) before, nltb→le (d .time .0) (m .horizon .0) after))
+horizon-⊑ : (m : Model) (c d : Cycle) → T (isBeforeHorizon m c) → T (not (isBeforeHorizon m d)) → c ⊑ d
+horizon-⊑ m c d before late = go (⊑-total c d)
+  where
+    go : (c ⊑ d) ⊎ Before d c → c ⊑ d
+    go (inl h) = h
+    go (inr h) = absurd (T-not (isBeforeHorizon m d) late (horizon-mono m (Before→⊑ h) before))
 
 -- one that has ended or overrun neither runs nor hears
 abbrev pub Over : Thread → Type 0
@@ -79,23 +55,9 @@ over-ready-not t c over e = subst (λ (s : State). T (not (isLive s))) e over
 pub over-waits-not : (t : Thread) (e : ℕ) (since : Cycle) → Over t → t .state ≡ Waiting e since → ⊥
 over-waits-not t e since over p = subst (λ (s : State). T (not (isLive s))) p over
 
--- records of which one is set
-pub threadAt-set-same : (ts : List Thread) (k : ℕ) (t : Thread) (j : ℕ) → j ≡ k → k < length ts → threadAt (set ts k t) j ≡ t
-unfolding threadAt
-threadAt-set-same ts k t j e h = rw e (getD-set-same ts k t noThread h)
-
-pub threadAt-set-other : (ts : List Thread) (k : ℕ) (t : Thread) (j : ℕ) → (j ≡ k → ⊥) → threadAt (set ts k t) j ≡ threadAt ts j
-unfolding threadAt
-threadAt-set-other ts k t j other = getD-set-other ts k j t noThread other
-
 -- a place runs one thread
 pub same-runner : (m : Model) (p a b : ℕ) → Runs m p a → Runs m p b → a ≡ b
 same-runner m p a b r s = sym (r .turn) ∙ s .turn
-
--- a step adds its items
-pub history-next : (m : Model) (k i : ℕ) → historyAt m k (suc i) ≡ historyAt m k i ++ itemsAt m (placeAt m i) k
-unfolding historyAt
-history-next m k i = refl
 
 module _ (m : Model) (pf : PlainFacts m) where
   pub over-stays : (k n j : ℕ) → k < m .t → n ≤ j → Over (recordAt m n k) → recordAt m j k ≡ recordAt m n k
@@ -121,7 +83,7 @@ module _ (m : Model) (pf : PlainFacts m) where
         go (hears e since r _ _) = absurd (Ready-not-Waiting (here .ready) (r .waits))
 
     pub run-history : historyAt m k (suc i) ≡ historyAt m k i ++ (ran (recordAt m i k .segment) (nowAt m i) ∷ [])
-    run-history = history-next m k i ∙ ap (λ (l : List Item). historyAt m k i ++ l) (go (pf .happens i k (here .below)))
+    run-history = historyAt-more m k i ∙ ap (λ (l : List Item). historyAt m k i ++ l) (go (pf .happens i k (here .below)))
       where
         go : Happens m i k → itemsAt m (placeAt m i) k ≡ ran (recordAt m i k .segment) (nowAt m i) ∷ []
         go (idle _ _ none _) = absurd (none here)

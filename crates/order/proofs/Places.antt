@@ -3,7 +3,7 @@
 -- Assumes nothing.
 use Prim.Native.Nat.{ℕ, suc, _≤_, _<_}
 use mathlib.Core.Path.{_≡_}
-use mathlib.Core.List.{List, [], _∷_}
+use mathlib.Core.List.{[], _∷_}
 use lib.Dec.{T}
 use Rattle.clock.specs.declared.Cycle.{Cycle}
 use Rattle.clock.specs.declared.Wait.the-variants as wait
@@ -15,7 +15,6 @@ use Rattle.model.specs.declared.Thread.{Thread}
 use Rattle.model.specs.Record.{threadAt, stateAfter}
 use Rattle.model.specs.Effect.{Effect, effectOf}
 use Rattle.model.specs.Footprint.{has}
-use Rattle.plain.specs.Start.{Place}
 use Rattle.plain.specs.Step.{placeAt}
 use Rattle.plain.specs.History.{ran, heard, itemsAt}
 

@@ -4,8 +4,7 @@
 use Prim.Native.Nat.{ℕ, suc, _≤_, _<_}
 use mathlib.Core.Path.{_≡_}
 use mathlib.Core.Logic.{_⊎_}
-use mathlib.Core.Bool.{Bool, true}
-use mathlib.Core.List.{List}
+use mathlib.Core.Bool.{true}
 use lib.Dec.{T}
 use lib.ListN.{length}
 use Rattle.clock.specs.declared.Cycle.{Cycle}
@@ -13,8 +12,6 @@ use Rattle.clock.specs.Order.{Before, _⊑_}
 use Rattle.model.specs.declared.Model.{Model}
 use Rattle.model.specs.declared.State.the-variants.{Ready, Waiting}
 use Rattle.model.specs.Limits.{isBeforeHorizon}
-use Rattle.model.specs.Footprint.{has}
-use Rattle.plain.specs.Start.{Place}
 use Rattle.plain.specs.Step.{placeAt}
 use Rattle.plain.specs.Run.{isDone}
 use Rattle.plain.specs.History.{historyAt}

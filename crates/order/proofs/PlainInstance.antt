@@ -7,13 +7,9 @@ use mathlib.Core.Logic.{_⊎_, inl, inr}
 use mathlib.Core.List.{List}
 use native.Mathlib.Omega.{arith}
 use lib.Dec.{T}
-use lib.ListN.{length}
-use borrow.Author.Tests.{lt-ltb, le-ltb}
-use Rattle.base.proofs.BoolLaws.{T→true}
 use Rattle.clock.specs.declared.Cycle.{Cycle}
 use Rattle.clock.specs.Order.{_⊑_}
 use Rattle.model.specs.declared.Model.{Model}
-use Rattle.model.specs.declared.State.{State}
 use Rattle.model.specs.declared.State.the-variants.{Ready, Waiting}
 use Rattle.model.specs.declared.Thread.{Thread}
 use Rattle.model.specs.Limits.{isBeforeHorizon}
@@ -21,10 +17,10 @@ use Rattle.model.specs.Record.{threadAt}
 use Rattle.model.specs.Footprint.{has}
 use Rattle.model.specs.Rules.{modelFault}
 use Rattle.plain.specs.Start.{Place}
-use Rattle.plain.specs.Step.{isDue, stepped, placeAt}
+use Rattle.plain.specs.Step.{stepped, placeAt}
 use Rattle.plain.specs.Run.{lastStep}
 use Rattle.cycles.proofs.RecordLaws.{has-none}
-use Rattle.cycles.proofs.StepLaws.{Kind, ran, passed, closed, kindOf, Sees, sees, sees-ran, sees-passed, sees-begun, sees-rested, ran-not-closed, passed-not-closed, Ready→isDue, placeAt-more, stepped-variables-ran, stepped-variables-other}
+use Rattle.cycles.proofs.StepLaws.{Sees, sees, sees-ran, sees-passed, sees-begun, sees-rested, ran-not-closed, closed→turned, turned→closed, ready→ran, placeAt-more, stepped-variables-ran, stepped-variables-other}
 use Rattle.cycles.proofs.HappenLaws as happen
 use Rattle.cycles.proofs.SteadyLaws as steady
 use Rattle.cycles.proofs.NotifyLaws as notify
@@ -36,24 +32,6 @@ use Rattle.cycles.proofs.DoneLaws.{Done, isDone-parts, placeAt-stands, isDone-c
 use Rattle.cycles.proofs.KeepLaws.{modelFault-keeps}
 use Rattle.order.proofs.Places.{nowAt, recordAt, Runs, effectThere, Says, Hears, Happens, idle, runs, hears}
 use Rattle.order.proofs.PlainFacts.{NextRun, NextHearing, Ending, PlainFacts}
-
--- the kind of a step, from the turn and the record
-kind-ran : (m : Model) (p : Place) → p .turn < m .t → T (isDue p) → kindOf m p ≡ ran
-unfolding kindOf
-kind-ran m p h d = rw (lt-ltb (p .turn) (m .t) h, T→true (isDue p) d) refl
-
-kind-closed : (m : Model) (p : Place) → m .t ≤ p .turn → kindOf m p ≡ closed
-unfolding kindOf
-kind-closed m p h = rw (le-ltb (p .turn) (m .t) h) refl
-
-closed-turn : (m : Model) (p : Place) → kindOf m p ≡ closed → m .t ≤ p .turn
-closed-turn m p e = go (sees m p)
-  where
-    go : Sees m p → m .t ≤ p .turn
-    go (sees-ran q h r s) = absurd (ran-not-closed q e)
-    go (sees-passed q h r s) = absurd (passed-not-closed q e)
-    go (sees-begun q h c f b s) = h
-    go (sees-rested q h l s) = h
 
 -- the record of thread k after the step from place i
 abbrev stepRecord : Model → ℕ → ℕ → Thread
@@ -68,14 +46,14 @@ module _ (m : Model) where
   runs-back i k r =
       let turn = r .turn in
       let ready : recordAt m i (placeAt m i .turn) .state ≡ Ready (nowAt m i) = subst (λ (j : ℕ). recordAt m i j .state ≡ Ready (nowAt m i)) (sym turn) (r .ready) in
-      (kind-ran m (placeAt m i) (omega (arith, turn, r .below)) (Ready→isDue (placeAt m i) ready), turn)
+      (ready→ran m (placeAt m i) (omega (arith, turn, r .below)) ready, turn)
 
   -- who hears
   hears-there : (i k e : ℕ) → k < m .t → (h : happen.Hears m (placeAt m i) k e) → Hears m i k e (h .since)
-  hears-there i k e l h = record { below = l; closes = closed-turn m (placeAt m i) (h .closing); waits = h .waiting; notified = h .notified; begun = h .begun }
+  hears-there i k e l h = record { below = l; closes = closed→turned m (placeAt m i) (h .closing); waits = h .waiting; notified = h .notified; begun = h .begun }
 
   hears-back : (i k e : ℕ) (since : Cycle) → Hears m i k e since → happen.Hears m (placeAt m i) k e
-  hears-back i k e since h = record { closing = kind-closed m (placeAt m i) (h .closes); since = since; waiting = h .waits; notified = h .notified; begun = h .begun }
+  hears-back i k e since h = record { closing = turned→closed m (placeAt m i) (h .closes); since = since; waiting = h .waits; notified = h .notified; begun = h .begun }
 
   happens-there : (i k : ℕ) → k < m .t → Happens m i k
   happens-there i k l = go (happen.happens-at m i k)
@@ -142,7 +120,7 @@ module _ (m : Model) where
         record {
           place = h .place;
           from = h .quiet .forth;
-          hears = record { below = l; closes = closed-turn m (placeAt m (h .place)) (h .hears .closing); waits = waits; notified = h .hears .notified; begun = hear.begun m (h .place) k e since waits };
+          hears = record { below = l; closes = closed→turned m (placeAt m (h .place)) (h .hears .closing); waits = waits; notified = h .hears .notified; begun = hear.begun m (h .place) k e since waits };
           by = h .not-after;
           still = same;
           history = h .quiet .same-history;

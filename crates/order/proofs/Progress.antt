@@ -1,25 +1,23 @@
 -- Never a standstill (section 6 of the argument). In a reached state the least ready stamp before the horizon has no hazard,
 -- since every earliest is at the floor or later and a waiting thread's is later; and its request finds places in the log.
 -- So it is granted; and where some thread is ready before the horizon, there is a least.
--- Takes as given that what a segment lists are events of the model.
+-- Takes as given the facts of the plain run (PlainFacts) and the laws of the kit (KitLaws).
 use Prim.Native.Nat.{ℕ, _≤_, _<_}
 use mathlib.Core.Path.{_≡_, refl, ap, sym, _∙_, subst}
-use mathlib.Core.Logic.{_⊎_, inl, inr}
-use mathlib.Core.Bool.{Bool, true, false, _&&_}
+use mathlib.Core.Logic.{inl, inr}
+use mathlib.Core.Bool.{Bool, true, false}
 use mathlib.Core.List.{List}
-use native.Mathlib.Omega.{arith}
-use lib.Dec.{T, ltb, ltb→lt, not-T}
+use lib.Dec.{T, not-T}
 use lib.ListN.{length}
-use Rattle.base.proofs.BoolLaws.{T→true, T→false, and→both, or→either}
+use Rattle.base.proofs.BoolLaws.{T→true, T→false}
 use Rattle.clock.specs.declared.Cycle.{Cycle}
 use Rattle.clock.specs.declared.Bound.{Bound}
-use Rattle.clock.specs.declared.Bound.the-variants.{Never, At}
+use Rattle.clock.specs.declared.Bound.the-variants.{At}
 use Rattle.clock.specs.Cycle.{stampAt}
-use Rattle.clock.specs.Advance.{isBoundBefore, _⊕_}
+use Rattle.clock.specs.Advance.{_⊕_}
 use Rattle.clock.specs.Order.{_⊑_, _≼_}
 use Rattle.clock.proofs.OrderLaws.{⊑-trans, ⊑-antisym, Before→not-⊑, ⊑-refl}
-use Rattle.clock.proofs.CycleLaws.{StampBefore, isStampBefore→, →isStampBefore}
-use Rattle.clock.proofs.LeastLaws.{isBoundBefore→}
+use Rattle.clock.proofs.CycleLaws.{StampBefore, →isStampBefore}
 use Rattle.clock.proofs.AdvanceLaws.{⊕-inflate}
 use Rattle.model.specs.declared.Model.{Model}
 use Rattle.model.specs.declared.State.{State}
@@ -35,8 +33,10 @@ use Rattle.early.specs.declared.Notification.{Notification}
 use Rattle.early.specs.declared.Site.{Site}
 use Rattle.early.specs.Log.{places, siteOf, countedPlaces}
 use Rattle.early.specs.Hazard.{isSooner, hazard}
-use Rattle.early.specs.Request.{earlyPlaces, isFull, grantedTo, requestOf}
+use Rattle.early.specs.Request.{isFull, grantedTo, requestOf}
 use Rattle.bounds.proofs.LogLaws.{logOf-siteOf}
+use Rattle.bounds.proofs.HazardLaws.{isSooner→}
+use Rattle.bounds.proofs.GrantLaws.{isFull-floor}
 use Rattle.bounds.proofs.RequestLaws.{requestOf-granted}
 use Rattle.order.proofs.PlainFacts.{PlainFacts}
 use Rattle.order.proofs.KitLaws.{KitLaws}
@@ -47,17 +47,7 @@ use Rattle.order.proofs.Capacity.{Roomy, floor-places}
 use Rattle.order.proofs.Reached.{Reached, cut-fit, logged-event}
 use Rattle.order.proofs.LeastReady.{LeastReady, least-floor, some-least}
 
--- a bound that is sooner than a stamp is a cycle
-pub isSooner-At : (b : Bound) (j : ℕ) (c : Cycle) (i : ℕ) → T (isSooner b j (stampAt c i)) → (a : Cycle) × (b ≡ At a) × StampBefore (stampAt a j) (stampAt c i)
-unfolding isSooner
-isSooner-At Never j c i t = absurd t
-isSooner-At (At a) j c i t = (a, refl, isStampBefore→ (stampAt a j) (stampAt c i) t)
-
--- what segments list are events of the model
-abbrev pub ListsEvents : Model → Type 0
-ListsEvents m = (k s e : ℕ) → s < m .n → T (notifiesIn m k s e) → e < m .e
-
-module _ (m : Model) (pf : PlainFacts m) (marks : List (List Bool)) (ws : List ℕ) (kl : KitLaws m marks ws) (events : ListsEvents m) where
+module _ (m : Model) (pf : PlainFacts m) (marks : List (List Bool)) (ws : List ℕ) (kl : KitLaws m marks ws) where
   module _ {x : List ℕ} {l : List Notification} {ts : List Thread} {h : ℕ → List Item} {cut : ℕ → ℕ} (ic : IsCut m x l ts h cut (floorOf m ts)) (i : ℕ) (c : Cycle) (lr : LeastReady m ts i c) where
     -- a thread whose earliest is not after the floor is ready there, with no smaller number
     floor-thread : (j : ℕ) (a : Cycle) → j < m .t → T (isLive (threadAt ts j .state)) → kl .forecasts l ts .earliest j ≡ At a → a ⊑ c → j < i → ⊥
@@ -79,10 +69,10 @@ module _ (m : Model) (pf : PlainFacts m) (marks : List (List Bool)) (ws : List �
             at-floor = same-a ∙ ⊑-antisym ac (subst (λ (x : Cycle). c ⊑ x) same-a (subst (λ (b : Bound). b ≼ At d) fl (floor-below m ts j d below e)))
 
     pub least-free : hazard m marks ws l ts i c ≡ false
-    least-free = T→false (hazard m marks ws l ts i c) (not-T (hazard m marks ws l ts i c) absurdly)
+    least-free = T→false (hazard m marks ws l ts i c) (not-T (hazard m marks ws l ts i c) threatened)
       where
-        absurdly : T (hazard m marks ws l ts i c) → ⊥
-        absurdly t = found (kl .forecasts l ts .some-hazard i c (T→true (hazard m marks ws l ts i c) t))
+        threatened : T (hazard m marks ws l ts i c) → ⊥
+        threatened t = found (kl .forecasts l ts .some-hazard i c (T→true (hazard m marks ws l ts i c) t))
           where
             fl : floorOf m ts ≡ At c
             fl = least-floor m ts i c lr
@@ -91,7 +81,7 @@ module _ (m : Model) (pf : PlainFacts m) (marks : List (List Bool)) (ws : List �
             earliest = kl .forecasts l ts .earliest
 
             found : (j : ℕ) × (s : ℕ) × (j < m .t) × (j ≡ i → ⊥) × T (isLive (threadAt ts j .state)) × T (isSooner (earliest j ⊕ distanceIn m ws (threadAt ts j .segment) s) j (stampAt c i)) → ⊥
-            found (j, s, below, other, live, sooner-than) = at-cycle (isSooner-At (earliest j ⊕ distanceIn m ws (threadAt ts j .segment) s) j c i sooner-than)
+            found (j, s, below, other, live, sooner-than) = at-cycle (isSooner→ (earliest j ⊕ distanceIn m ws (threadAt ts j .segment) s) j c i sooner-than)
               where
                 at-cycle : (b : Cycle) × (earliest j ⊕ distanceIn m ws (threadAt ts j .segment) s ≡ At b) × StampBefore (stampAt b j) (stampAt c i) → ⊥
                 at-cycle (b, eb, stamp) = at-earliest (finite-below (earliest j) b (subst (λ (z : Bound). earliest j ≼ z) eb (⊕-inflate (earliest j) (distanceIn m ws (threadAt ts j .segment) s))))
@@ -121,7 +111,7 @@ module _ (m : Model) (pf : PlainFacts m) (marks : List (List Bool)) (ws : List �
         (kl .ranges .events)
         (subst (λ (b : Bound). Roomy b l) fl room)
         (λ y in-log. (logged-event m pf marks ws kl ic y in-log, subst (λ (b : Bound). b ≼ At (y .cycle)) fl (ic .low-logged y in-log)))
-        (λ e t. events i (threadAt ts i .segment) e inside t))
+        (λ e t. kl .distances .listed-below i (threadAt ts i .segment) e inside t))
       where
         fl : floorOf m ts ≡ At c
         fl = least-floor m ts i c lr
@@ -130,20 +120,7 @@ module _ (m : Model) (pf : PlainFacts m) (marks : List (List Bool)) (ws : List �
         inside = subst (λ (t : Thread). t .segment < m .n) (sym (ic .records i (lr .below))) (pf .segment-below (cut i) i (lr .below))
 
     pub least-room : Roomy (floorOf m ts) l → isFull m (siteOf x l) ts i c ≡ false
-    unfolding isFull
-    least-room room = T→false (isFull m (siteOf x l) ts i c) (not-T (isFull m (siteOf x l) ts i c) (λ t. go (or→either (isBoundBefore (floorOf m ts) (At c) && ltb earlyPlaces n) (ltb places n) t)))
-      where
-        n : ℕ
-        n = countedPlaces m (siteOf x l) i (threadAt ts i .segment) c
-
-        go : T (isBoundBefore (floorOf m ts) (At c) && ltb earlyPlaces n) ⊎ T (ltb places n) → ⊥
-        go (inl t) =
-            isBoundBefore→
-            (floorOf m ts)
-            (At c)
-            (and→both (isBoundBefore (floorOf m ts) (At c)) (ltb earlyPlaces n) t .0)
-            (subst (λ (b : Bound). At c ≼ b) (sym (least-floor m ts i c lr)) ⊑-refl)
-        go (inr t) = let a = ltb→lt places n t in let b : n ≤ places = least-counted room in omega arith
+    least-room room = isFull-floor m (siteOf x l) ts i c (subst (λ (b : Bound). At c ≼ b) (sym (least-floor m ts i c lr)) ⊑-refl) (least-counted room)
 
     -- it is granted
     pub cut-granted : Roomy (floorOf m ts) l → length l ≤ places → T (isBeforeHorizon m c) → requestOf m marks ws (siteOf x l) ts i ≡ grantedTo m ws (siteOf x l) ts i c

@@ -1,32 +1,24 @@
 -- What holds of every state that a list of requests can reach: it is a cut at its floor, its log has room, and it is fit,
 -- so that no request answers 11.
--- Assumes nothing.
+-- Takes as given the facts of the plain run (PlainFacts) and the laws of the kit (KitLaws).
 use Prim.Native.Nat.{ℕ, _≤_, _<_}
 use mathlib.Core.Path.{_≡_, ap, sym, _∙_, subst}
-use mathlib.Core.Bool.{Bool, false, not}
+use mathlib.Core.Bool.{Bool, false}
 use mathlib.Core.List.{List, List·Memᴰ}
-use native.Mathlib.Omega.{arith}
-use lib.Dec.{T, ltb}
+use lib.Dec.{T}
 use lib.ListN.{length}
-use Rattle.base.proofs.BoolLaws.{cond-case}
 use Rattle.clock.specs.declared.Cycle.{Cycle}
 use Rattle.clock.specs.declared.Bound.{Bound}
-use Rattle.clock.specs.declared.Bound.the-variants.{Never, At}
 use Rattle.model.specs.declared.Model.{Model}
 use Rattle.model.specs.declared.Thread.{Thread}
-use Rattle.model.specs.Refusal.{unfit, wrongThread, notReady, atHorizon, hazardStands, logFull}
-use Rattle.model.specs.Limits.{cutTime, isBeforeHorizon}
-use Rattle.model.specs.Record.{threadAt, readyCycle}
+use Rattle.model.specs.Limits.{cutTime}
 use Rattle.plain.specs.Step.{placeAt}
 use Rattle.plain.specs.Wake.{floorOf}
 use Rattle.plain.specs.History.{Item}
 use Rattle.early.specs.declared.Notification.{Notification}
 use Rattle.early.specs.declared.Site.{Site}
-use Rattle.early.specs.declared.Answer.the-variants.{Refused}
 use Rattle.early.specs.Log.{places, logOf, siteOf}
-use Rattle.early.specs.Hazard.{hazard}
 use Rattle.early.specs.Fit.{isFitCycle, isFitThread, isUnfit}
-use Rattle.early.specs.Request.{Requested, isFull, grantedTo, requestAt, requestFit, requestOf}
 use Rattle.bounds.proofs.LogLaws.{logOf-siteOf, siteOf-variables}
 use Rattle.bounds.proofs.FitLaws.{FitPair, isFitCycle→, →isUnfitThreads, →isUnfit, siteOf-fit}
 use Rattle.order.proofs.Places.{nowAt, recordAt, Says}
@@ -55,7 +47,12 @@ module _ (m : Model) (pf : PlainFacts m) (marks : List (List Bool)) (ws : List �
   -- whatever a place notifies is an event of the model
   pub says-event : (q k e : ℕ) → Says m q k e → e < m .e
   says-event q k e s =
-      kl .distances .event-below k (recordAt m q k .segment) (nowAt m q) (placeAt m q .variables) e (pf .segment-below q k (s .runs .below)) (s .notifies)
+      kl .distances .listed-below
+      k
+      (recordAt m q k .segment)
+      e
+      (pf .segment-below q k (s .runs .below))
+      (kl .distances .listed k (recordAt m q k .segment) (nowAt m q) (placeAt m q .variables) e (s .notifies))
 
   module _ {x : List ℕ} {l : List Notification} {ts : List Thread} {h : ℕ → List Item} {cut : ℕ → ℕ} {low : Bound} (ic : IsCut m x l ts h cut low) where
     pub logged-event : (y : Notification) → List·Memᴰ y l → y .event < m .e
@@ -84,40 +81,3 @@ module _ (m : Model) (pf : PlainFacts m) (marks : List (List Bool)) (ws : List �
   -- every reached state is fit
   pub reached-fit : {site : Site} {ts : List Thread} {h : ℕ → List Item} → Reached m site ts h → isUnfit m ws site ts ≡ false
   reached-fit {site} {ts} r = subst (λ (s : Site). isUnfit m ws s ts ≡ false) (sym (r .site-is)) (cut-fit (r .is-cut) (r .short))
-
--- another number than 11
-other-number : (n : ℕ) → (n ≡ unfit → ⊥) → Refused n ≡ Refused unfit → ⊥
-other-number n other e = let f : n ≡ unfit = cc in other f
-
--- on a fit state no request answers 11
-module _ (m : Model) (marks : List (List Bool)) (ws : List ℕ) (site : Site) (ts : List Thread) (k : ℕ) where
-  requestAt-fit : (b : Bound) → requestAt m marks ws site ts k b .answer ≡ Refused unfit → ⊥
-  unfolding requestAt grantedTo
-  requestAt-fit Never = other-number notReady (λ e. omega arith)
-  requestAt-fit (At c) =
-      cond-case
-      (λ (r : Requested). r .answer ≡ Refused unfit → ⊥)
-      (not (isBeforeHorizon m c))
-      (λ t. other-number atHorizon (λ e. omega arith))
-      (λ t.
-      cond-case
-      (λ (r : Requested). r .answer ≡ Refused unfit → ⊥)
-      (hazard m marks ws (logOf site) ts k c)
-      (λ u. other-number hazardStands (λ e. omega arith))
-      (λ u.
-      cond-case
-      (λ (r : Requested). r .answer ≡ Refused unfit → ⊥)
-      (isFull m site ts k c)
-      (λ v. other-number logFull (λ e. omega arith))
-      (λ v e. let z : _≡_ {A = ℕ} 0 1 = cc in omega arith)))
-
-  pub fit-answer : isUnfit m ws site ts ≡ false → requestOf m marks ws site ts k .answer ≡ Refused unfit → ⊥
-  unfolding requestOf requestFit
-  fit-answer fit =
-      rw
-      fit
-      (cond-case
-      (λ (r : Requested). r .answer ≡ Refused unfit → ⊥)
-      (not (ltb k (m .t)))
-      (λ t. other-number wrongThread (λ e. omega arith))
-      (λ t. requestAt-fit (readyCycle (threadAt ts k .state))))

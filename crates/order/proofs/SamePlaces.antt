@@ -1,6 +1,6 @@
 -- Two lists of requests after which every thread has run equally often have run the same places: so they leave the same
 -- variables, and each thread has run the same segments at the same cycles. (What was heard so far can differ.)
--- Takes as given the laws of the kit (KitLaws) and the facts of the plain run (PlainFacts).
+-- Takes as given the facts of the plain run (PlainFacts) and the laws of the kit (KitLaws).
 use Prim.Native.Nat.{ℕ, zero, suc, _+_, _-_, _≤_, _<_}
 use mathlib.Core.Path.{_≡_, refl, ap, sym, _∙_, subst, subst₂}
 use mathlib.Core.Logic.{_⊎_, inl, inr}
@@ -12,19 +12,21 @@ use lib.Dec.{T, T-not}
 use lib.ListN.{length, getD, length-append}
 use lib.Seq.{ext-getD}
 use Rattle.base.proofs.BoolLaws.{T-case}
+use Rattle.base.proofs.IndexLaws.{FirstOf, find-first}
 use Rattle.model.specs.declared.Model.{Model}
 use Rattle.model.specs.declared.Thread.{Thread}
 use Rattle.model.specs.Footprint.{writesIn}
 use Rattle.plain.specs.Step.{placeAt}
 use Rattle.plain.specs.History.{Item, ran, heard, historyAt, itemsAt}
+use Rattle.cycles.proofs.RecordLaws.{Ready-not-Waiting}
+use Rattle.cycles.proofs.HappenLaws.{historyAt-more}
 use Rattle.early.specs.declared.Site.{Site}
 use Rattle.order.proofs.Places.{recordAt, Runs, Happens, idle, runs, hears}
 use Rattle.order.proofs.PlainFacts.{PlainFacts}
 use Rattle.order.proofs.KitLaws.{KitLaws}
 use Rattle.order.proofs.Invariant.{Done, Good}
-use Rattle.order.proofs.PlaceLaws.{Ready-not-Waiting, same-runner}
+use Rattle.order.proofs.PlaceLaws.{same-runner}
 use Rattle.order.proofs.Reached.{Reached, reached-variables}
-use Rattle.order.proofs.LeastReady.{FirstOf, find-first}
 
 -- the segments with their cycles in a history
 unfoldable pub ranItems : List Item → List Item
@@ -47,9 +49,12 @@ module _ (m : Model) (pf : PlainFacts m) (k : ℕ) (below : k < m .t) where
   abbrev ranUpTo : ℕ → List Item
   ranUpTo i = ranItems (historyAt m k i)
 
+  next-append : (i : ℕ) → ranUpTo (suc i) ≡ ranUpTo i ++ ranItems (itemsAt m (placeAt m i) k)
+  next-append i = ap ranItems (historyAt-more m k i) ∙ ranItems-append (historyAt m k i) (itemsAt m (placeAt m i) k)
+
   next-same : (i : ℕ) → (Runs m i k → ⊥) → ranUpTo (suc i) ≡ ranUpTo i
-  unfolding historyAt ranItems
-  next-same i none = ranItems-append (historyAt m k i) (itemsAt m (placeAt m i) k) ∙ ap (λ (a : List Item). ranUpTo i ++ a) (empty (pf .happens i k below)) ∙ append-nil (ranUpTo i)
+  unfolding ranItems
+  next-same i none = next-append i ∙ ap (λ (a : List Item). ranUpTo i ++ a) (empty (pf .happens i k below)) ∙ append-nil (ranUpTo i)
     where
       empty : Happens m i k → ranItems (itemsAt m (placeAt m i) k) ≡ []
       empty (idle stays items not-runs not-hears) = ap ranItems items
@@ -57,9 +62,9 @@ module _ (m : Model) (pf : PlainFacts m) (k : ℕ) (below : k < m .t) where
       empty (hears e since h new items) = ap ranItems items
 
   next-more : (i : ℕ) → Runs m i k → length (ranUpTo (suc i)) ≡ suc (length (ranUpTo i))
-  unfolding historyAt ranItems
+  unfolding ranItems
   next-more i r =
-      let a = ap length (ranItems-append (historyAt m k i) (itemsAt m (placeAt m i) k) ∙ ap (λ (b : List Item). ranUpTo i ++ b) (one (pf .happens i k below) .1)) in
+      let a = ap length (next-append i ∙ ap (λ (b : List Item). ranUpTo i ++ b) (one (pf .happens i k below) .1)) in
       let b = length-append (ranUpTo i) (one (pf .happens i k below) .0 ∷ []) in
       omega arith
     where
@@ -70,9 +75,8 @@ module _ (m : Model) (pf : PlainFacts m) (k : ℕ) (below : k < m .t) where
 
   -- it never gets less
   next-mono : (i : ℕ) → length (ranUpTo i) ≤ length (ranUpTo (suc i))
-  unfolding historyAt
   next-mono i =
-      let a = ap length (ranItems-append (historyAt m k i) (itemsAt m (placeAt m i) k)) in
+      let a = ap length (next-append i) in
       let b = length-append (ranUpTo i) (ranItems (itemsAt m (placeAt m i) k)) in
       omega arith
 
@@ -190,8 +194,8 @@ module _ (m : Model) (pf : PlainFacts m) (marks : List (List Bool)) (ws : List �
               (record { variable = v; shared = inl (u .writes, kl .footprints .writes-uses a (recordAt m p a .segment) v w) })
 
   -- the same places done: the same variables
-  pub same-variables : (cut cut′ : ℕ → ℕ) (x x′ : List ℕ) → ((q k : ℕ) → Done m cut q k → Done m cut′ q k) → ((q k : ℕ) → Done m cut′ q k → Done m cut q k) → Good m cut x → Good m cut′ x′ → x ≡ x′
-  same-variables cut cut′ x x′ there back g g′ = ext-getD 0 x x′ (g .size ∙ sym (g′ .size)) (λ v h. at v (parted cut x g v))
+  pub same-done-variables : (cut cut′ : ℕ → ℕ) (x x′ : List ℕ) → ((q k : ℕ) → Done m cut q k → Done m cut′ q k) → ((q k : ℕ) → Done m cut′ q k → Done m cut q k) → Good m cut x → Good m cut′ x′ → x ≡ x′
+  same-done-variables cut cut′ x x′ there back g g′ = ext-getD 0 x x′ (g .size ∙ sym (g′ .size)) (λ v h. at v (parted cut x g v))
     where
       at : (v : ℕ) → (q : ℕ) × Parts cut v q → getD x v 0 ≡ getD x′ v 0
       at v (q, ps) =
@@ -206,7 +210,7 @@ module _ (m : Model) (pf : PlainFacts m) (marks : List (List Bool)) (ws : List �
     pub reached-variables-same : site .variables .at ≡ site′ .variables .at
     reached-variables-same =
         reached-variables r ∙
-        same-variables
+        same-done-variables
         (r .cut)
         (r′ .cut)
         (r .variables)

@@ -1,22 +1,19 @@
 -- Demand 3 proved: for a model whose plain run and kit keep their laws, every list of requests ends as the plain run does,
 -- and never stands still before that. Beside it: what holds after every list, ended or not.
--- Takes as given the laws of the kit (KitLaws) and the facts of the plain run (PlainFacts).
+-- Takes as given the facts of the plain run (PlainFacts) and the laws of the kit (KitLaws).
 use Prim.Native.Nat.{ℕ, _≤_, _<_}
 use mathlib.Core.Path.{_≡_, ap, sym, _∙_}
 use mathlib.Core.Logic.{_⊎_, inl, inr}
-use mathlib.Core.Bool.{Bool, false}
+use mathlib.Core.Bool.{false}
 use mathlib.Core.List.{List, [], _∷_, _++_, List·Memᴰ, List·Memᴰ·cases-cons, List·Memᴰ·not-nil}
 use lib.Dec.{T}
 use lib.ListN.{length}
 use Rattle.clock.specs.declared.Cycle.{Cycle}
-use Rattle.clock.specs.Cycle.{cycleAt}
 use Rattle.model.specs.declared.Model.{Model}
 use Rattle.model.specs.declared.Thread.{Thread}
 use Rattle.model.specs.Refusal.{accepted, unfit}
 use Rattle.model.specs.Limits.{isBeforeHorizon}
 use Rattle.model.specs.Record.{threadAt}
-use Rattle.model.specs.Effect.{effectIn, effectOf}
-use Rattle.model.specs.Footprint.{listedIn, notifiesIn}
 use Rattle.reader.specs.File.{readFile}
 use Rattle.tables.specs.Conflict.{marksOf}
 use Rattle.tables.specs.Word.{wordsOf}
@@ -31,29 +28,22 @@ use Rattle.early.specs.Fit.{isUnfit}
 use Rattle.early.specs.Answer.{numberOf}
 use Rattle.early.specs.Request.{Requested, grantedTo, requestOf, freshSite, requestsOf}
 use Rattle.bounds.proofs.LogLaws.{siteOf-count}
-use Rattle.bounds.proofs.RequestLaws.{requestOf-refused}
+use Rattle.bounds.proofs.OnceLaws.{Once}
+use Rattle.bounds.proofs.RequestLaws.{requestOf-refused, requestOf-fit, requestsOf-append}
 use Rattle.order.specs.Claim.{afterList, requestNext, AgreesAt, Claim, OrderIndependence}
 use Rattle.order.proofs.PlainFacts.{PlainFacts}
 use Rattle.order.proofs.KitLaws.{KitLaws}
-use Rattle.order.proofs.Invariant.{Once, Bounded}
+use Rattle.order.proofs.Invariant.{Bounded}
 use Rattle.order.proofs.LowerBound.{bounded}
-use Rattle.order.proofs.Reached.{Reached, reached-log, reached-variables, reached-fit, fit-answer}
+use Rattle.order.proofs.Reached.{Reached, reached-log, reached-variables, reached-fit}
 use Rattle.order.proofs.LeastReady.{LeastReady}
-use Rattle.order.proofs.Progress.{ListsEvents, least-granted, some-granted}
+use Rattle.order.proofs.Progress.{least-granted, some-granted}
 use Rattle.order.proofs.End.{end-record, end-history, end-variables}
 use Rattle.order.proofs.Lists.{fresh-reached, request-reached, list-reached}
 use Rattle.order.proofs.SamePlaces.{ranItems, runCount, reached-variables-same, reached-ran-same}
-use Rattle.order.proofs.CarriedOn.{Begins, reached-begins, requestsOf-append, reached-carried}
-
--- In the base kit a segment notifies all that it lists, so that what it lists are events of the model.
-pub lists-events : (m : Model) (marks : List (List Bool)) (ws : List ℕ) → KitLaws m marks ws → ListsEvents m
-unfolding notifiesIn listedIn effectOf effectIn
-lists-events m marks ws kl k s e below t = kl .distances .event-below k s (cycleAt 0 0) [] e below t
+use Rattle.order.proofs.CarriedOn.{Begins, reached-begins, reached-carried}
 
 module _ (m : Model) (kl : KitLaws m (marksOf m) (wordsOf m)) (pf : PlainFacts m) where
-  events : ListsEvents m
-  events = lists-events m (marksOf m) (wordsOf m) kl
-
   -- every list of requests leaves a reached state
   pub after-reached : (ks : List ℕ) → Reached m (afterList m ks .site) (afterList m ks .threads) (afterList m ks .history)
   unfolding afterList
@@ -79,7 +69,7 @@ module _ (m : Model) (kl : KitLaws m (marksOf m) (wordsOf m)) (pf : PlainFacts m
   pub least-granted-next : (ks : List ℕ) (i : ℕ) (c : Cycle) → LeastReady m (afterList m ks .threads) i c → T (isBeforeHorizon m c) → requestNext m ks i ≡ grantedTo m (wordsOf m) (afterList m ks .site) (afterList m ks .threads) i c
   unfolding requestNext
   least-granted-next ks i c lr early =
-      least-granted m pf (marksOf m) (wordsOf m) kl events (afterList m ks .site) (afterList m ks .threads) (afterList m ks .history) (after-reached ks) i c lr early
+      least-granted m pf (marksOf m) (wordsOf m) kl (afterList m ks .site) (afterList m ks .threads) (afterList m ks .history) (after-reached ks) i c lr early
 
   -- demand 3 for one list
   pub claim : (ks : List ℕ) → Claim m ks
@@ -87,7 +77,7 @@ module _ (m : Model) (kl : KitLaws m (marksOf m) (wordsOf m)) (pf : PlainFacts m
   claim ks =
       record {
         at-end = λ over. (pf .ending .place, pf .ending .done, agrees-at-end ks over);
-        goes-on = λ ready. go (some-granted m pf (marksOf m) (wordsOf m) kl events (afterList m ks .site) (afterList m ks .threads) (afterList m ks .history) (after-reached ks) ready);
+        goes-on = λ ready. go (some-granted m pf (marksOf m) (wordsOf m) kl (afterList m ks .site) (afterList m ks .threads) (afterList m ks .history) (after-reached ks) ready);
       }
     where
       go : (k : ℕ) × (c : Cycle) × (k < m .t) × (requestNext m ks k ≡ grantedTo m (wordsOf m) (afterList m ks .site) (afterList m ks .threads) k c) → (k : ℕ) × (s : ℕ) × (c : Cycle) × (requestNext m ks k .answer ≡ Granted s c)
@@ -101,7 +91,7 @@ module _ (m : Model) (kl : KitLaws m (marksOf m) (wordsOf m)) (pf : PlainFacts m
   pub carried-on : (ks : List ℕ) → (more : List ℕ) × (someReady m (afterList m (ks ++ more) .threads) ≡ false)
   unfolding afterList
   carried-on ks =
-      let (more, p) = reached-carried m pf (marksOf m) (wordsOf m) kl events (afterList m ks .site) (afterList m ks .threads) (afterList m ks .history) (after-reached ks) in
+      let (more, p) = reached-carried m pf (marksOf m) (wordsOf m) kl (afterList m ks .site) (afterList m ks .threads) (afterList m ks .history) (after-reached ks) in
       (more, ap (someReady m) (requestsOf-append m (marksOf m) (wordsOf m) ks more freshSite (freshThreads m)) ∙ p)
 
   -- no request answers 11: every reached state is fit
@@ -110,7 +100,7 @@ module _ (m : Model) (kl : KitLaws m (marksOf m) (wordsOf m)) (pf : PlainFacts m
 
   pub never-unfit : (ks : List ℕ) (k : ℕ) → requestNext m ks k .answer ≡ Refused unfit → ⊥
   unfolding requestNext
-  never-unfit ks k e = fit-answer m (marksOf m) (wordsOf m) (afterList m ks .site) (afterList m ks .threads) k (after-fit ks) e
+  never-unfit ks k e = requestOf-fit m (marksOf m) (wordsOf m) (afterList m ks .site) (afterList m ks .threads) k (after-fit ks) e
 
   -- nor does any request of a list
   answers-fit : (ks : List ℕ) (site : Site) (ts : List Thread) (h : ℕ → List Item) → Reached m site ts h → (a : Answer) → List·Memᴰ a (requestsOf m (marksOf m) (wordsOf m) site ts ks .answers) → a ≡ Refused unfit → ⊥
@@ -122,7 +112,7 @@ module _ (m : Model) (kl : KitLaws m (marksOf m) (wordsOf m)) (pf : PlainFacts m
       b = requestOf m (marksOf m) (wordsOf m) site ts k
 
       go : (a ≡ b .answer) ⊎ List·Memᴰ a (requestsOf m (marksOf m) (wordsOf m) (b .site) (b .threads) ks .answers) → (List·Memᴰ a (requestsOf m (marksOf m) (wordsOf m) (b .site) (b .threads) ks .answers) → ⊥) → ⊥
-      go (inl p) ih = fit-answer m (marksOf m) (wordsOf m) site ts k (reached-fit m pf (marksOf m) (wordsOf m) kl r) (sym p ∙ e)
+      go (inl p) ih = requestOf-fit m (marksOf m) (wordsOf m) site ts k (reached-fit m pf (marksOf m) (wordsOf m) kl r) (sym p ∙ e)
       go (inr j) ih = ih j
 
   pub answers-never-unfit : (ks : List ℕ) (a : Answer) → List·Memᴰ a (afterList m ks .answers) → a ≡ Refused unfit → ⊥
@@ -143,8 +133,8 @@ module _ (m : Model) (kl : KitLaws m (marksOf m) (wordsOf m)) (pf : PlainFacts m
       (after-reached ks .short)
 
   -- two lists after which every thread has run equally often leave the same variables, and have run the same
-  pub same-counts : (ks js : List ℕ) → ((k : ℕ) → k < m .t → runCount (afterList m ks .history k) ≡ runCount (afterList m js .history k)) → afterList m ks .site .variables .at ≡ afterList m js .site .variables .at
-  same-counts ks js same = reached-variables-same m pf (marksOf m) (wordsOf m) kl (after-reached ks) (after-reached js) same
+  pub same-variables : (ks js : List ℕ) → ((k : ℕ) → k < m .t → runCount (afterList m ks .history k) ≡ runCount (afterList m js .history k)) → afterList m ks .site .variables .at ≡ afterList m js .site .variables .at
+  same-variables ks js same = reached-variables-same m pf (marksOf m) (wordsOf m) kl (after-reached ks) (after-reached js) same
 
   pub same-runs : (ks js : List ℕ) → ((k : ℕ) → k < m .t → runCount (afterList m ks .history k) ≡ runCount (afterList m js .history k)) → (k : ℕ) → k < m .t → ranItems (afterList m ks .history k) ≡ ranItems (afterList m js .history k)
   same-runs ks js same = reached-ran-same m pf (marksOf m) (wordsOf m) kl (after-reached ks) (after-reached js) same
@@ -156,6 +146,6 @@ unfolding requestNext
 refused-same m ks k other = requestOf-refused m (marksOf m) (wordsOf m) (afterList m ks .site) (afterList m ks .threads) k other
 
 -- Demand 3, from the laws of the kit and the facts of the plain run of every accepted file
-pub order-independence : ((bytes : List ℕ) → readFile bytes .number ≡ accepted → KitLaws (readFile bytes .model) (marksOf (readFile bytes .model)) (wordsOf (readFile bytes .model)))
+pub claims-hold : ((bytes : List ℕ) → readFile bytes .number ≡ accepted → KitLaws (readFile bytes .model) (marksOf (readFile bytes .model)) (wordsOf (readFile bytes .model)))
     → ((bytes : List ℕ) → readFile bytes .number ≡ accepted → PlainFacts (readFile bytes .model)) → OrderIndependence
-order-independence kit plain bytes ok ks = claim (readFile bytes .model) (kit bytes ok) (plain bytes ok) ks
+claims-hold kit plain bytes ok ks = claim (readFile bytes .model) (kit bytes ok) (plain bytes ok) ks

@@ -5,17 +5,17 @@
 --     unmarked→apart     no unmarked pair touches a variable that one of them writes
 --     mark-self     a segment that writes conflicts with itself
 use Prim.Native.Nat.{ℕ, _+_, _<_}
-use mathlib.Core.Path.{_≡_, refl, ap, ap₂, sym, _∙_}
+use mathlib.Core.Path.{_≡_, refl, ap₂, sym, _∙_}
 use mathlib.Core.Logic.{_⊎_, inl, inr}
-use mathlib.Core.Bool.{Bool, true, false, not, _&&_, _||_}
-use mathlib.Core.List.{List, []}
+use mathlib.Core.Bool.{Bool, true, false, _&&_, _||_}
+use mathlib.Core.List.{[]}
 use native.Mathlib.Omega.{arith}
 use native.Mathlib.Nat.{zero-add}
 use lib.Dec.{T, ltb, lt→ltb, ltb→lt, T-not}
-use lib.ListN.{length, getD, replicate, getD-replicate}
-use Rattle.base.specs.Index.{anyBelow, tabulate}
-use Rattle.base.proofs.BoolLaws.{T→true, true→T, false→T, and→both, both→and, or→either, either→or}
-use Rattle.base.proofs.IndexLaws.{anyBelow-some, anyBelow-found, anyBelow-none, tabulate-at, tabulate-length}
+use lib.ListN.{length, replicate, getD-replicate}
+use Rattle.base.specs.Index.{tabulate}
+use Rattle.base.proofs.BoolLaws.{false→T, and→both, both→and, or→either, either→or}
+use Rattle.base.proofs.IndexLaws.{anyBelow-some, anyBelow-found, tabulate-at, tabulate-length}
 use Rattle.model.specs.declared.Model.{Model}
 use Rattle.model.specs.Values.{segmentAt}
 use Rattle.model.specs.Footprint.{writesOf, usesOf}

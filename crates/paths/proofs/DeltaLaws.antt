@@ -4,6 +4,7 @@ use mathlib.Core.Path.{_≡_, refl, ap, sym, _∙_, subst}
 use mathlib.Core.Logic.{_⊎_, inl, inr}
 use native.Mathlib.Omega.{arith}
 use native.Mathlib.Decide.{decLe, decLt}
+use Rattle.base.proofs.PigeonLaws.{pigeon}
 use Rattle.clock.specs.declared.Cycle.{Cycle}
 use Rattle.clock.specs.declared.Bound.{Bound}
 use Rattle.clock.specs.declared.Bound.the-variants.{Never, At}
@@ -11,9 +12,8 @@ use Rattle.clock.specs.Cycle.{cycleAt}
 use Rattle.clock.specs.Order.{_⊑_, _≼_, sooner, same-time}
 use Rattle.clock.specs.Advance.{deltaAfter, plusOf, _⊕_, noAdvance}
 use Rattle.clock.proofs.OrderLaws.{cycle-path}
-use Rattle.clock.proofs.AdvanceLaws.{⊕-assoc, ⊕-noAdvance, noAdvance-⊕, ⊕-inflate-right, ⊕-At}
+use Rattle.clock.proofs.AdvanceLaws.{⊕-assoc, ⊕-noAdvance, noAdvance-⊕}
 use Rattle.paths.proofs.PathLaws.{Via, none, last, over, Via-join, leastVia, leastVia-below, leastVia-path, At-not-Never}
-use Rattle.paths.proofs.PigeonLaws.{pigeon}
 
 pub At-same : {a b : Cycle} → At a ≡ At b → a ≡ b
 At-same e = cc

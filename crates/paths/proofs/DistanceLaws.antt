@@ -3,7 +3,7 @@
 --     distanceOf-self     "0 to itself"
 --     distanceOf-step, distanceOf-after, distanceOf-triangle     at most a way with a step in front, a step behind, or a place between
 --     distanceOf-time, distanceOf-delta     below the cut, and fewer deltas than segments
-use Prim.Native.Nat.{ℕ, zero, suc, _≤_, _<_}
+use Prim.Native.Nat.{ℕ, zero, suc, _<_}
 use mathlib.Core.Path.{_≡_, refl, ap, sym, _∙_}
 use mathlib.Core.Logic.{_⊎_, inl, inr}
 use mathlib.Core.List.{List}
@@ -15,7 +15,7 @@ use Rattle.clock.specs.declared.Delay.{Delay}
 use Rattle.clock.specs.declared.Bound.{Bound}
 use Rattle.clock.specs.declared.Bound.the-variants.{Never, At}
 use Rattle.clock.specs.declared.Wait.the-variants as wait
-use Rattle.clock.specs.Order.{_⊑_, _≼_, sooner, same-time}
+use Rattle.clock.specs.Order.{_≼_, sooner, same-time}
 use Rattle.clock.specs.Advance.{_⊕_, noAdvance, advanceOf, advanceOfUnits}
 use Rattle.clock.proofs.OrderLaws.{≼-refl, ≼-trans}
 use Rattle.clock.proofs.AdvanceLaws.{⊕-assoc, ⊕-mono, ⊕-inflate-right}
@@ -26,8 +26,8 @@ use Rattle.model.specs.declared.Model.{Model}
 use Rattle.model.specs.Values.{segmentAt}
 use Rattle.model.specs.Effect.{nextOf}
 use Rattle.machine.proofs.EffectLaws.{nextOf-either}
-use Rattle.tables.specs.Distance.{stepOf, goesTo, edge, IsLeast, cut, IsDistance, cell, rounds, distanceTable, distanceOf}
-use Rattle.paths.proofs.PathLaws.{leastVia, At-not-Never, rounds-leastVia, rounds-least, IsLeast-unique, IsLeast-triangle, IsLeast-step, IsLeast-after, IsLeast-self}
+use Rattle.tables.specs.Distance.{stepOf, goesTo, edge, IsLeast, cut, IsDistance, cell, distanceTable, distanceOf}
+use Rattle.paths.proofs.PathLaws.{At-not-Never, rounds-leastVia, rounds-least, IsLeast-unique, IsLeast-triangle, IsLeast-step, IsLeast-after, IsLeast-self}
 use Rattle.paths.proofs.DeltaLaws.{At-same, IsStep, time-step, delta-step, StepsOnly, leastVia-delta-last}
 
 -- the cut

@@ -1,5 +1,4 @@
 pub mod PathLaws
-pub mod PigeonLaws
 pub mod DeltaLaws
 pub mod DistanceLaws
 pub mod WordLaws

@@ -2,15 +2,13 @@
 -- First `leastVia`, the table as a function: at most each of its parts (`leastVia-triangle`, with no path in sight), so at most every path
 -- (`leastVia-below`), and the advance of one, if it is not never (`leastVia-attained`). Then `rounds-least`, and that a least is one only.
 use Prim.Native.Nat.{ℕ, zero, suc, _≤_, _<_}
-use mathlib.Core.Path.{_≡_, refl, ap, sym, _∙_, subst}
+use mathlib.Core.Path.{_≡_, ap, _∙_, subst}
 use mathlib.Core.Logic.{_⊎_, inl, inr}
-use mathlib.Core.Bool.{cond}
-use mathlib.Core.List.{List, []}
+use mathlib.Core.List.{[]}
 use native.Mathlib.Omega.{arith}
 use native.Mathlib.Nat.{zero-add}
 use native.Mathlib.Decide.{ℕ-discrete}
-use lib.Dec.{T, eqb, eqb-refl, eqb→eq}
-use lib.ListN.{getD}
+use lib.Dec.{eqb, eqb-refl, eqb→eq}
 use Rattle.base.specs.Index.{tabulate}
 use Rattle.base.proofs.BoolLaws.{T→true, cond-case}
 use Rattle.base.proofs.IndexLaws.{tabulate-at}

@@ -3,21 +3,20 @@
 --     stored-length, stored-at, stored-past     a buffer after they are stored
 use Prim.Native.Nat.{ℕ, zero, suc, _+_, _*_, _-_, _/_, _%_, _^_, _≤_, _<_}
 use mathlib.Core.Path.{_≡_, refl, ap, sym, _∙_}
-use mathlib.Core.Bool.{true, false, cond, _||_}
-use mathlib.Core.Logic.{_⊎_, inl, inr}
-use mathlib.Core.List.{List, [], _∷_, _++_}
+use mathlib.Core.Bool.{_||_}
+use mathlib.Core.Logic.{inr}
+use mathlib.Core.List.{List, _++_}
 use native.Mathlib.Omega.{arith}
 use native.Mathlib.Nat.{zero-add, suc-mul, mul-le-mul-right, div-add-mod', div-lt-iff-lt-mul, mod-lt}
 use lib.Dec.{T, ltb, eqb, eqb→eq, lt→ltb, not-T}
 use lib.ListN.{length, getD, drop, length-append, length-drop, List·getD-append}
 use lib.Seq.{getD-append-add, getD-drop}
 use Rattle.base.specs.Index.{tabulate}
-use Rattle.base.proofs.BoolLaws.{T→true, T→false, eq→eqb, either→or}
+use Rattle.base.proofs.BoolLaws.{T→false, either→or}
 use Rattle.base.proofs.IndexLaws.{tabulate-length, tabulate-at}
 use Rattle.clock.specs.declared.Cycle.{Cycle}
 use Rattle.clock.specs.declared.Bound.{Bound}
 use Rattle.clock.specs.declared.Bound.the-variants.{Never, At}
-use Rattle.clock.specs.Cycle.{cycleAt}
 use Rattle.clock.proofs.OrderLaws.{cycle-path}
 use Rattle.model.specs.declared.Model.{Model}
 use Rattle.model.specs.Rules.{modelFault}

@@ -1,5 +1,5 @@
--- Of more than n numbers below n two are equal. Used for the pairs at one cycle, of which there is at most one for each event,
--- and for earliest, whose chains go through no thread twice.
+-- Of more than n numbers below n two are equal. Used wherever something is counted: the segments on a shortest path, the
+-- threads on a chain of earliest, the pairs of the log at one cycle.
 use Prim.Native.Nat.{ℕ, zero, suc, _<_, _≤_, _-_}
 use mathlib.Core.Path.{_≡_, refl}
 use mathlib.Core.Logic.{_⊎_, inl, inr}
@@ -7,18 +7,18 @@ use mathlib.Core.Bool.{cond}
 use native.Mathlib.Omega.{arith}
 use native.Mathlib.Decide.{ℕ-discrete}
 use lib.Dec.{ltb, ltb→lt, nltb→le}
 use Rattle.base.proofs.BoolLaws.{cond-case}
 use Rattle.base.proofs.IndexLaws.{find-below}
 
 -- numbers other than x, with the gap at x closed
-unfoldable pub squeeze : ℕ → ℕ → ℕ
+squeeze : ℕ → ℕ → ℕ
 squeeze x a = cond (ltb a x) a (a - 1)
 
 -- a is on one side of x, and what it is squeezed to
-abbrev pub Squeezed : ℕ → ℕ → ℕ → Type 0
+abbrev Squeezed : ℕ → ℕ → ℕ → Type 0
 Squeezed x a y = ((a < x) × (y ≡ a)) ⊎ ((x < a) × (suc y ≡ a))
 
-pub squeeze-either : (x a : ℕ) → (a ≡ x → ⊥) → Squeezed x a (squeeze x a)
+squeeze-either : (x a : ℕ) → (a ≡ x → ⊥) → Squeezed x a (squeeze x a)
 unfolding squeeze
 squeeze-either x a other =
     cond-case (λ y. Squeezed x a y) (ltb a x) (λ t. inl (ltb→lt a x t, refl)) (λ t. above (nltb→le a x t))
@@ -26,14 +26,14 @@ squeeze-either x a other =
     above : x ≤ a → Squeezed x a (a - 1)
     above h = inr (omega arith)
 
-pub squeeze-below : (n x a : ℕ) → (a ≡ x → ⊥) → a < suc n → x < suc n → squeeze x a < n
+squeeze-below : (n x a : ℕ) → (a ≡ x → ⊥) → a < suc n → x < suc n → squeeze x a < n
 squeeze-below n x a other h k = go (squeeze-either x a other)
   where
     go : Squeezed x a (squeeze x a) → squeeze x a < n
     go (inl (p, q)) = omega arith
     go (inr (p, q)) = omega arith
 
-pub squeeze-same : (x a b : ℕ) → (a ≡ x → ⊥) → (b ≡ x → ⊥) → squeeze x a ≡ squeeze x b → a ≡ b
+squeeze-same : (x a b : ℕ) → (a ≡ x → ⊥) → (b ≡ x → ⊥) → squeeze x a ≡ squeeze x b → a ≡ b
 squeeze-same x a b p q e = go (squeeze-either x a p) (squeeze-either x b q)
   where
     go : Squeezed x a (squeeze x a) → Squeezed x b (squeeze x b) → a ≡ b

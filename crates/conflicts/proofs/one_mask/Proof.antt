@@ -1,0 +1,14 @@
+-- `conflicts::one_mask` meets its contract.
+use mathlib.Core.Path.{refl}
+use borrow.Author.Needs.{needs}
+use Rattle.conflicts.proofs.one_mask.Statement.{statement}
+use Rattle.conflicts.proofs.one_mask.Tie as tie
+
+bit-of-requires : tie.Need-bit-of-requires
+bit-of-requires c κs = search needs
+
+returns : tie.Need-returns
+returns c = rw (c .bit-of .ensures) refl
+
+pub one-mask-spec : {M : Type 1} → statement M
+one-mask-spec = tie.close (tie.spec bit-of-requires returns)

@@ -1,0 +1,17 @@
+-- `conflicts::two_masks` meets its contract.
+use mathlib.Core.Path.{refl}
+use borrow.Author.Needs.{needs}
+use Rattle.conflicts.proofs.two_masks.Statement.{statement}
+use Rattle.conflicts.proofs.two_masks.Tie as tie
+
+bit-of-requires : tie.Need-bit-of-requires
+bit-of-requires c κs = search needs
+
+bit-requires : tie.Need-bit-requires
+bit-requires c κs = search needs
+
+returns : tie.Need-returns
+returns c = rw (c .bit .ensures, c .before .bit-of .ensures) refl
+
+pub two-masks-spec : {M : Type 1} → statement M
+two-masks-spec = tie.close (tie.spec bit-of-requires bit-requires returns)

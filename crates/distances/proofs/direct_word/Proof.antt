@@ -1,0 +1,28 @@
+-- `distances::direct_word` meets its contract: itself, a step to either next segment, no step.
+use native.Mathlib.Omega.{arith}
+use borrow.Author.Needs.{needs}
+use Rattle.distances.proofs.StoreLaws.{directWord-self, directWord-first, directWord-second, directWord-none}
+use Rattle.distances.proofs.direct_word.Tie as tie
+use Rattle.distances.proofs.direct_word.Statement.{statement}
+
+returns : tie.Need-returns
+returns c = directWord-self _ _ _ (omega arith)
+
+wide-requires : tie.Need-wide-requires
+wide-requires c κs = search needs
+
+returns-2 : tie.Need-returns-2
+returns-2 c = directWord-first _ _ _ (λ e. omega arith) (omega arith)
+
+wide-requires-2 : tie.Need-wide-requires-2
+wide-requires-2 c κs = search needs
+
+returns-3 : tie.Need-returns-3
+returns-3 c = directWord-second _ _ _ (λ e. omega arith) (λ e. omega arith) (omega arith)
+
+returns-4 : tie.Need-returns-4
+returns-4 c = directWord-none _ _ _ (λ e. omega arith) (λ e. omega arith) (λ e. omega arith)
+
+pub direct-word-spec : {M : Type 1} → statement M
+direct-word-spec =
+    tie.close (tie.spec returns wide-requires returns-2 wide-requires-2 returns-3 returns-4)
