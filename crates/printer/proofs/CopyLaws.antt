@@ -1,0 +1,55 @@
+-- Laws of `sheetIn` and `bytesIn`: a text copied byte by byte to the front of a buffer.
+-- Assumes nothing.
+use Prim.Native.Nat.{ℕ, suc, _+_, _≤_, _<_}
+use mathlib.Core.Path.{_≡_, refl, _∙_}
+use mathlib.Core.List.{List, _++_, append-assoc}
+use native.Mathlib.Numerals.{add-one}
+use native.Mathlib.Omega.{arith}
+use lib.Dec.{leb, leb→le}
+use lib.ListN.{length, getD, take, drop, set}
+use lib.Seq.{length-take-le, drop-cons, take-suc, set-at}
+use borrow.Author.Tests.{le-leb, lt-leb}
+use Rattle.base.proofs.BoolLaws.{cond-case}
+use Rattle.sheet.specs.Sheet.{sheetIn, bytesIn}
+
+-- no room: nothing is written
+pub copied-short :
+    (text out : List ℕ) (n : ℕ) → n ≤ length text → length out < n →
+    (0 ≡ bytesIn (take n text) out) × (out ≡ sheetIn (take n text) out)
+unfolding sheetIn bytesIn
+copied-short text out n h g =
+    let e : length (take n text) ≡ n = length-take-le n text h in
+    (rw (e, lt-leb n (length out) g) refl, rw (e, lt-leb n (length out) g) refl)
+
+-- one byte more
+pub copied-more :
+    (text out : List ℕ) (i : ℕ) → i < length text → i < length out →
+    set (take i text ++ drop i out) i (getD text i 0) ≡ take (i + 1) text ++ drop (i + 1) out
+copied-more text out i h g =
+    rw (drop-cons out i 0 g)
+    (set-at (take i text) (getD out i 0) (drop (suc i) out) (getD text i 0) i (length-take-le i text (omega arith))
+    ∙ rw (add-one, take-suc text i 0 h, append-assoc) refl)
+
+-- all of them
+pub copied-all :
+    (text out end : List ℕ) (n i : ℕ) → n ≤ length text → n ≤ length out → i ≤ n → n ≤ i → end ≡ take i text ++ drop i out →
+    (n ≡ bytesIn (take n text) out) × (end ≡ sheetIn (take n text) out)
+unfolding sheetIn bytesIn
+copied-all text out end n i h g l m p =
+    let e : length (take n text) ≡ n = length-take-le n text h in
+    let q : i ≡ n = omega arith in
+    (rw (e, le-leb n (length out) g) refl, p ∙ rw (q, e, le-leb n (length out) g) refl)
+
+-- the bytes that are the text are bytes of the buffer
+pub bytesIn-within : (text out : List ℕ) → bytesIn text out ≤ length out
+unfolding bytesIn
+bytesIn-within text out = cond-case (λ n. n ≤ length out) (leb (length text) (length out)) (λ h. leb→le (length text) (length out) h) (λ h. omega arith)
+
+-- a text for which there is room is there whole
+pub bytesIn-room : (text out : List ℕ) → length text ≤ length out → bytesIn text out ≡ length text
+unfolding bytesIn
+bytesIn-room text out h = rw (le-leb (length text) (length out) h) refl
+
+pub sheetIn-room : (text out : List ℕ) → length text ≤ length out → sheetIn text out ≡ text ++ drop (length text) out
+unfolding sheetIn
+sheetIn-room text out h = rw (le-leb (length text) (length out) h) refl

@@ -1,0 +1,4 @@
+pub mod PutLaws
+pub mod DigitsLaws
+pub mod CopyLaws
+pub mod LineLaws

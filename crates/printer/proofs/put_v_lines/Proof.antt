@@ -1,0 +1,82 @@
+-- `printer::put_v_lines` meets its contract. The invariant: the lines of the first i variables are put.
+use Prim.Native.Nat.{_+_, _*_, _-_, _≤_, min}
+use mathlib.Core.Path.{_≡_}
+use native.Mathlib.Omega.{arith}
+use borrow.Author.Needs.{needs}
+use Rattle.sheet.specs.Sheet.{vLines}
+use Rattle.printer.specs.Put.{Puts}
+use Rattle.printer.proofs.PutLaws.{puts-none}
+use Rattle.printer.proofs.LineLaws.{puts-v-more}
+use Rattle.printer.proofs.put_v_lines.Statement.{statement}
+use Rattle.printer.proofs.put_v_lines.Tie as tie
+
+abbrev Inv-loop : tie.InvT-loop
+Inv-loop out₀ at v xs n to₀ i₀ out to i = (i ≤ n) × (Puts out₀ at out to (vLines i (xs .at)) × (to ≤ at + 44 * i))
+
+abbrev μ-loop : tie.MeasureT-loop
+μ-loop out₀ at v xs n to₀ i₀ out to i = n - i
+
+wide-requires : tie.Need-wide-requires Inv-loop μ-loop
+wide-requires c κs = search needs
+
+least-requires : tie.Need-least-requires Inv-loop μ-loop
+least-requires c κs = search needs
+
+loop-holds : tie.Need-loop-holds Inv-loop μ-loop
+unfolding vLines
+loop-holds c = (omega arith, (puts-none _ _ (search needs), omega arith))
+
+mul-x : tie.Need-mul-x Inv-loop μ-loop
+mul-x c = omega arith
+
+element-copy-out-x : tie.Need-element-copy-out-x Inv-loop μ-loop
+element-copy-out-x c = omega arith
+
+long-word-requires : tie.Need-long-word-requires Inv-loop μ-loop
+long-word-requires c κs = search needs
+
+put-v-line-requires : tie.Need-put-v-line-requires Inv-loop μ-loop
+put-v-line-requires c κs = omega arith
+
+add-i : tie.Need-add-i Inv-loop μ-loop
+add-i c = omega arith
+
+loop-less : tie.Need-loop-less Inv-loop μ-loop
+loop-less c = omega arith
+
+loop-again : tie.Need-loop-again Inv-loop μ-loop
+loop-again c =
+    let l = c .before .before .before .before .before .before .before in (
+      omega arith,
+      (
+        puts-v-more (l .before .before .before .before .args .t4 .at) (l .loop .i) _ (c .before .before .before .long-word .ensures) (l .loop .inv .1 .0) (c .before .before .put-v-line .ensures .0),
+        omega arith,
+      ),
+    )
+
+same-length : tie.Need-same-length Inv-loop μ-loop
+same-length c = omega arith
+
+returns : tie.Need-returns Inv-loop μ-loop
+returns c =
+    let e : c .before .loop .i ≡ min (c .before .before .before .before .before .args .v) 64 = omega arith in
+    (rw e at (c .before .loop .inv .1 .0), omega arith)
+
+pub put-v-lines-spec : {M : Type 1} → statement M
+put-v-lines-spec =
+    tie.close
+    (tie.spec
+    Inv-loop
+    μ-loop
+    wide-requires
+    least-requires
+    loop-holds
+    mul-x
+    element-copy-out-x
+    long-word-requires
+    put-v-line-requires
+    add-i
+    loop-less
+    loop-again
+    same-length
+    returns)
