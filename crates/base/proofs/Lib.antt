@@ -3,3 +3,4 @@ pub mod IndexLaws
 pub mod ListLaws
 pub mod PigeonLaws
 pub mod Computed
+pub mod Edges
