@@ -3,48 +3,37 @@
 --     begun-rest     where the floor is not before the horizon no cycle begins
 --     stepped-done, runFor-done, runFor-out, runFor-on     a run that is done stands still; else it goes on by one step
 use Prim.Native.Nat.{ℕ, zero, suc, _<_, _≤_}
-use mathlib.Core.Path.{_≡_, refl, ap, sym, _∙_, subst}
+use mathlib.Core.Path.{_≡_, refl, ap, sym, _∙_}
 use mathlib.Core.Logic.{_⊎_, inl, inr}
-use mathlib.Core.Bool.{Bool, true, false, cond, not, _&&_, _||_}
-use mathlib.Core.List.{List, [], _∷_, map}
-use native.Mathlib.Omega.{arith}
-use lib.Dec.{T, T-not, ltb, leb, eqb, leb→le, ltb→lt, lt→ltb, eqb→eq}
-use lib.ListN.{length}
+use mathlib.Core.Bool.{Bool, true, false, cond, not, _||_}
+use mathlib.Core.List.{List}
+use lib.Dec.{T, T-not}
 use borrow.Author.Tests.{le-ltb}
-use Rattle.base.proofs.BoolLaws.{T-case, T→true, T→false, true→T, false→T, and→both}
+use Rattle.base.proofs.BoolLaws.{T-case, T→true, T→false}
 use Rattle.base.proofs.IndexLaws.{anyBelow-found, anyBelow-some, anyBelow-none}
-use Rattle.clock.specs.declared.Cycle.{Cycle}
 use Rattle.clock.specs.declared.Bound.{Bound}
 use Rattle.clock.specs.declared.Bound.the-variants.{Never, At}
-use Rattle.clock.specs.Order.{_⊑_, sooner, same-time, _≼_}
-use Rattle.clock.proofs.LeastLaws.{leastBelow-≼, leastBelow-one}
+use Rattle.clock.specs.Order.{_≼_}
+use Rattle.clock.proofs.LeastLaws.{leastBelow-one}
 use Rattle.model.specs.declared.Model.{Model}
-use Rattle.model.specs.declared.State.{State}
 use Rattle.model.specs.declared.Thread.{Thread}
 use Rattle.model.specs.Limits.{isBeforeHorizon, isBoundBeforeHorizon}
-use Rattle.model.specs.Record.{threadAt, readyCycle, Awaited, nothing, awaits, awaitedBy}
-use Rattle.model.specs.Footprint.{has}
+use Rattle.model.specs.Record.{threadAt, readyCycle}
 use Rattle.plain.specs.Start.{Place}
-use Rattle.plain.specs.Wake.{isWoken, wokenState, wokenThread, woken, floorOf, someReady}
+use Rattle.plain.specs.Wake.{floorOf, someReady}
 use Rattle.plain.specs.Step.{begun, closedOn, stepped}
 use Rattle.plain.specs.Run.{isDone, isOut, runFor}
-
-isBeforeHorizon-mono : (m : Model) {a b : Cycle} → a ⊑ b → T (isBeforeHorizon m b) → T (isBeforeHorizon m a)
-unfolding isBeforeHorizon
-isBeforeHorizon-mono m {a} {b} (sooner h) t = let k = ltb→lt (b .time .0) (m .horizon .0) t in lt→ltb (a .time .0) (m .horizon .0) (omega arith)
-isBeforeHorizon-mono m {a} {b} (same-time h l) t = let k = ltb→lt (b .time .0) (m .horizon .0) t in lt→ltb (a .time .0) (m .horizon .0) (omega arith)
+use Rattle.cycles.proofs.RecordLaws.{horizon-mono}
+use Rattle.cycles.proofs.WakeLaws.{floorOf-≼}
+use Rattle.cycles.proofs.DoneLaws.{isDone-stands}
 
 isBoundBeforeHorizon-mono : (m : Model) (a b : Bound) → a ≼ b → T (isBoundBeforeHorizon m b) → T (isBoundBeforeHorizon m a)
 unfolding isBoundBeforeHorizon
 isBoundBeforeHorizon-mono m a Never h t = absurd t
 isBoundBeforeHorizon-mono m Never (At b) h t = absurd h
-isBoundBeforeHorizon-mono m (At a) (At b) h t = isBeforeHorizon-mono m h t
+isBoundBeforeHorizon-mono m (At a) (At b) h t = horizon-mono m h t
 
 module _ (m : Model) (ts : List Thread) where
-  pub floorOf-≼ : (k : ℕ) → k < m .t → floorOf m ts ≼ readyCycle (threadAt ts k .state)
-  unfolding floorOf
-  floorOf-≼ k h = leastBelow-≼ (m .t) (λ j. readyCycle (threadAt ts j .state)) k h
-
   pub floorOf-one : (floorOf m ts ≡ Never) ⊎ ((k : ℕ) × (k < m .t) × (floorOf m ts ≡ readyCycle (threadAt ts k .state)))
   unfolding floorOf
   floorOf-one = leastBelow-one (m .t) _
@@ -70,44 +59,20 @@ module _ (m : Model) (ts : List Thread) where
       go : T (someReady m ts) ⊎ T (not (someReady m ts)) → someReady m ts ≡ false
       go (inr t) = T→false (someReady m ts) t
       go (inl t) = let (k, h, u) = anyBelow-some (m .t) _ t in
-          absurd (T-not (isBoundBeforeHorizon m (floorOf m ts)) n (isBoundBeforeHorizon-mono m (floorOf m ts) (readyCycle (threadAt ts k .state)) (floorOf-≼ k h) u))
+          absurd (T-not (isBoundBeforeHorizon m (floorOf m ts)) n (isBoundBeforeHorizon-mono m (floorOf m ts) (readyCycle (threadAt ts k .state)) (floorOf-≼ m ts k h) u))
 
 pub begun-rest : (m : Model) (f : Bound) (p : Place) → T (not (isBoundBeforeHorizon m f)) → begun m f p ≡ p
 unfolding begun isBoundBeforeHorizon
 begun-rest m Never p n = refl
 begun-rest m (At c) p n = rw (T→false (isBeforeHorizon m c) n) refl
 
--- where no event was notified nobody wakes
-wokenThread-none : (c : Cycle) (x : Thread) → wokenThread [] c x ≡ x
-unfolding wokenThread wokenState isWoken has
-wokenThread-none c x = go (awaitedBy (x .state)) refl
-  where
-    go : (w : Awaited) → awaitedBy (x .state) ≡ w → wokenThread [] c x ≡ x
-    go nothing e = rw e refl
-    go (awaits e since) f = rw f refl
-
-pub woken-none : (c : Cycle) (ts : List Thread) → woken [] c ts ≡ ts
-unfolding woken
-woken-none c [] = refl
-woken-none c (x ∷ ts) = rw (wokenThread-none c x, woken-none c ts) refl
-
-no-events : (es : List ℕ) → length es ≡ 0 → es ≡ []
-no-events [] e = refl
-no-events (x ∷ es) e = absurd (omega arith)
-
 module _ (m : Model) (p : Place) where
   pub stepped-close : m .t ≤ p .turn → stepped m p ≡ closedOn m p
   unfolding stepped
   stepped-close h = rw (le-ltb (p .turn) (m .t) h) refl
 
-  pub stepped-done : T (isDone m p) → stepped m p ≡ p
-  unfolding isDone closedOn
-  stepped-done t =
-      let (s, r) = and→both (leb (m .t) (p .turn) && eqb (length (p .notified)) 0) (not (someReady m (p .threads))) t in
-      let (h, e) = and→both (leb (m .t) (p .turn)) (eqb (length (p .notified)) 0) s in
-      let q = no-events (p .notified) (eqb→eq (length (p .notified)) 0 e) in
-      stepped-close (leb→le (m .t) (p .turn) h) ∙
-      rw (q, woken-none (p .now) (p .threads)) (begun-rest m (floorOf m (p .threads)) _ (floorOf-rest m (p .threads) r))
+  stepped-done : T (isDone m p) → stepped m p ≡ p
+  stepped-done t = isDone-stands m p (T→true (isDone m p) t)
 
   module _ (budget : ℕ) where
     pub runFor-done : (s : ℕ) → T (isDone m p) → runFor m budget s p ≡ p

@@ -1,7 +1,11 @@
-pub mod LengthLaws
+pub mod FillLaws
+pub mod ExitLaws
 pub mod MarkLaws
-pub mod ThreadLaws
 pub mod FloorLaws
 pub mod SoundLaws
+pub mod WordLaws
+pub mod RangeLaws
+pub mod LeastLaws
+pub mod CodeLaws
 pub mod LoopLaws
 pub mod RunLaws

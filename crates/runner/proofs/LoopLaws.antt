@@ -4,56 +4,55 @@
 --     Loop     the locals stand for a place, the marks for the events notified
 --     loop-start, loop-passed, loop-ran, loop-begun     before the loop, and after each turn
 --     loop-out, loop-rest     where the budget is out, and where no thread is ready before the horizon
-use Prim.Native.Nat.{ℕ, zero, suc, _+_, _-_, _*_, _<_, _≤_, _^_}
-use mathlib.Core.Path.{_≡_, refl, ap, sym, _∙_, subst}
-use mathlib.Core.Logic.{_⊎_, inl, inr}
-use mathlib.Core.Bool.{Bool, true, false, cond, not, _&&_, _||_}
-use mathlib.Core.List.{List, [], _∷_, _++_, map}
-use types.Run.{OneOf, miss}
-use denote.Enum.Declared.{tagOf}
+use Prim.Native.Nat.{ℕ, suc, _+_, _-_, _*_, _/_, _%_, _<_, _≤_, _^_}
+use mathlib.Core.Path.{_≡_, refl, ap, sym, _∙_}
+use mathlib.Core.Bool.{Bool, true, false, not, _&&_}
+use mathlib.Core.List.{List, [], _++_}
 use native.Mathlib.Nat.{add-mul, one-mul, mul-le-mul-right}
 use native.Mathlib.Omega.{arith}
-use lib.Dec.{T, ltb, leb, eqb, lt→ltb}
-use lib.ListN.{length, getD, set, take, replicate, length-set, length-take}
-use lib.Seq.{take-at}
-use borrow.Author.Tests.{lt-ltb, le-ltb, le-leb, lt-leb, ltb-true}
-use Rattle.base.proofs.BoolLaws.{T→true, T→false, true→T, false→T}
-use Rattle.base.proofs.ListLaws.{getD-any}
+use native.Mathlib.Decide.{ℕ-discrete, decLt}
+use lib.Dec.{T, ltb, leb}
+use lib.ListN.{length, getD, set, replicate, length-set, length-append, length-replicate, getD-replicate, List·getD-append}
+use lib.Seq.{getD-set-same, getD-set-other, ext-getD}
+use borrow.Author.Tests.{lt-ltb, le-ltb, le-leb, lt-leb}
+use Rattle.base.specs.Index.{tabulate}
+use Rattle.base.proofs.BoolLaws.{T→true, true→T, false→T}
+use Rattle.base.proofs.IndexLaws.{tabulate-length, tabulate-at}
 use Rattle.clock.specs.declared.Cycle.{Cycle}
 use Rattle.clock.specs.declared.Bound.{Bound}
-use Rattle.clock.specs.declared.Bound.the-variants.{Never, At}
+use Rattle.clock.specs.declared.Bound.the-variants.{At}
 use Rattle.clock.specs.Cycle.{cycleAt}
 use Rattle.clock.specs.Order.{Before, sooner, same-time}
-use Rattle.clock.proofs.Bound as bound
 use Rattle.model.specs.declared.Model.{Model}
-use Rattle.model.specs.declared.Segment.{Segment}
 use Rattle.model.specs.declared.Thread.{Thread}
-use Rattle.model.specs.declared.Ran.{Ran}
-use Rattle.model.specs.declared.Closer.the-variants.{End}
-use Rattle.model.specs.Values.{noSegment, segmentAt, bodyOf}
+use Rattle.model.specs.declared.Threads.{Threads}
+use Rattle.model.specs.Values.{segmentAt, startAt, bodyOf}
 use Rattle.model.specs.Statement.{execute, notifiedBy}
 use Rattle.model.specs.Limits.{isBeforeHorizon, isBoundBeforeHorizon}
 use Rattle.model.specs.Record.{noThread, threadAt, readyCycle}
-use Rattle.model.specs.Effect.{Effect, closedAt, effectIn, effectOf, heldThread, heldEvents, heldEffect}
-use Rattle.model.specs.Footprint.{has, listedIn, notifiesIn}
+use Rattle.model.specs.Effect.{closedAt, effectIn, effectOf}
+use Rattle.model.specs.Footprint.{listedIn, notifiesIn}
 use Rattle.model.specs.Rules.{modelFault}
-use Rattle.machine.proofs.EffectLaws.{closedAt-small}
-use Rattle.rules.proofs.RuleLaws.{modelFault-horizon, modelFault-counts, modelFault-statements, modelFault-closer, closerFault-delay, modelFault-notifies}
-use Rattle.machine.proofs.StatementLaws.{notifiedBy-first}
+use Rattle.rules.proofs.RuleLaws.{modelFault-horizon, modelFault-counts, modelFault-closer, modelFault-notifies}
 use Rattle.plain.specs.declared.PlainRun.{PlainRun}
-use Rattle.plain.specs.Start.{Place, freshThreads, freshVariables, startOf}
-use Rattle.plain.specs.Wake.{woken, floorOf, someReady}
+use Rattle.plain.specs.Start.{Place, started, freshThreads, freshVariables, startOf}
+use Rattle.plain.specs.Wake.{wokenThread, woken, floorOf, someReady}
 use Rattle.plain.specs.Step.{isAt, isDue, ranOn, passedOn, begun, closedOn, stepped}
 use Rattle.plain.specs.Run.{isDone, isOut, runFor, lastStep, reported}
-use Rattle.runner.specs.Marked.{marked, wokenThreadBy, floorTo}
-use Rattle.runner.proofs.MarkLaws.{Tells, Within, marked-length, tells-none, tells-more, wokenBy-tells}
-use Rattle.runner.proofs.ThreadLaws.{floorTo-all}
+use Rattle.cycles.proofs.RecordLaws.{<→horizon}
+use Rattle.runner.specs.Words.{keyOf, wordOf, stateFrom, threadsTo, closeWord, wakeWord, leastWord}
+use Rattle.runner.specs.Packed.{marked, executeTo, markedTo, followBy}
+use Rattle.runner.proofs.MarkLaws.{Tells, Within, marked-length, tells-none, tells-more}
 use Rattle.runner.proofs.FloorLaws.{someReady-here, someReady-rest, begun-rest, stepped-close, runFor-done, runFor-out, runFor-on}
-use Rattle.runner.proofs.SoundLaws.{Sound, isDue→≡, sound-start, sound-passed, sound-ran, floor-ahead, sound-begun}
+use Rattle.runner.proofs.SoundLaws.{Sound, isDue→≡, sound-start, sound-passed, sound-ran, floor-ahead, sound-begun, threadAt-fresh, threadAt-woken, woken-length}
+use Rattle.runner.proofs.WordLaws.{Small, InRange, stateFrom-word, word-due, word-not-due, wakeWord-woken}
+use Rattle.runner.proofs.RangeLaws.{Ranged, past-end, small-now, closedAt-range, ranged-start, ranged-set, ranged-woken}
+use Rattle.runner.proofs.LeastLaws.{floor-word, floor-late}
+use Rattle.runner.proofs.CodeLaws.{Code, code-execute, code-marked, code-size, code-end, code-follow}
 
 -- how many steps lie before a turn of a cycle: T + 1 for each cycle, whether it is run or not
-abbrev pub countAt : ℕ → Cycle → ℕ → ℕ
-countAt t c turn = (1024 * c .time .0 + c .delta .0) * (t + 1) + turn
+abbrev pub countAt : ℕ → ℕ → ℕ → ℕ
+countAt t key turn = key * (t + 1) + turn
 
 cycle-room : (t a b : ℕ) → a < b → a * (t + 1) + (t + 1) ≤ b * (t + 1)
 cycle-room t a b h =
@@ -62,7 +61,7 @@ cycle-room t a b h =
     let l : (a + 1) * (t + 1) ≤ b * (t + 1) = mul-le-mul-right (t + 1) (omega arith) in
     omega arith
 
-pub countAt-room : (t h : ℕ) (c : Cycle) (turn : ℕ) → c .time .0 < h → c .delta .0 ≤ 1023 → turn ≤ t → countAt t c turn < 1024 * h * (t + 1)
+pub countAt-room : (t h : ℕ) (c : Cycle) (turn : ℕ) → c .time .0 < h → c .delta .0 ≤ 1023 → turn ≤ t → countAt t (keyOf c) turn < 1024 * h * (t + 1)
 countAt-room t h c turn l d u =
     let r = cycle-room t (1024 * c .time .0 + c .delta .0) (1024 * h) (omega arith) in
     omega arith
@@ -71,13 +70,13 @@ key-later : {c d : Cycle} → Before c d → c .delta .0 ≤ 1023 → 1024 * c .
 key-later (sooner h) l = omega arith
 key-later (same-time h k) l = omega arith
 
-pub countAt-later : (t : ℕ) {c d : Cycle} (turn : ℕ) → Before c d → c .delta .0 ≤ 1023 → turn ≤ t → countAt t c turn < countAt t d 0
+pub countAt-later : (t : ℕ) {c d : Cycle} (turn : ℕ) → Before c d → c .delta .0 ≤ 1023 → turn ≤ t → countAt t (keyOf c) turn < countAt t (keyOf d) 0
 countAt-later t {c} {d} turn b l u =
     let r = cycle-room t (1024 * c .time .0 + c .delta .0) (1024 * d .time .0 + d .delta .0) (key-later b l) in
     omega arith
 
 abbrev countOf : Model → Place → ℕ
-countOf m p = countAt (m .t) (p .now) (p .turn)
+countOf m p = countAt (m .t) (keyOf (p .now)) (p .turn)
 
 pub record Stands (m : Model) (budget : ℕ) (p : Place) : Type 0 where
   pub sound : Sound m p
@@ -103,11 +102,20 @@ stands-step m budget p q st o e s later =
 abbrev pub placeOf : List ℕ → List Thread → Cycle → ℕ → List ℕ → ℕ → Place
 placeOf v ts now turn es n = record { variables = v; threads = ts; now = now; turn = turn; notified = es; n = n }
 
-pub record Loop (m : Model) (budget : ℕ) (v : List ℕ) (ts : List Thread) (now : Cycle) (fs : List Bool) (turn n : ℕ) : Type 0 where
+-- the words ws and segments ss stand for threads, the marks fs for events, and now for a cycle
+pub record Loop (m : Model) (budget : ℕ) (v ws ss : List ℕ) (fs : List Bool) (now turn n : ℕ) : Type 0 where
+  pub threads : List Thread
+  pub cycle : Cycle
   pub events : List ℕ
+  pub key : now ≡ keyOf cycle
+  pub words : (k : ℕ) → k < m .t → getD ws k 0 ≡ wordOf (threadAt threads k .state)
+  pub segments : (k : ℕ) → k < m .t → getD ss k 0 ≡ threadAt threads k .segment
+  pub ranged : Ranged (m .t) threads
   pub tells : Tells fs events
-  pub places : length fs ≡ 32
-  pub stands : Stands m budget (placeOf v ts now turn events n)
+  pub marks-size : length fs ≡ 32
+  pub words-size : length ws ≡ 32
+  pub segments-size : length ss ≡ 32
+  pub stands : Stands m budget (placeOf v threads cycle turn events n)
 
 -- what the run answers
 abbrev pub answerOf : Model → ℕ → PlainRun
@@ -121,8 +129,8 @@ unfolding reported
 reported-as m p spent e = rw (← e) refl
 
 -- tests of a place, from what the code has tested
-isDue-at : (p : Place) → isAt (p .now) (readyCycle (getD (p .threads) (p .turn) noThread .state)) ≡ isDue p
-unfolding isDue threadAt
+isDue-at : (p : Place) → isAt (p .now) (readyCycle (threadAt (p .threads) (p .turn) .state)) ≡ isDue p
+unfolding isDue
 isDue-at p = refl
 
 isOut-not-due : (m : Model) (budget : ℕ) (p : Place) → isDue p ≡ false → T (not (isOut m budget p))
@@ -169,205 +177,260 @@ begun-at : (m : Model) (f : Bound) (c : Cycle) (p : Place) → f ≡ At c → T 
 unfolding begun
 begun-at m f c p e t = rw (e, T→true (isBeforeHorizon m c) t) refl
 
-isBoundBeforeHorizon-at : (m : Model) (f : Bound) (c : Cycle) → f ≡ At c → m .horizon .0 ≤ c .time .0 → T (not (isBoundBeforeHorizon m f))
-unfolding isBoundBeforeHorizon isBeforeHorizon
-isBoundBeforeHorizon-at m f c e h = rw (e, le-ltb (c .time .0) (m .horizon .0) h) tt
-
-isBoundBeforeHorizon-never : (m : Model) (f : Bound) → Never ≡ f → T (not (isBoundBeforeHorizon m f))
-unfolding isBoundBeforeHorizon
-isBoundBeforeHorizon-never m f e = rw (← e) tt
-
-isBeforeHorizon-below : (m : Model) (c : Cycle) → c .time .0 < m .horizon .0 → T (isBeforeHorizon m c)
-unfolding isBeforeHorizon
-isBeforeHorizon-below m c h = lt→ltb (c .time .0) (m .horizon .0) h
-
 -- a due thread is ready before the horizon
 someReady-due : (m : Model) (p : Place) → Sound m p → p .turn < m .t → T (isDue p) → someReady m (p .threads) ≡ true
 unfolding isBoundBeforeHorizon
 someReady-due m p s h d =
     T→true (someReady m (p .threads))
-    (someReady-here m (p .threads) (p .turn) h (rw (isDue→≡ p d) (isBeforeHorizon-below m (p .now) (s .time))))
+    (someReady-here m (p .threads) (p .turn) h (rw (isDue→≡ p d) (<→horizon m (p .now) (s .time))))
 
--- what an effect's words hold
-module _ (m : Model) (fit : modelFault m ≡ 0) (s : ℕ) (l : s < m .n) (c : Cycle) (v : List ℕ) (small : c .time .0 < 2 ^ 63) where
-  heldEffect-thread : heldEffect (effectIn (segmentAt m s) s c v) .thread ≡ effectIn (segmentAt m s) s c v .thread
-  unfolding heldEffect effectIn
-  heldEffect-thread =
-      closedAt-small s (segmentAt m s .closer) c _ small (omega (arith, closerFault-delay (m .v) (m .e) (segmentAt m s .closer) (modelFault-closer m fit s l)))
+-- a record and its word, set together
+set-both : (t : ℕ) (ws : List ℕ) (ts : List Thread) (i w : ℕ) (x : Thread) (f : Thread → ℕ) → i < length ws → i < length ts → w ≡ f x →
+    ((k : ℕ) → k < t → getD ws k 0 ≡ f (threadAt ts k)) → (k : ℕ) → k < t → getD (set ws i w) k 0 ≡ f (threadAt (set ts i x) k)
+unfolding threadAt
+set-both t ws ts i w x f h l e g k b = go (ℕ-discrete k i)
+  where
+    go : Dec (k ≡ i) → getD (set ws i w) k 0 ≡ f (getD (set ts i x) k noThread)
+    go (yes q) = rw (q, getD-set-same ws i w 0 h, getD-set-same ts i x noThread l) e
+    go (no q) = rw (getD-set-other ws i k w 0 q, getD-set-other ts i k x noThread q) (g k b)
 
-  heldEffect-variables : heldEffect (effectIn (segmentAt m s) s c v) .variables .at ≡ effectIn (segmentAt m s) s c v .variables
-  unfolding heldEffect
-  heldEffect-variables = refl
+threadsTo-length : (ws ss : List ℕ) (t : ℕ) → t ≤ 32 → length (threadsTo ws ss t) ≡ 32
+unfolding threadsTo
+threadsTo-length ws ss t h =
+    let f : ℕ → Thread = λ j. record { segment = getD ss j 0; state = stateFrom (getD ws j 0) } in
+    length-append (tabulate t 0 f) (replicate (32 - t) noThread) ∙ omega (arith, tabulate-length t 0 f, length-replicate (32 - t) noThread)
 
-  effect-few : length (effectIn (segmentAt m s) s c v .notified) ≤ 32
-  unfolding effectIn bodyOf
-  effect-few = omega (arith, notifiedBy-first (segmentAt m s .statements) (segmentAt m s .n), modelFault-statements m fit s l)
+-- the words are read back as the threads that they stand for
+threadsTo-as : (ws ss : List ℕ) (t : ℕ) (ts : List Thread) → t ≤ 32 → length ts ≡ 32 →
+    ((k : ℕ) → k < t → getD ws k 0 ≡ wordOf (threadAt ts k .state)) → ((k : ℕ) → k < t → getD ss k 0 ≡ threadAt ts k .segment) → Ranged t ts → threadsTo ws ss t ≡ ts
+unfolding threadsTo threadAt
+threadsTo-as ws ss t ts h size words segments r =
+    ext-getD noThread (threadsTo ws ss t) ts (threadsTo-length ws ss t h ∙ sym size) (λ k l. go k (decLt k t))
+  where
+    f : ℕ → Thread
+    f j = record { segment = getD ss j 0; state = stateFrom (getD ws j 0) }
 
-  pub heldEffect-few : heldEffect (effectIn (segmentAt m s) s c v) .notified .n ≤ 32
-  unfolding heldEffect heldEvents
-  heldEffect-few = effect-few
+    go : (k : ℕ) → Dec (k < t) → getD (tabulate t 0 f ++ replicate (32 - t) noThread) k noThread ≡ getD ts k noThread
+    go k (yes l) =
+        let b : k < length (tabulate t 0 f) = omega (arith, tabulate-length t 0 f) in
+        let z : 0 + k ≡ k = omega arith in
+        List·getD-append (tabulate t 0 f) (replicate (32 - t) noThread) noThread k b ∙
+        (tabulate-at t 0 k f noThread l ∙ rw (z, words k l, segments k l, stateFrom-word (getD ts k noThread .state) (r .range k l)) refl)
+    go k (no l) =
+        past-end (tabulate t 0 f) (32 - t) k (omega (arith, tabulate-length t 0 f)) ∙ sym (r .rest k (omega arith))
 
-  heldEffect-notified :
-      take (heldEffect (effectIn (segmentAt m s) s c v) .notified .n) (heldEffect (effectIn (segmentAt m s) s c v) .notified .at)
-      ≡ effectIn (segmentAt m s) s c v .notified
-  unfolding heldEffect heldEvents
-  heldEffect-notified = take-at (effectIn (segmentAt m s) s c v .notified) _ _ refl
-
-  effect-within : Within 32 (effectIn (segmentAt m s) s c v .notified)
-  unfolding effectIn notifiesIn listedIn
-  effect-within e t = let few = modelFault-counts m fit .events in omega (arith, modelFault-notifies m fit 0 s l e t)
+effect-within : (m : Model) → modelFault m ≡ 0 → (s : ℕ) → s < m .n → Within 32 (notifiedBy (bodyOf (segmentAt m s)))
+unfolding notifiesIn listedIn
+effect-within m fit s l e t = let few = modelFault-counts m fit .events in omega (arith, modelFault-notifies m fit 0 s l e t)
 
 module _ (m : Model) (fit : modelFault m ≡ 0) (budget : ℕ) where
-  pub loop-start : Loop m budget freshVariables (freshThreads m) (cycleAt 0 0) (replicate 32 false) 0 0
-  unfolding startOf
-  loop-start =
+  pub loop-start : (ss : List ℕ) → length ss ≡ 32 → ((k : ℕ) → k < m .t → getD ss k 0 ≡ startAt m k .first) →
+      Loop m budget freshVariables (replicate 32 0) ss (replicate 32 false) 0 0 0
+  unfolding startOf started
+  loop-start ss size first =
+      let few = modelFault-counts m fit .threads in
       record {
+        threads = freshThreads m;
+        cycle = cycleAt 0 0;
         events = [];
+        key = refl;
+        words = λ k h. rw (threadAt-fresh m fit k h) (getD-replicate 32 k 0 0 (omega arith));
+        segments = λ k h. rw (threadAt-fresh m fit k h) (first k h);
+        ranged = ranged-start m fit;
         tells = tells-none;
-        places = refl;
+        marks-size = refl;
+        words-size = refl;
+        segments-size = size;
         stands = record { sound = sound-start m fit; steps = lastStep m; same = refl; left = omega arith };
       }
 
-  module _ (v : List ℕ) (ts : List Thread) (now : Cycle) (fs : List Bool) (turn n : ℕ) (loop : Loop m budget v ts now fs turn n) where
+  module _ (v ws ss : List ℕ) (fs : List Bool) (now turn n : ℕ) (loop : Loop m budget v ws ss fs now turn n) where
     here : Place
-    here = placeOf v ts now turn (loop .events) n
+    here = placeOf v (loop .threads) (loop .cycle) turn (loop .events) n
 
-    pub loop-size : length ts ≡ 32
-    loop-size = loop .stands .sound .size
+    soon : loop .cycle .time .0 < 1000000000
+    soon = let (low, high) = modelFault-horizon m fit in omega (arith, loop .stands .sound .time)
 
-    pub loop-small : now .time .0 < 2 ^ 63
-    loop-small = let (low, high) = modelFault-horizon m fit in omega (arith, loop .stands .sound .time)
+    small : Small (loop .cycle)
+    small = small-now (loop .cycle) soon (loop .stands .sound .delta)
 
-    pub loop-segment : turn < m .t → getD ts turn noThread .segment < m .n
-    unfolding threadAt
-    loop-segment h = loop .stands .sound .segment turn h
+    pub loop-small : now < 2 ^ 44
+    loop-small = let k = small .key in omega (arith, loop .key)
+
+    pub loop-segment : turn < m .t → getD ss turn 0 < m .n
+    loop-segment h = rw (loop .segments turn h) (loop .stands .sound .segment turn h)
 
     -- the measure has room to fall
     pub loop-room : countAt (m .t) now turn < lastStep m
-    loop-room = countAt-room (m .t) (m .horizon .0) now turn (loop .stands .sound .time) (loop .stands .sound .delta) (loop .stands .sound .turn)
+    loop-room = rw (loop .key) (countAt-room (m .t) (m .horizon .0) (loop .cycle) turn (loop .stands .sound .time) (loop .stands .sound .delta) (loop .stands .sound .turn))
 
-    pub loop-passed : turn < m .t → isAt now (readyCycle (getD ts turn noThread .state)) ≡ false → Loop m budget v ts now fs (turn + 1) n
+    pub loop-threads : threadsTo ws ss (m .t) ≡ loop .threads
+    loop-threads = threadsTo-as ws ss (m .t) (loop .threads) (modelFault-counts m fit .threads) (loop .stands .sound .size) (loop .words) (loop .segments) (loop .ranged)
+
+    due-word : turn < m .t → getD ws turn 0 ≡ now → isDue here ≡ true
+    unfolding here
+    due-word h e = sym (isDue-at here) ∙ word-due (loop .cycle) small (threadAt (loop .threads) turn .state) (loop .ranged .range turn h) (sym (loop .words turn h) ∙ (e ∙ loop .key))
+
+    not-due-word : turn < m .t → (getD ws turn 0 ≡ now → ⊥) → isDue here ≡ false
+    unfolding here
+    not-due-word h e = sym (isDue-at here) ∙ word-not-due (loop .cycle) small (threadAt (loop .threads) turn .state) (λ q. e (loop .words turn h ∙ (q ∙ sym (loop .key))))
+
+    pub loop-passed : turn < m .t → (getD ws turn 0 ≡ now → ⊥) → Loop m budget v ws ss fs now (turn + 1) n
     unfolding here passedOn
     loop-passed h d =
-        let due : isDue here ≡ false = sym (isDue-at here) ∙ d in
+        let due : isDue here ≡ false = not-due-word h d in
         record {
+          threads = loop .threads;
+          cycle = loop .cycle;
           events = loop .events;
+          key = loop .key;
+          words = loop .words;
+          segments = loop .segments;
+          ranged = loop .ranged;
           tells = loop .tells;
-          places = loop .places;
+          marks-size = loop .marks-size;
+          words-size = loop .words-size;
+          segments-size = loop .segments-size;
           stands =
               stands-step m budget here (passedOn here) (loop .stands) (isOut-not-due m budget here due) (stepped-passed m here h due)
               (sound-passed m fit here (loop .stands .sound) h (false→T (isDue here) due)) (omega arith);
         }
 
-    -- "the ready threads of that cycle run their segment whole"
-    module _ (h : turn < m .t) (d : isAt now (readyCycle (getD ts turn noThread .state)) ≡ true) where
+    module _ (h : turn < m .t) (d : getD ws turn 0 ≡ now) where
+      -- "spent": the budget is out, and this thread is ready
+      pub loop-out : budget ≤ n → answer v (threadsTo ws ss (m .t)) n true ≡ answerOf m budget
+      unfolding here
+      loop-out full =
+          let due : isDue here ≡ true = due-word h d in
+          let out : T (isOut m budget here) = isOut-full m budget here h due full in
+          rw loop-threads
+          (reported-as m here true (someReady-due m here (loop .stands .sound) h (true→T (isDue here) due)) ∙
+          ap (reported m) (sym (runFor-out m here budget (loop .stands .steps) out) ∙ loop .stands .same))
+
       ran-stands : n < budget → Stands m budget (ranOn m here)
       unfolding here ranOn
       ran-stands room =
-          let due : isDue here ≡ true = sym (isDue-at here) ∙ d in
-          stands-step m budget here (ranOn m here) (loop .stands) (isOut-room m budget here room) (stepped-ran m here h due)
+          stands-step m budget here (ranOn m here) (loop .stands) (isOut-room m budget here room) (stepped-ran m here h (due-word h d))
           (sound-ran m fit here (loop .stands .sound) h) (omega arith)
 
-      pub loop-ran : n < budget → (ran : Ran) (gs : List Bool) →
-          ran ≡ heldEffect (effectIn (segmentAt m (getD ts turn noThread .segment)) (getD ts turn noThread .segment) now v) →
-          gs ≡ marked fs (take (ran .notified .n) (ran .notified .at)) →
-          Loop m budget (ran .variables .at) (set ts turn (ran .thread)) now gs (turn + 1) (n + 1)
-      unfolding here ranOn effectOf threadAt
-      loop-ran room ran gs e f =
-          let s = getD ts turn noThread .segment in
-          let l : s < m .n = loop-segment h in
-          let x = effectIn (segmentAt m s) s now v in
-          let told : gs ≡ marked fs (x .notified) = f ∙ ap (marked fs) (ap (λ (r : Ran). take (r .notified .n) (r .notified .at)) e ∙ heldEffect-notified m fit s l now v loop-small) in
-          let thread : ran .thread ≡ x .thread = ap (λ (r : Ran). r .thread) e ∙ heldEffect-thread m fit s l now v loop-small in
-          let after : ran .variables .at ≡ x .variables = ap (λ (r : Ran). r .variables .at) e ∙ heldEffect-variables m fit s l now v loop-small in
+      -- "the ready threads of that cycle run their segment whole"
+      pub loop-ran : n < budget → (words ends nexts : List ℕ) → Code m words ends nexts → (s : ℕ) → s ≡ getD ss turn 0 → (x : List ℕ) (gs : List Bool) →
+          x ≡ executeTo words (32 * s) (getD ends s 0 / 4 % 256) v → gs ≡ markedTo words (32 * s) (getD ends s 0 / 4 % 256) fs →
+          Loop m budget x (set ws turn (closeWord (getD ends s 0) now)) (set ss turn (followBy (getD ends s 0) (getD nexts s 0) s x)) gs now (turn + 1) (n + 1)
+      unfolding here ranOn effectOf effectIn
+      loop-ran room words ends nexts code s same x gs e f =
+          let r = threadAt (loop .threads) turn .segment in
+          let p : s ≡ r = same ∙ loop .segments turn h in
+          let l : s < m .n = rw same (loop-segment h) in
+          let size = code-size m fit words ends nexts code s l in
+          let after : x ≡ execute (bodyOf (segmentAt m s)) v = e ∙ (ap (λ (k : ℕ). executeTo words (32 * s) k v) size ∙ code-execute m fit words ends nexts code s l v) in
+          let told : gs ≡ marked fs (notifiedBy (bodyOf (segmentAt m s))) = f ∙ (ap (λ (k : ℕ). markedTo words (32 * s) k fs) size ∙ code-marked m fit words ends nexts code s l fs) in
+          let i : turn < length ws = omega (arith, loop .words-size, modelFault-counts m fit .threads) in
+          let j : turn < length (loop .threads) = omega (arith, loop .stands .sound .size, modelFault-counts m fit .threads) in
+          let k : turn < length ss = omega (arith, loop .segments-size, modelFault-counts m fit .threads) in
+          let y = closedAt s (segmentAt m s .closer) (loop .cycle) x in
+          let range : InRange (y .state) = closedAt-range (loop .cycle) soon (loop .stands .sound .delta) (m .v) (m .e) s (segmentAt m s .closer) x (modelFault-counts m fit .events) (modelFault-closer m fit s l) in
+          let close : closeWord (getD ends s 0) now ≡ wordOf (y .state) = ap (closeWord (getD ends s 0)) (loop .key) ∙ code-end m fit words ends nexts code s l (loop .cycle) small x range in
           record {
-            events = loop .events ++ x .notified;
-            tells = rw told (tells-more fs (loop .events) (x .notified) (rw (loop .places) (effect-within m fit s l now v loop-small)) (loop .tells));
-            places = ap length told ∙ (marked-length fs (x .notified) ∙ loop .places);
-            stands = rw (thread, after) (ran-stands room);
+            threads = set (loop .threads) turn y;
+            cycle = loop .cycle;
+            events = loop .events ++ notifiedBy (bodyOf (segmentAt m s));
+            key = loop .key;
+            words = set-both (m .t) ws (loop .threads) turn _ y (λ (z : Thread). wordOf (z .state)) i j close (loop .words);
+            segments = set-both (m .t) ss (loop .threads) turn _ y (λ (z : Thread). z .segment) k j (code-follow m fit words ends nexts code s l (loop .cycle) x) (loop .segments);
+            ranged = ranged-set (m .t) (loop .threads) turn y j h range (loop .ranged);
+            tells = rw told (tells-more fs (loop .events) (notifiedBy (bodyOf (segmentAt m s))) (rw (loop .marks-size) (effect-within m fit s l)) (loop .tells));
+            marks-size = ap length told ∙ (marked-length fs (notifiedBy (bodyOf (segmentAt m s))) ∙ loop .marks-size);
+            words-size = length-set ws turn _ ∙ loop .words-size;
+            segments-size = length-set ss turn _ ∙ loop .segments-size;
+            stands = rw (after, p) (ran-stands room);
           }
 
-      -- "spent": the budget is out, and this thread is ready
-      pub loop-out : budget ≤ n → answer v ts n true ≡ answerOf m budget
-      unfolding here
-      loop-out full =
-          let due : isDue here ≡ true = sym (isDue-at here) ∙ d in
-          let out : T (isOut m budget here) = isOut-full m budget here h due full in
-          reported-as m here true (someReady-due m here (loop .stands .sound) h (true→T (isDue here) due)) ∙
-          ap (reported m) (sym (runFor-out m here budget (loop .stands .steps) out) ∙ loop .stands .same)
-
     -- "At the cycle's end"
-    module _ (h : m .t ≤ turn) (us : List Thread) (w : us ≡ map (wokenThreadBy fs now) ts) where
-      woke : us ≡ woken (loop .events) now ts
-      woke = w ∙ wokenBy-tells fs (loop .events) now (loop .tells) ts
+    module _ (h : m .t ≤ turn) (us : List ℕ) (w : (k : ℕ) → k < m .t → getD us k 0 ≡ wakeWord fs now (getD ws k 0)) where
+      woke : List Thread
+      woke = woken (loop .events) (loop .cycle) (loop .threads)
 
-      closed-stands : (q : Place) → closedOn m here ≡ q → Sound m q → countAt (m .t) now turn < countAt (m .t) (q .now) (q .turn) → Stands m budget q
+      woke-words : (k : ℕ) → k < m .t → getD us k 0 ≡ wordOf (threadAt woke k .state)
+      unfolding woke wokenThread
+      woke-words k l =
+          w k l ∙
+          rw (loop .words k l, loop .key, threadAt-woken (loop .events) (loop .cycle) (loop .threads) k)
+          (wakeWord-woken (loop .cycle) small fs (loop .events) (loop .tells) (threadAt (loop .threads) k .state) (loop .ranged .range k l))
+
+      woke-segments : (k : ℕ) → k < m .t → getD ss k 0 ≡ threadAt woke k .segment
+      unfolding woke wokenThread
+      woke-segments k l = rw (threadAt-woken (loop .events) (loop .cycle) (loop .threads) k) (loop .segments k l)
+
+      woke-ranged : Ranged (m .t) woke
+      unfolding woke
+      woke-ranged = ranged-woken (m .t) (loop .events) (loop .cycle) (loop .threads) soon (loop .stands .sound .delta) (loop .ranged)
+
+      closed-stands : (q : Place) → closedOn m here ≡ q → Sound m q → countAt (m .t) (keyOf (loop .cycle)) turn < countAt (m .t) (keyOf (q .now)) (q .turn) → Stands m budget q
       unfolding here
       closed-stands q e s later = stands-step m budget here q (loop .stands) (isOut-closed m budget here h) (stepped-close m here h ∙ e) s later
 
-      pub loop-later : (c : Cycle) → floorTo (m .t) us ≡ At c → countAt (m .t) now turn < countAt (m .t) c 0
-      unfolding here
-      loop-later c f =
-          let g : floorOf m (woken (loop .events) now ts) ≡ At c = ap (floorOf m) (sym woke) ∙ (sym (floorTo-all m us) ∙ f) in
-          countAt-later (m .t) turn (floor-ahead m fit here (loop .stands .sound) h c g .0) (loop .stands .sound .delta) (loop .stands .sound .turn)
+      -- the next cycle, as a cycle
+      next-cycle : leastWord (m .t) us < 1024 * m .horizon .0 →
+          (c : Cycle) × (floorOf m woke ≡ At c) × (keyOf c ≡ leastWord (m .t) us) × Small c × (c .time .0 < m .horizon .0)
+      next-cycle l = floor-word m (modelFault-horizon m fit .1) us woke woke-words (woke-ranged .range) l
 
-      pub loop-begun : (c : Cycle) → floorTo (m .t) us ≡ At c → c .time .0 < m .horizon .0 → Loop m budget v us c (replicate 32 false) 0 n
-      unfolding here
-      loop-begun c f l =
-          let g : floorOf m (woken (loop .events) now ts) ≡ At c = ap (floorOf m) (sym woke) ∙ (sym (floorTo-all m us) ∙ f) in
-          let t = isBeforeHorizon-below m c l in
+      count-later : (c : Cycle) → floorOf m woke ≡ At c → countAt (m .t) (keyOf (loop .cycle)) turn < countAt (m .t) (keyOf c) 0
+      unfolding here woke
+      count-later c g = countAt-later (m .t) turn (floor-ahead m fit here (loop .stands .sound) h c g .0) (loop .stands .sound .delta) (loop .stands .sound .turn)
+
+      pub loop-later : leastWord (m .t) us < 1024 * m .horizon .0 → countAt (m .t) now turn < countAt (m .t) (leastWord (m .t) us) 0
+      loop-later l = let (c, g, e, s, t) = next-cycle l in rw (loop .key, ← e) (count-later c g)
+
+      pub loop-begun : length us ≡ 32 → leastWord (m .t) us < 1024 * m .horizon .0 → Loop m budget v us ss (replicate 32 false) (leastWord (m .t) us) 0 n
+      unfolding here woke
+      loop-begun size l =
+          let (c, g, e, s, t) = next-cycle l in
+          let b = <→horizon m c t in
           record {
+            threads = woke;
+            cycle = c;
             events = [];
+            key = sym e;
+            words = woke-words;
+            segments = woke-segments;
+            ranged = woke-ranged;
             tells = tells-none;
-            places = refl;
-            stands = rw woke
-                (closed-stands (placeOf v (woken (loop .events) now ts) c 0 [] n)
-                (closedOn-as m here ∙ begun-at m (floorOf m (woken (loop .events) now ts)) c _ g t)
-                (sound-begun m fit here (loop .stands .sound) h c g t)
-                (loop-later c f));
+            marks-size = refl;
+            words-size = size;
+            segments-size = loop .segments-size;
+            stands =
+                closed-stands (placeOf v woke c 0 [] n)
+                (closedOn-as m here ∙ begun-at m (floorOf m woke) c _ g b)
+                (sound-begun m fit here (loop .stands .sound) h c g b)
+                (count-later c g);
           }
 
       -- no thread is ready before the horizon
-      rest : T (not (isBoundBeforeHorizon m (floorTo (m .t) us))) → answer v us n false ≡ answerOf m budget
-      unfolding here
-      rest t =
-          let f : floorTo (m .t) us ≡ floorOf m (woken (loop .events) now ts) = floorTo-all m us ∙ ap (floorOf m) woke in
-          let u : T (not (isBoundBeforeHorizon m (floorOf m (woken (loop .events) now ts)))) = rw f at t in
-          let q = placeOf v (woken (loop .events) now ts) now turn [] n in
-          let r : someReady m (woken (loop .events) now ts) ≡ false = someReady-rest m (woken (loop .events) now ts) u in
-          let e : stepped m here ≡ q = stepped-close m here h ∙ (closedOn-as m here ∙ begun-rest m (floorOf m (woken (loop .events) now ts)) q u) in
-          rw woke (reported-as m q false r ∙ ap (reported m) (rest-same q e (isDone-rest m q h refl r)))
+      pub loop-rest : 1024 * m .horizon .0 ≤ leastWord (m .t) us → answer v (threadsTo us ss (m .t)) n false ≡ answerOf m budget
+      unfolding here woke
+      loop-rest l =
+          let u : T (not (isBoundBeforeHorizon m (floorOf m woke))) = floor-late m (modelFault-horizon m fit .1) us woke woke-words (woke-ranged .range) l in
+          let q = placeOf v woke (loop .cycle) turn [] n in
+          let r : someReady m woke ≡ false = someReady-rest m woke u in
+          let e : stepped m here ≡ q = stepped-close m here h ∙ (closedOn-as m here ∙ begun-rest m (floorOf m woke) q u) in
+          let ts : threadsTo us ss (m .t) ≡ woke =
+          threadsTo-as us ss (m .t) woke (modelFault-counts m fit .threads) (woken-length m fit here (loop .stands .sound) h) woke-words woke-segments woke-ranged in
+          rw ts (reported-as m q false r ∙ ap (reported m) (rest-same q e (isDone-rest m q h refl r)))
         where
           rest-same : (q : Place) → stepped m here ≡ q → T (isDone m q) → q ≡ runFor m budget (lastStep m) (startOf m)
           rest-same q e t =
-              let room = loop-room in
+              let room : countAt (m .t) (keyOf (loop .cycle)) turn < lastStep m = rw (loop .key) at loop-room in
               let left = loop .stands .left in
               let s : loop .stands .steps ≡ suc (loop .stands .steps - 1) = omega arith in
               sym (runFor-done m q budget (loop .stands .steps - 1) t) ∙
               (sym (stands-steps m budget (loop .stands .steps) (loop .stands .steps - 1) here q s (isOut-closed m budget here h) e) ∙ loop .stands .same)
 
-      pub loop-rest-never : Never ≡ floorTo (m .t) us → answer v us n false ≡ answerOf m budget
-      loop-rest-never e = rest (isBoundBeforeHorizon-never m (floorTo (m .t) us) e)
-
-      pub loop-rest-late : (c : Cycle) → floorTo (m .t) us ≡ At c → m .horizon .0 ≤ c .time .0 → answer v us n false ≡ answerOf m budget
-      loop-rest-late c e l = rest (isBoundBeforeHorizon-at m (floorTo (m .t) us) c e l)
-
 -- for the code: the measure falls
 pub falls-later : (l a b : ℕ) → a < b → a < l → l - b < l - a
 falls-later l a b h k = omega arith
 
--- for the code: a segment is read past no end
-pub segment-read : (m : Model) (i s : ℕ) → i ≡ s → s < length (m .segments) → getD (m .segments) i (record { closer = End; n = 0; statements = [] }) ≡ segmentAt m s
-unfolding segmentAt
-segment-read m i s e h = rw e (getD-any (m .segments) s (record { closer = End; n = 0; statements = [] }) noSegment h)
-
-pub ran-as : (m : Model) (g : Segment) (s : ℕ) (c : Cycle) (v : List ℕ) (ran : Ran) → g ≡ segmentAt m s → ran ≡ heldEffect (effectIn g s c v) → ran ≡ heldEffect (effectIn (segmentAt m s) s c v)
-ran-as m g s c v ran e f = f ∙ ap (λ (x : Segment). heldEffect (effectIn x s c v)) e
-
-pub ran-few : (m : Model) → modelFault m ≡ 0 → (s : ℕ) → s < m .n → (c : Cycle) (v : List ℕ) → c .time .0 < 2 ^ 63 → (ran : Ran) → ran ≡ heldEffect (effectIn (segmentAt m s) s c v) → ran .notified .n ≤ 32
-ran-few m fit s l c v small ran e = rw e (heldEffect-few m fit s l c v small)
-
--- for the code: the `else` of the floor
-pub never-else : (b : Bound) → OneOf (0 ∷ []) (tagOf bound.the-type b) → Never ≡ b
-never-else Never h = refl
-never-else (At c) h = absurd (miss (0 ∷ []) 1 tt h)
+-- for the code: a result with its threads read back
+pub result-as : (v : List ℕ) (ts : Threads) (l : List Thread) (n : ℕ) (spent : Bool) → ts .at ≡ l →
+    record { number = 0; variables = record { at = v }; threads = ts; n = n; spent = spent } ≡ answer v l n spent
+result-as v ts l n spent e = λ i. record { number = 0; variables = record { at = v }; threads = record { at = e i }; n = n; spent = spent }

@@ -1,7 +1,7 @@
 -- The two ways out of `plain_run`.
 --     plainRun-fit, plainRun-fault     a model that keeps the file rules, and one that does not
 use Prim.Native.Nat.{ℕ}
-use mathlib.Core.Path.{_≡_, refl, ap}
+use mathlib.Core.Path.{_≡_, refl}
 use mathlib.Core.Bool.{false}
 use lib.ListN.{replicate}
 use borrow.Author.Tests.{eq-eqb, ne-eqb}

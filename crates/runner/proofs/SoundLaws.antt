@@ -2,14 +2,13 @@
 -- no ready thread behind the cycle that runs, and those that were looked at ahead of it.
 --     closedAt-later     a segment that closes leaves its thread ahead
 --     sound-start, sound-passed, sound-ran, sound-begun     at the start, and after each kind of step
-use Prim.Native.Nat.{ℕ, zero, suc, _+_, _-_, _*_, _<_, _≤_}
-use mathlib.Core.Path.{_≡_, refl, ap, sym, _∙_, subst}
-use mathlib.Core.Logic.{_⊎_, inl, inr}
-use mathlib.Core.Bool.{Bool, true, false, cond, not, _&&_, _||_}
-use mathlib.Core.List.{List, [], _∷_, _++_, map}
+use Prim.Native.Nat.{ℕ, _+_, _-_, _<_, _≤_}
+use mathlib.Core.Path.{_≡_, refl, ap, sym, _∙_}
+use mathlib.Core.Bool.{not}
+use mathlib.Core.List.{List, []}
 use native.Mathlib.Omega.{arith}
 use native.Mathlib.Decide.{ℕ-discrete}
-use lib.Dec.{T, T-not, ltb, ltb→lt}
+use lib.Dec.{T, T-not, ltb→lt}
 use lib.ListN.{length, getD, set, replicate, length-set, length-map, length-append, length-replicate, List·getD-map, List·getD-append}
 use lib.Seq.{getD-set-same, getD-set-other}
 use Rattle.base.specs.Index.{tabulate}
@@ -24,7 +23,7 @@ use Rattle.clock.specs.declared.Bound.{Bound}
 use Rattle.clock.specs.declared.Bound.the-variants.{Never, At}
 use Rattle.clock.specs.Cycle.{cycleAt, isSame}
 use Rattle.clock.specs.Wait.{waitEnds}
-use Rattle.clock.specs.Order.{Before, _⊑_, sooner, same-time, _≼_}
+use Rattle.clock.specs.Order.{Before, _⊑_}
 use Rattle.clock.proofs.OrderLaws.{Before→⊑, ⊑-refl, ⊑-strict}
 use Rattle.clock.proofs.CycleLaws.{isSame→≡, ≡→isSame}
 use Rattle.clock.proofs.WaitLaws.{waitEnds-later, waitEnds-delta}
@@ -32,22 +31,19 @@ use Rattle.model.specs.declared.Model.{Model}
 use Rattle.model.specs.declared.Closer.{Closer}
 use Rattle.model.specs.declared.Closer.the-variants.{End, Time, Event}
 use Rattle.model.specs.declared.State.{State}
-use Rattle.model.specs.declared.State.the-variants.{Ended, Overrun, Ready, Waiting}
+use Rattle.model.specs.declared.State.the-variants.{Overrun, Ready}
 use Rattle.model.specs.declared.Thread.{Thread}
 use Rattle.model.specs.Values.{segmentAt, startAt}
-use Rattle.model.specs.Statement.{execute}
-use Rattle.model.specs.Limits.{isBeforeHorizon, isBoundBeforeHorizon}
-use Rattle.model.specs.Record.{noThread, threadAt, readyCycle, Awaited, nothing, awaits, awaitedBy, stateAfter}
+use Rattle.model.specs.Limits.{isBeforeHorizon}
+use Rattle.model.specs.Record.{noThread, threadAt, readyCycle, awaitedBy, stateAfter}
 use Rattle.model.specs.Effect.{closedAt, effectIn, effectOf}
 use Rattle.model.specs.Rules.{modelFault}
 use Rattle.rules.proofs.RuleLaws.{modelFault-horizon, modelFault-counts, modelFault-next, modelFault-first, closedAt-segment}
 use Rattle.plain.specs.Start.{Place, started, freshThreads, startOf}
 use Rattle.plain.specs.Wake.{isWoken, wokenState, wokenThread, woken, floorOf}
 use Rattle.plain.specs.Step.{isAt, isDue, ranOn, passedOn}
-use Rattle.runner.proofs.FloorLaws.{floorOf-≼, floorOf-one}
-
-Ready-same : {c d : Cycle} → Ready c ≡ Ready d → c ≡ d
-Ready-same e = cc
+use Rattle.cycles.proofs.RecordLaws.{Ready-same}
+use Rattle.cycles.proofs.WakeLaws.{floorOf-least, floorOf-attained}
 
 -- a thread that is ready only after a cycle, at a delta in range
 abbrev pub Ahead : Cycle → State → Type 0
@@ -89,18 +85,6 @@ pub record Sound (m : Model) (p : Place) : Type 0 where
   pub abreast : (k : ℕ) → k < m .t → Abreast (p .now) (threadAt (p .threads) k .state)
   pub ahead : (k : ℕ) → k < p .turn → Ahead (p .now) (threadAt (p .threads) k .state)
 
-At-same : {c d : Cycle} → At c ≡ At d → c ≡ d
-At-same e = cc
-
-Never-not-At : {c : Cycle} → Never ≡ At c → ⊥
-Never-not-At e = let z : _≡_ {A = ℕ} 0 1 = cc in omega arith
-
-pub readyCycle-ready : (s : State) (c : Cycle) → readyCycle s ≡ At c → s ≡ Ready c
-readyCycle-ready (Ended d) c e = absurd (Never-not-At e)
-readyCycle-ready (Overrun d) c e = absurd (Never-not-At e)
-readyCycle-ready (Ready d) c e = ap Ready (At-same e)
-readyCycle-ready (Waiting w d) c e = absurd (Never-not-At e)
-
 -- a due thread is ready at the cycle that runs
 isAt→≡ : (c : Cycle) (b : Bound) → T (isAt c b) → b ≡ At c
 unfolding isAt
@@ -116,7 +100,7 @@ not-due : (p : Place) → T (not (isDue p)) → threadAt (p .threads) (p .turn) 
 unfolding isDue isAt
 not-due p t e = T-not (isSame (p .now) (p .now)) (rw e at t) (≡→isSame refl)
 
-threadAt-set : (ts : List Thread) (i k : ℕ) (x : Thread) → i < length ts →
+pub threadAt-set : (ts : List Thread) (i k : ℕ) (x : Thread) → i < length ts →
     (Q : Thread → Type 0) → (k ≡ i → Q x) → ((k ≡ i → ⊥) → Q (threadAt ts k)) → Q (threadAt (set ts i x) k)
 unfolding threadAt
 threadAt-set ts i k x h Q f g = go (ℕ-discrete k i)
@@ -125,7 +109,7 @@ threadAt-set ts i k x h Q f g = go (ℕ-discrete k i)
     go (yes e) = rw (e, getD-set-same ts i x noThread h) (f e)
     go (no e) = rw (getD-set-other ts i k x noThread e) (g e)
 
-threadAt-woken : (es : List ℕ) (c : Cycle) (ts : List Thread) (k : ℕ) → threadAt (woken es c ts) k ≡ wokenThread es c (threadAt ts k)
+pub threadAt-woken : (es : List ℕ) (c : Cycle) (ts : List Thread) (k : ℕ) → threadAt (woken es c ts) k ≡ wokenThread es c (threadAt ts k)
 unfolding threadAt woken wokenThread wokenState isWoken
 threadAt-woken es c ts k = List·getD-map (wokenThread es c) ts k noThread
 
@@ -137,7 +121,7 @@ module _ (m : Model) (fit : modelFault m ≡ 0) where
       length-append (tabulate (m .t) 0 (λ k. started (startAt m k))) (replicate (32 - m .t) noThread) ∙
       omega (arith, tabulate-length (m .t) 0 (λ k. started (startAt m k)), length-replicate (32 - m .t) noThread)
 
-  threadAt-fresh : (k : ℕ) → k < m .t → threadAt (freshThreads m) k ≡ started (startAt m k)
+  pub threadAt-fresh : (k : ℕ) → k < m .t → threadAt (freshThreads m) k ≡ started (startAt m k)
   unfolding threadAt freshThreads
   threadAt-fresh k h =
       let f : ℕ → Thread = λ j. started (startAt m j) in
@@ -220,23 +204,14 @@ module _ (m : Model) (fit : modelFault m ≡ 0) where
       unfolding wokenThread
       woken-segment k l = rw (threadAt-woken (p .notified) (p .now) (p .threads) k) (s .segment k l)
 
-      woken-length : length (woken (p .notified) (p .now) (p .threads)) ≡ 32
+      pub woken-length : length (woken (p .notified) (p .now) (p .threads)) ≡ 32
       unfolding woken
       woken-length = length-map (p .threads) _ ∙ s .size
 
       -- the next cycle is after this one, and no ready thread is before it
       module _ (c : Cycle) (f : floorOf m (woken (p .notified) (p .now) (p .threads)) ≡ At c) where
-        floor-thread : (k : ℕ) × (k < m .t) × (threadAt (woken (p .notified) (p .now) (p .threads)) k .state ≡ Ready c)
-        floor-thread = go (floorOf-one m (woken (p .notified) (p .now) (p .threads)))
-          where
-            go : (floorOf m (woken (p .notified) (p .now) (p .threads)) ≡ Never) ⊎
-                ((k : ℕ) × (k < m .t) × (floorOf m (woken (p .notified) (p .now) (p .threads)) ≡ readyCycle (threadAt (woken (p .notified) (p .now) (p .threads)) k .state))) →
-                (k : ℕ) × (k < m .t) × (threadAt (woken (p .notified) (p .now) (p .threads)) k .state ≡ Ready c)
-            go (inl e) = absurd (Never-not-At (sym e ∙ f))
-            go (inr (k, l, e)) = (k, l, readyCycle-ready (threadAt (woken (p .notified) (p .now) (p .threads)) k .state) c (sym e ∙ f))
-
         pub floor-ahead : Before (p .now) c × (c .delta .0 ≤ 1023)
-        floor-ahead = let (k, l, e) = floor-thread in woken-ahead k l c e
+        floor-ahead = let (k, l, e) = floorOf-attained m (woken (p .notified) (p .now) (p .threads)) c f in woken-ahead k l c e
 
         pub sound-begun : T (isBeforeHorizon m c) →
             Sound m (record { variables = p .variables; threads = woken (p .notified) (p .now) (p .threads); now = c; turn = 0; notified = []; n = p .n })
@@ -248,11 +223,6 @@ module _ (m : Model) (fit : modelFault m ≡ 0) where
               time = ltb→lt (c .time .0) (m .horizon .0) t;
               delta = floor-ahead .1;
               segment = woken-segment;
-              abreast = λ k l d e. (floor-below k l d e, woken-ahead k l d e .1);
+              abreast = λ k l d e. (floorOf-least m (woken (p .notified) (p .now) (p .threads)) c f k d l e, woken-ahead k l d e .1);
               ahead = λ k l. absurd (omega arith);
             }
-          where
-            floor-below : (k : ℕ) → k < m .t → (d : Cycle) → threadAt (woken (p .notified) (p .now) (p .threads)) k .state ≡ Ready d → c ⊑ d
-            floor-below k l d e =
-                subst (λ (b : Bound). b ≼ At d) f
-                (subst (λ (x : State). floorOf m (woken (p .notified) (p .now) (p .threads)) ≼ readyCycle x) e (floorOf-≼ m (woken (p .notified) (p .now) (p .threads)) k l))

@@ -1,266 +1,321 @@
 -- `runner::cycles` meets its contract. The invariant: the locals are a place of the run, from which the whole run is still to come.
-use Prim.Native.Nat.{ℕ, _-_}
-use mathlib.Core.Path.{_≡_, ap, sym, _∙_}
+use Prim.Native.Nat.{ℕ, _-_, _<_}
+use mathlib.Core.Path.{_≡_, refl, ap, sym, _∙_}
 use native.Mathlib.Omega.{arith}
 use lib.ListN.{getD}
-use borrow.Author.Tests.{not-true, not-false}
-use Rattle.model.specs.Record.{noThread}
+use Rattle.rules.proofs.RuleLaws.{modelFault-horizon, modelFault-counts, modelFault-statements}
 use Rattle.plain.specs.Run.{lastStep}
-use Rattle.rules.proofs.RuleLaws.{modelFault-counts}
-use Rattle.machine.proofs.LengthLaws.{segments-length}
-use Rattle.runner.specs.Marked.{floorTo}
-use Rattle.runner.proofs.LoopLaws.{Loop, countAt, loop-start, loop-small, loop-segment, loop-room, loop-passed, loop-ran, loop-out, loop-later, loop-begun, loop-rest-never, loop-rest-late, segment-read, ran-as, ran-few, never-else, falls-later}
+use Rattle.runner.specs.Words.{threadsTo, wakeWord, leastWord}
+use Rattle.runner.specs.Packed.{followBy}
+use Rattle.runner.proofs.CodeLaws.{Code, code-size, code-small}
+use Rattle.runner.proofs.LoopLaws.{Loop, countAt, loop-start, loop-small, loop-segment, loop-room, loop-passed, loop-ran, loop-out, loop-later, loop-begun, loop-rest, result-as, falls-later}
 use borrow.Author.Needs.{needs}
 use Rattle.runner.proofs.cycles.Statement.{statement}
 use Rattle.runner.proofs.cycles.Tie as tie
 
 abbrev Inv-loop : tie.InvT-loop
-Inv-loop budget m horizon count t variables₀ threads₀ now₀ marks₀ turn₀ n₀ variables threads now marks turn n = Loop m budget (variables .at) (threads .at) now (marks .at) turn n
+Inv-loop m budget count t words ends nexts segments₀ v₀ state₀ told₀ key₀ turn₀ n₀ segments v state told key turn n = Loop m budget v state segments told key turn n
 
 abbrev μ-loop : tie.MeasureT-loop
-μ-loop budget m horizon count t variables₀ threads₀ now₀ marks₀ turn₀ n₀ variables threads now marks turn n = lastStep m - countAt (m .t) now turn
+μ-loop m budget count t words ends nexts segments₀ v₀ state₀ told₀ key₀ turn₀ n₀ segments v state told key turn n = lastStep m - countAt (m .t) key turn
 
 wide-requires : tie.Need-wide-requires Inv-loop μ-loop
 wide-requires c κs = search needs
 
-no-variables-requires : tie.Need-no-variables-requires Inv-loop μ-loop
-no-variables-requires c κs = search needs
+pack-words-requires : tie.Need-pack-words-requires Inv-loop μ-loop
+pack-words-requires c κs = refl
 
-fresh-threads-requires : tie.Need-fresh-threads-requires Inv-loop μ-loop
-fresh-threads-requires c κs = modelFault-counts (c .before .before .before .args .t1) (c .before .before .before .pre) .threads
+pack-ends-requires : tie.Need-pack-ends-requires Inv-loop μ-loop
+pack-ends-requires c κs = refl
 
-first-cycle-requires : tie.Need-first-cycle-requires Inv-loop μ-loop
-first-cycle-requires c κs = search needs
+pack-nexts-requires : tie.Need-pack-nexts-requires Inv-loop μ-loop
+pack-nexts-requires c κs = refl
 
-no-marks-requires : tie.Need-no-marks-requires Inv-loop μ-loop
-no-marks-requires c κs = search needs
+first-segments-requires : tie.Need-first-segments-requires Inv-loop μ-loop
+first-segments-requires c κs = (modelFault-counts (c .before .before .before .before .before .before .before .before .args .m) (c .before .before .before .before .before .before .before .before .pre) .threads, refl)
 
 loop-holds : tie.Need-loop-holds Inv-loop μ-loop
-loop-holds c = rw (c .before .before .before .no-variables .ensures, c .before .before .fresh-threads .ensures, c .before .first-cycle .ensures, c .no-marks .ensures) (loop-start (c .before .before .before .before .before .before .args .t1) (c .before .before .before .before .before .before .pre) (c .before .before .before .before .before .before .args .budget))
+loop-holds c = loop-start (c .before .before .before .before .before .before .before .before .before .args .m) (c .before .before .before .before .before .before .before .before .before .pre) (c .before .before .before .before .before .before .before .before .before .args .budget) _ (c .first-segments .ensures .0) (c .first-segments .ensures .1)
 
-mul-x : tie.Need-mul-x Inv-loop μ-loop
-mul-x c = let start = c .before .before .before .before .before .before .before .before in
-    let m = start .args .t1 in
+mul-w : tie.Need-mul-w Inv-loop μ-loop
+mul-w c = let start = c .before .before .before .before .before .before .before .before .before .before .before in
+    let m = start .args .m in
     let fit = start .pre in
     let counts = modelFault-counts m fit in
     let here = c .before .loop in
-    let wide = c .before .before .before .before .before .before .wide .ensures in
+    let wide = c .before .before .before .before .before .before .before .before .before .before .wide .ensures in
     omega (arith, counts .threads, wide)
 
-element-copy-out-x : tie.Need-element-copy-out-x Inv-loop μ-loop
-element-copy-out-x c = let start = c .before .before .before .before .before .before .before .before in
-    let m = start .args .t1 in
+array-read-w : tie.Need-array-read-w Inv-loop μ-loop
+array-read-w c = let start = c .before .before .before .before .before .before .before .before .before .before .before in
+    let m = start .args .m in
     let fit = start .pre in
     let counts = modelFault-counts m fit in
     let here = c .before .loop in
-    let wide = c .before .before .before .before .before .before .wide .ensures in
+    let wide = c .before .before .before .before .before .before .before .before .before .before .wide .ensures in
     omega (arith, counts .threads, wide)
-
-is-at-requires : tie.Need-is-at-requires Inv-loop μ-loop
-is-at-requires c κs = search needs
 
 add-turn : tie.Need-add-turn Inv-loop μ-loop
-add-turn c = let start = c .before .before .before .before .before .before .before .before .before .before .before in
-    let m = start .args .t1 in
+add-turn c = let start = c .before .before .before .before .before .before .before .before .before .before .before .before in
+    let m = start .args .m in
     let fit = start .pre in
     let counts = modelFault-counts m fit in
-    let here = c .before .before .before .before .loop in
-    let wide = c .before .before .before .before .before .before .before .before .before .wide .ensures in
+    let here = c .before .before .loop in
+    let wide = c .before .before .before .before .before .before .before .before .before .before .before .wide .ensures in
     omega (arith, counts .threads, wide)
 
 loop-less : tie.Need-loop-less Inv-loop μ-loop
-loop-less c = let start = c .before .before .before .before .before .before .before .before .before .before .before in
-    let m = start .args .t1 in
+loop-less c = let start = c .before .before .before .before .before .before .before .before .before .before .before .before in
+    let m = start .args .m in
     let fit = start .pre in
     let counts = modelFault-counts m fit in
-    let here = c .before .before .before .before .loop in
-    let wide = c .before .before .before .before .before .before .before .before .before .wide .ensures in
-    falls-later _ _ _ (omega arith) (loop-room m fit (start .args .budget) _ _ _ _ _ _ (here .inv))
+    let here = c .before .before .loop in
+    let wide = c .before .before .before .before .before .before .before .before .before .before .before .wide .ensures in
+    falls-later _ _ _ (omega arith) (loop-room m fit (start .args .budget) _ _ _ _ _ _ _ (here .inv))
 
 loop-again : tie.Need-loop-again Inv-loop μ-loop
-loop-again c = let start = c .before .before .before .before .before .before .before .before .before .before .before in
-    let m = start .args .t1 in
+loop-again c = let start = c .before .before .before .before .before .before .before .before .before .before .before .before in
+    let m = start .args .m in
     let fit = start .pre in
     let counts = modelFault-counts m fit in
-    let here = c .before .before .before .before .loop in
-    let wide = c .before .before .before .before .before .before .before .before .before .wide .ensures in
-    loop-passed m fit (start .args .budget) _ _ _ _ _ _ (here .inv) (omega (arith, wide, c .before .before .before .if1 .taken)) (sym (c .before .is-at .ensures) ∙ not-true _ (c .if2 .taken))
+    let here = c .before .before .loop in
+    let wide = c .before .before .before .before .before .before .before .before .before .before .before .wide .ensures in
+    loop-passed m fit (start .args .budget) _ _ _ _ _ _ _ (here .inv) (omega (arith, wide, c .before .if1 .taken)) (c .if2 .taken)
+
+threads-of-requires : tie.Need-threads-of-requires Inv-loop μ-loop
+threads-of-requires c κs = let start = c .before .before .before .before .before .before .before .before .before .before .before .before .before .before .before in
+    let m = start .args .m in
+    let fit = start .pre in
+    let counts = modelFault-counts m fit in
+    let here = c .before .before .before .before .before .loop in
+    let wide = c .before .before .before .before .before .before .before .before .before .before .before .before .before .before .wide .ensures in
+    omega (arith, counts .threads, wide)
 
 result-requires : tie.Need-result-requires Inv-loop μ-loop
 result-requires c κs = search needs
 
 returns : tie.Need-returns Inv-loop μ-loop
-returns c = let start = c .before .before .before .before .before .before .before .before .before .before .before .before .before in
-    let m = start .args .t1 in
+returns c = let start = c .before .before .before .before .before .before .before .before .before .before .before .before .before .before .before .before .before in
+    let m = start .args .m in
     let fit = start .pre in
     let counts = modelFault-counts m fit in
-    let here = c .before .before .before .before .before .before .loop in
-    let wide = c .before .before .before .before .before .before .before .before .before .before .before .wide .ensures in
-    c .result .ensures ∙ loop-out m fit (start .args .budget) _ _ _ _ _ _ (here .inv) (omega (arith, wide, c .before .before .before .before .before .if1 .taken)) (sym (c .before .before .before .is-at .ensures) ∙ not-false _ (c .before .before .if2 .left)) (c .before .if3 .taken)
+    let here = c .before .before .before .before .before .before .before .loop in
+    let wide = c .before .before .before .before .before .before .before .before .before .before .before .before .before .before .before .before .wide .ensures in
+    c .result .ensures ∙ (result-as _ _ _ _ _ (c .before .threads-of .ensures ∙ ap (threadsTo (here .state) (here .segments)) wide) ∙
+    loop-out m fit (start .args .budget) _ _ _ _ _ _ _ (here .inv) (omega (arith, wide, c .before .before .before .before .before .before .if1 .taken)) (c .before .before .before .before .before .if2 .left) (c .before .before .before .before .if3 .taken))
+
+array-read-segment : tie.Need-array-read-segment Inv-loop μ-loop
+array-read-segment c = let start = c .before .before .before .before .before .before .before .before .before .before .before .before .before in
+    let m = start .args .m in
+    let fit = start .pre in
+    let counts = modelFault-counts m fit in
+    let here = c .before .before .before .loop in
+    let wide = c .before .before .before .before .before .before .before .before .before .before .before .before .wide .ensures in
+    omega (arith, counts .threads, wide)
 
 wide-requires-2 : tie.Need-wide-requires-2 Inv-loop μ-loop
 wide-requires-2 c κs = search needs
 
-mul-g : tie.Need-mul-g Inv-loop μ-loop
-mul-g c = let start = c .before .before .before .before .before .before .before .before .before .before .before .before .before in
-    let m = start .args .t1 in
+mul-end : tie.Need-mul-end Inv-loop μ-loop
+mul-end c = let start = c .before .before .before .before .before .before .before .before .before .before .before .before .before .before in
+    let m = start .args .m in
     let fit = start .pre in
     let counts = modelFault-counts m fit in
-    let here = c .before .before .before .before .before .before .loop in
-    let wide = c .before .before .before .before .before .before .before .before .before .before .before .wide .ensures in
-    omega (arith, counts .segments, c .wide2 .ensures, loop-segment m fit (start .args .budget) _ _ _ _ _ _ (here .inv) (omega (arith, wide, c .before .before .before .before .before .if1 .taken)))
+    let here = c .before .before .before .before .loop in
+    let wide = c .before .before .before .before .before .before .before .before .before .before .before .before .before .wide .ensures in
+    omega (arith, counts .segments, c .wide2 .ensures, loop-segment m fit (start .args .budget) _ _ _ _ _ _ _ (here .inv) (omega (arith, wide, c .before .before .before .if1 .taken)))
 
-element-copy-out-g : tie.Need-element-copy-out-g Inv-loop μ-loop
-element-copy-out-g c = let start = c .before .before .before .before .before .before .before .before .before .before .before .before .before in
-    let m = start .args .t1 in
+array-read-end : tie.Need-array-read-end Inv-loop μ-loop
+array-read-end c = let start = c .before .before .before .before .before .before .before .before .before .before .before .before .before .before in
+    let m = start .args .m in
     let fit = start .pre in
     let counts = modelFault-counts m fit in
-    let here = c .before .before .before .before .before .before .loop in
-    let wide = c .before .before .before .before .before .before .before .before .before .before .before .wide .ensures in
-    omega (arith, counts .segments, c .wide2 .ensures, loop-segment m fit (start .args .budget) _ _ _ _ _ _ (here .inv) (omega (arith, wide, c .before .before .before .before .before .if1 .taken)))
+    let here = c .before .before .before .before .loop in
+    let wide = c .before .before .before .before .before .before .before .before .before .before .before .before .before .wide .ensures in
+    omega (arith, counts .segments, c .wide2 .ensures, loop-segment m fit (start .args .budget) _ _ _ _ _ _ _ (here .inv) (omega (arith, wide, c .before .before .before .if1 .taken)))
 
-effect-in-requires : tie.Need-effect-in-requires Inv-loop μ-loop
-effect-in-requires c κs = search needs
-
-mul-thread : tie.Need-mul-thread Inv-loop μ-loop
-mul-thread c = let start = c .before .before .before .before .before .before .before .before .before .before .before .before .before .before .before .before .before .before in
-    let m = start .args .t1 in
+mul-next : tie.Need-mul-next Inv-loop μ-loop
+mul-next c = let start = c .before .before .before .before .before .before .before .before .before .before .before .before .before .before in
+    let m = start .args .m in
     let fit = start .pre in
     let counts = modelFault-counts m fit in
-    let here = c .before .before .before .before .before .before .before .before .before .before .before .loop in
+    let here = c .before .before .before .before .loop in
+    let wide = c .before .before .before .before .before .before .before .before .before .before .before .before .before .wide .ensures in
+    omega (arith, counts .segments, c .wide2 .ensures, loop-segment m fit (start .args .budget) _ _ _ _ _ _ _ (here .inv) (omega (arith, wide, c .before .before .before .if1 .taken)))
+
+array-read-next : tie.Need-array-read-next Inv-loop μ-loop
+array-read-next c = let start = c .before .before .before .before .before .before .before .before .before .before .before .before .before .before in
+    let m = start .args .m in
+    let fit = start .pre in
+    let counts = modelFault-counts m fit in
+    let here = c .before .before .before .before .loop in
+    let wide = c .before .before .before .before .before .before .before .before .before .before .before .before .before .wide .ensures in
+    omega (arith, counts .segments, c .wide2 .ensures, loop-segment m fit (start .args .budget) _ _ _ _ _ _ _ (here .inv) (omega (arith, wide, c .before .before .before .if1 .taken)))
+
+execute-all-requires : tie.Need-execute-all-requires Inv-loop μ-loop
+execute-all-requires c κs = let start = c .before .before .before .before .before .before .before .before .before .before .before .before .before .before .before .before .before in
+    let m = start .args .m in
+    let fit = start .pre in
+    let counts = modelFault-counts m fit in
+    let here = c .before .before .before .before .before .before .before .loop in
     let wide = c .before .before .before .before .before .before .before .before .before .before .before .before .before .before .before .before .wide .ensures in
+    let code : Code m (c .before .before .before .before .before .before .before .before .before .before .before .before .before .before .pack-words .last .1 .0) (c .before .before .before .before .before .before .before .before .before .before .before .before .pack-ends .last .1 .0) (c .before .before .before .before .before .before .before .before .before .before .pack-nexts .last .1 .0) = record { size = c .before .before .before .before .before .before .before .before .before .before .before .before .before .before .pack-words .ensures .0; held = c .before .before .before .before .before .before .before .before .before .before .before .before .before .before .pack-words .ensures .1; end = c .before .before .before .before .before .before .before .before .before .before .before .before .pack-ends .ensures; next = c .before .before .before .before .before .before .before .before .before .before .pack-nexts .ensures } in
+    let s = c .before .before .before .wide2 .result in
+    let l : s < m .n = rw (c .before .before .before .wide2 .ensures) (loop-segment m fit (start .args .budget) _ _ _ _ _ _ _ (here .inv) (omega (arith, wide, c .before .before .before .before .before .before .if1 .taken))) in
+    (omega (arith, l, counts .segments), omega (arith, code-size m fit (c .before .before .before .before .before .before .before .before .before .before .before .before .before .before .pack-words .last .1 .0) (c .before .before .before .before .before .before .before .before .before .before .before .before .pack-ends .last .1 .0) (c .before .before .before .before .before .before .before .before .before .before .pack-nexts .last .1 .0) code s l, modelFault-statements m fit s l))
+
+close-word-requires : tie.Need-close-word-requires Inv-loop μ-loop
+close-word-requires c κs = let start = c .before .before .before .before .before .before .before .before .before .before .before .before .before .before .before .before .before .before in
+    let m = start .args .m in
+    let fit = start .pre in
+    let counts = modelFault-counts m fit in
+    let here = c .before .before .before .before .before .before .before .before .loop in
+    let wide = c .before .before .before .before .before .before .before .before .before .before .before .before .before .before .before .before .before .wide .ensures in
+    let code : Code m (c .before .before .before .before .before .before .before .before .before .before .before .before .before .before .before .pack-words .last .1 .0) (c .before .before .before .before .before .before .before .before .before .before .before .before .before .pack-ends .last .1 .0) (c .before .before .before .before .before .before .before .before .before .before .before .pack-nexts .last .1 .0) = record { size = c .before .before .before .before .before .before .before .before .before .before .before .before .before .before .before .pack-words .ensures .0; held = c .before .before .before .before .before .before .before .before .before .before .before .before .before .before .before .pack-words .ensures .1; end = c .before .before .before .before .before .before .before .before .before .before .before .before .before .pack-ends .ensures; next = c .before .before .before .before .before .before .before .before .before .before .before .pack-nexts .ensures } in
+    let s = c .before .before .before .before .wide2 .result in
+    let l : s < m .n = rw (c .before .before .before .before .wide2 .ensures) (loop-segment m fit (start .args .budget) _ _ _ _ _ _ _ (here .inv) (omega (arith, wide, c .before .before .before .before .before .before .before .if1 .taken))) in
+    (loop-small m fit (start .args .budget) _ _ _ _ _ _ _ (here .inv), code-small m fit (c .before .before .before .before .before .before .before .before .before .before .before .before .before .before .before .pack-words .last .1 .0) (c .before .before .before .before .before .before .before .before .before .before .before .before .before .pack-ends .last .1 .0) (c .before .before .before .before .before .before .before .before .before .before .before .pack-nexts .last .1 .0) code s l)
+
+mul-state : tie.Need-mul-state Inv-loop μ-loop
+mul-state c = let start = c .before .before .before .before .before .before .before .before .before .before .before .before .before .before .before .before .before .before .before in
+    let m = start .args .m in
+    let fit = start .pre in
+    let counts = modelFault-counts m fit in
+    let here = c .before .before .before .before .before .before .before .before .before .loop in
+    let wide = c .before .before .before .before .before .before .before .before .before .before .before .before .before .before .before .before .before .before .wide .ensures in
     omega (arith, counts .threads, wide)
 
-element-set-from-thread : tie.Need-element-set-from-thread Inv-loop μ-loop
-element-set-from-thread c = let start = c .before .before .before .before .before .before .before .before .before .before .before .before .before .before .before .before .before .before in
-    let m = start .args .t1 in
+array-write-state : tie.Need-array-write-state Inv-loop μ-loop
+array-write-state c = let start = c .before .before .before .before .before .before .before .before .before .before .before .before .before .before .before .before .before .before .before in
+    let m = start .args .m in
     let fit = start .pre in
     let counts = modelFault-counts m fit in
-    let here = c .before .before .before .before .before .before .before .before .before .before .before .loop in
-    let wide = c .before .before .before .before .before .before .before .before .before .before .before .before .before .before .before .before .wide .ensures in
+    let here = c .before .before .before .before .before .before .before .before .before .loop in
+    let wide = c .before .before .before .before .before .before .before .before .before .before .before .before .before .before .before .before .before .before .wide .ensures in
     omega (arith, counts .threads, wide)
 
-marked-with-requires : tie.Need-marked-with-requires Inv-loop μ-loop
-marked-with-requires c κs = let start = c .before .before .before .before .before .before .before .before .before .before .before .before .before .before .before .before .before .before in
-    let m = start .args .t1 in
+follow-requires : tie.Need-follow-requires Inv-loop μ-loop
+follow-requires c κs = search needs
+
+array-write-segments : tie.Need-array-write-segments Inv-loop μ-loop
+array-write-segments c = let start = c .before .before .before .before .before .before .before .before .before .before .before .before .before .before .before .before .before .before .before .before .before in
+    let m = start .args .m in
     let fit = start .pre in
     let counts = modelFault-counts m fit in
     let here = c .before .before .before .before .before .before .before .before .before .before .before .loop in
-    let wide = c .before .before .before .before .before .before .before .before .before .before .before .before .before .before .before .before .wide .ensures in
-    let l = loop-segment m fit (start .args .budget) _ _ _ _ _ _ (here .inv) (omega (arith, wide, c .before .before .before .before .before .before .before .before .before .before .if1 .taken)) in
-    let size = segments-length m _ (start .good .0) in
-    ran-few m fit (getD (here .threads .at) (here .turn) noThread .segment) l (here .now) (here .variables .at) (loop-small m fit (start .args .budget) _ _ _ _ _ _ (here .inv)) _
-    (ran-as m _ (getD (here .threads .at) (here .turn) noThread .segment) (here .now) (here .variables .at) _ (segment-read m _ (getD (here .threads .at) (here .turn) noThread .segment) (c .before .before .before .before .before .wide2 .ensures) (omega (arith, size, l, counts .segments))) (c .before .before .before .effect-in .ensures))
+    let wide = c .before .before .before .before .before .before .before .before .before .before .before .before .before .before .before .before .before .before .before .before .wide .ensures in
+    omega (arith, counts .threads, wide)
 
 add-n : tie.Need-add-n Inv-loop μ-loop
-add-n c = omega (arith, c .before .before .before .before .before .before .before .before .before .before .before .before .before .before .before .before .before .before .before .fits .budget, c .before .before .before .before .before .before .before .if3 .left)
+add-n c = omega (arith, c .before .before .before .before .before .before .before .before .before .before .before .before .before .before .before .before .before .before .before .before .before .fits .budget, c .before .before .before .before .before .before .before .before .if3 .left)
 
 add-turn-2 : tie.Need-add-turn-2 Inv-loop μ-loop
-add-turn-2 c = let start = c .before .before .before .before .before .before .before .before .before .before .before .before .before .before .before .before .before .before .before in
-    let m = start .args .t1 in
+add-turn-2 c = let start = c .before .before .before .before .before .before .before .before .before .before .before .before .before .before .before .before .before .before .before .before .before in
+    let m = start .args .m in
     let fit = start .pre in
     let counts = modelFault-counts m fit in
-    let here = c .before .before .before .before .before .before .before .before .before .before .before .before .loop in
-    let wide = c .before .before .before .before .before .before .before .before .before .before .before .before .before .before .before .before .before .wide .ensures in
+    let here = c .before .before .before .before .before .before .before .before .before .before .before .loop in
+    let wide = c .before .before .before .before .before .before .before .before .before .before .before .before .before .before .before .before .before .before .before .before .wide .ensures in
     omega (arith, counts .threads, wide)
 
 loop-less-2 : tie.Need-loop-less-2 Inv-loop μ-loop
-loop-less-2 c = let start = c .before .before .before .before .before .before .before .before .before .before .before .before .before .before .before .before .before .before .before in
-    let m = start .args .t1 in
+loop-less-2 c = let start = c .before .before .before .before .before .before .before .before .before .before .before .before .before .before .before .before .before .before .before .before .before in
+    let m = start .args .m in
     let fit = start .pre in
     let counts = modelFault-counts m fit in
-    let here = c .before .before .before .before .before .before .before .before .before .before .before .before .loop in
-    let wide = c .before .before .before .before .before .before .before .before .before .before .before .before .before .before .before .before .before .wide .ensures in
-    falls-later _ _ _ (omega arith) (loop-room m fit (start .args .budget) _ _ _ _ _ _ (here .inv))
+    let here = c .before .before .before .before .before .before .before .before .before .before .before .loop in
+    let wide = c .before .before .before .before .before .before .before .before .before .before .before .before .before .before .before .before .before .before .before .before .wide .ensures in
+    falls-later _ _ _ (omega arith) (loop-room m fit (start .args .budget) _ _ _ _ _ _ _ (here .inv))
 
 loop-again-2 : tie.Need-loop-again-2 Inv-loop μ-loop
-loop-again-2 c = let start = c .before .before .before .before .before .before .before .before .before .before .before .before .before .before .before .before .before .before .before in
-    let m = start .args .t1 in
+loop-again-2 c = let start = c .before .before .before .before .before .before .before .before .before .before .before .before .before .before .before .before .before .before .before .before .before in
+    let m = start .args .m in
     let fit = start .pre in
     let counts = modelFault-counts m fit in
-    let here = c .before .before .before .before .before .before .before .before .before .before .before .before .loop in
-    let wide = c .before .before .before .before .before .before .before .before .before .before .before .before .before .before .before .before .before .wide .ensures in
-    let l = loop-segment m fit (start .args .budget) _ _ _ _ _ _ (here .inv) (omega (arith, wide, c .before .before .before .before .before .before .before .before .before .before .before .if1 .taken)) in
-    let size = segments-length m _ (start .good .0) in
-    loop-ran m fit (start .args .budget) _ _ _ _ _ _ (here .inv) (omega (arith, wide, c .before .before .before .before .before .before .before .before .before .before .before .if1 .taken)) (sym (c .before .before .before .before .before .before .before .before .before .is-at .ensures) ∙ not-false _ (c .before .before .before .before .before .before .before .before .if2 .left)) (c .before .before .before .before .before .before .before .if3 .left) _ _
-    (ran-as m _ (getD (here .threads .at) (here .turn) noThread .segment) (here .now) (here .variables .at) _ (segment-read m _ (getD (here .threads .at) (here .turn) noThread .segment) (c .before .before .before .before .before .before .wide2 .ensures) (omega (arith, size, l, counts .segments))) (c .before .before .before .before .effect-in .ensures))
-    (c .marked-with .ensures)
+    let here = c .before .before .before .before .before .before .before .before .before .before .before .loop in
+    let wide = c .before .before .before .before .before .before .before .before .before .before .before .before .before .before .before .before .before .before .before .before .wide .ensures in
+    let code : Code m (c .before .before .before .before .before .before .before .before .before .before .before .before .before .before .before .before .before .before .pack-words .last .1 .0) (c .before .before .before .before .before .before .before .before .before .before .before .before .before .before .before .before .pack-ends .last .1 .0) (c .before .before .before .before .before .before .before .before .before .before .before .before .before .before .pack-nexts .last .1 .0) = record { size = c .before .before .before .before .before .before .before .before .before .before .before .before .before .before .before .before .before .before .pack-words .ensures .0; held = c .before .before .before .before .before .before .before .before .before .before .before .before .before .before .before .before .before .before .pack-words .ensures .1; end = c .before .before .before .before .before .before .before .before .before .before .before .before .before .before .before .before .pack-ends .ensures; next = c .before .before .before .before .before .before .before .before .before .before .before .before .before .before .pack-nexts .ensures } in
+    let s = c .before .before .before .before .before .before .before .wide2 .result in
+    let x = c .before .before .before .execute-all .last .1 .1 .1 .0 in
+    let follow = c .follow .ensures ∙ ap (λ (k : ℕ). followBy (getD (c .before .before .before .before .before .before .before .before .before .before .before .before .before .before .before .before .pack-ends .last .1 .0) s 0) (getD (c .before .before .before .before .before .before .before .before .before .before .before .before .before .before .pack-nexts .last .1 .0) s 0) k x) (sym (c .before .before .before .before .before .before .before .wide2 .ensures)) in
+    rw (c .before .before .close-word .ensures, follow)
+    (loop-ran m fit (start .args .budget) _ _ _ _ _ _ _ (here .inv) (omega (arith, wide, c .before .before .before .before .before .before .before .before .before .before .if1 .taken)) (c .before .before .before .before .before .before .before .before .before .if2 .left) (c .before .before .before .before .before .before .before .before .if3 .left) (c .before .before .before .before .before .before .before .before .before .before .before .before .before .before .before .before .before .before .pack-words .last .1 .0) (c .before .before .before .before .before .before .before .before .before .before .before .before .before .before .before .before .pack-ends .last .1 .0) (c .before .before .before .before .before .before .before .before .before .before .before .before .before .before .pack-nexts .last .1 .0) code s (c .before .before .before .before .before .before .before .wide2 .ensures) x _ (c .before .before .before .execute-all .ensures .0) (c .before .before .before .execute-all .ensures .1))
 
-woken-all-requires : tie.Need-woken-all-requires Inv-loop μ-loop
-woken-all-requires c κs = let start = c .before .before .before .before .before .before .before .before in
-    let m = start .args .t1 in
+wake-requires : tie.Need-wake-requires Inv-loop μ-loop
+wake-requires c κs = let start = c .before .before .before .before .before .before .before .before .before .before .before .before .before in
+    let m = start .args .m in
     let fit = start .pre in
     let counts = modelFault-counts m fit in
-    let here = c .before .loop in
-    let wide = c .before .before .before .before .before .before .wide .ensures in
-    loop-small m fit (start .args .budget) _ _ _ _ _ _ (here .inv)
+    let here = c .before .before .before .loop in
+    let wide = c .before .before .before .before .before .before .before .before .before .before .before .before .wide .ensures in
+    (omega (arith, counts .threads, wide), (loop-small m fit (start .args .budget) _ _ _ _ _ _ _ (here .inv), (here .inv .marks-size, here .inv .words-size)))
 
 floor-of-requires : tie.Need-floor-of-requires Inv-loop μ-loop
-floor-of-requires c κs = let start = c .before .before .before .before .before .before .before .before .before in
-    let m = start .args .t1 in
+floor-of-requires c κs = let start = c .before .before .before .before .before .before .before .before .before .before .before .before .before .before .before in
+    let m = start .args .m in
     let fit = start .pre in
     let counts = modelFault-counts m fit in
-    let here = c .before .before .loop in
-    let wide = c .before .before .before .before .before .before .before .wide .ensures in
+    let here = c .before .before .before .before .before .loop in
+    let wide = c .before .before .before .before .before .before .before .before .before .before .before .before .before .before .wide .ensures in
     omega (arith, counts .threads, wide)
 
-enum-known-c : tie.Need-enum-known-c Inv-loop μ-loop
-enum-known-c c = search needs
+mul-if4 : tie.Need-mul-if4 Inv-loop μ-loop
+mul-if4 c = let start = c .before .before .before .before .before .before .before .before .before .before .before .before .before .before .before .before .before .before in
+    let m = start .args .m in
+    let fit = start .pre in
+    let counts = modelFault-counts m fit in
+    let here = c .before .before .before .before .before .before .before .before .loop in
+    let wide = c .before .before .before .before .before .before .before .before .before .before .before .before .before .before .before .before .before .wide .ensures in
+    omega (arith, modelFault-horizon m fit .1)
 
-enum-told : tie.Need-enum-told Inv-loop μ-loop
-enum-told c = search needs
+threads-of-requires-2 : tie.Need-threads-of-requires-2 Inv-loop μ-loop
+threads-of-requires-2 c κs = let start = c .before .before .before .before .before .before .before .before .before .before .before .before .before .before .before .before .before .before .before .before .before in
+    let m = start .args .m in
+    let fit = start .pre in
+    let counts = modelFault-counts m fit in
+    let here = c .before .before .before .before .before .before .before .before .before .before .before .loop in
+    let wide = c .before .before .before .before .before .before .before .before .before .before .before .before .before .before .before .before .before .before .before .before .wide .ensures in
+    omega (arith, counts .threads, wide)
 
 result-requires-2 : tie.Need-result-requires-2 Inv-loop μ-loop
 result-requires-2 c κs = search needs
 
 returns-2 : tie.Need-returns-2 Inv-loop μ-loop
-returns-2 c = let start = c .before .before .before .before .before .before .before .before .before .before .before .before .before in
-    let m = start .args .t1 in
+returns-2 c = let start = c .before .before .before .before .before .before .before .before .before .before .before .before .before .before .before .before .before .before .before .before .before .before .before in
+    let m = start .args .m in
     let fit = start .pre in
     let counts = modelFault-counts m fit in
-    let here = c .before .before .before .before .before .before .loop in
-    let wide = c .before .before .before .before .before .before .before .before .before .before .before .wide .ensures in
-    c .result2 .ensures ∙
-    loop-rest-never m fit (start .args .budget) _ _ _ _ _ _ (here .inv) (omega (arith, wide, c .before .before .before .before .before .if1 .left)) _ (c .before .before .before .before .woken-all .ensures)
-    (never-else _ (c .before .before .match .keys2) ∙ (c .before .before .before .floor-of .ensures ∙ ap (λ (t : ℕ). floorTo t (c .before .before .before .before .woken-all .result .at)) wide))
-
-result-requires-3 : tie.Need-result-requires-3 Inv-loop μ-loop
-result-requires-3 c κs = search needs
-
-returns-3 : tie.Need-returns-3 Inv-loop μ-loop
-returns-3 c = let start = c .before .before .before .before .before .before .before .before .before .before .before .before .before .before .before .before .before in
-    let m = start .args .t1 in
-    let fit = start .pre in
-    let counts = modelFault-counts m fit in
-    let here = c .before .before .before .before .before .before .before .before .before .before .loop in
-    let wide = c .before .before .before .before .before .before .before .before .before .before .before .before .before .before .before .wide .ensures in
-    c .result3 .ensures ∙
-    loop-rest-late m fit (start .args .budget) _ _ _ _ _ _ (here .inv) (omega (arith, wide, c .before .before .before .before .before .before .before .before .before .if1 .left)) _ (c .before .before .before .before .before .before .before .before .woken-all .ensures) _
-    (sym (c .before .before .before .before .before .before .before .floor-of .ensures ∙ ap (λ (t : ℕ). floorTo t (c .before .before .before .before .before .before .before .before .woken-all .result .at)) wide) ∙ c .before .before .before .before .before .c .given .1) (c .before .if4 .taken)
-
-no-marks-requires-2 : tie.Need-no-marks-requires-2 Inv-loop μ-loop
-no-marks-requires-2 c κs = search needs
+    let here = c .before .before .before .before .before .before .before .before .before .before .before .before .before .loop in
+    let wide = c .before .before .before .before .before .before .before .before .before .before .before .before .before .before .before .before .before .before .before .before .before .before .wide .ensures in
+    let us = c .before .before .before .before .before .before .before .before .before .wake .last .0 in
+    let woken : (k : ℕ) → k < m .t → getD us k 0 ≡ wakeWord (here .told) (here .key) (getD (here .state) k 0) = λ k l. c .before .before .before .before .before .before .before .before .before .wake .ensures .1 k (omega (arith, wide)) in
+    let least : c .before .before .before .before .before .before .before .floor-of .result ≡ leastWord (m .t) us = c .before .before .before .before .before .before .before .floor-of .ensures ∙ ap (λ (t : ℕ). leastWord t us) wide in
+    c .result2 .ensures ∙ (result-as _ _ _ _ _ (c .before .threads-of2 .ensures ∙ ap (threadsTo us (here .segments)) wide) ∙
+    loop-rest m fit (start .args .budget) _ _ _ _ _ _ _ (here .inv) (omega (arith, wide, c .before .before .before .before .before .before .before .before .before .before .before .before .if1 .left)) us woken (omega (arith, least, c .before .before .before .before .if4 .taken)))
 
 loop-less-3 : tie.Need-loop-less-3 Inv-loop μ-loop
-loop-less-3 c = let start = c .before .before .before .before .before .before .before .before .before .before .before .before .before .before .before .before .before in
-    let m = start .args .t1 in
+loop-less-3 c = let start = c .before .before .before .before .before .before .before .before .before .before .before .before .before .before .before .before .before .before .before in
+    let m = start .args .m in
     let fit = start .pre in
     let counts = modelFault-counts m fit in
-    let here = c .before .before .before .before .before .before .before .before .before .before .loop in
-    let wide = c .before .before .before .before .before .before .before .before .before .before .before .before .before .before .before .wide .ensures in
-    falls-later _ _ _ (loop-later m fit (start .args .budget) _ _ _ _ _ _ (here .inv) (omega (arith, wide, c .before .before .before .before .before .before .before .before .before .if1 .left)) _ (c .before .before .before .before .before .before .before .before .woken-all .ensures) _
-    (sym (c .before .before .before .before .before .before .before .floor-of .ensures ∙ ap (λ (t : ℕ). floorTo t (c .before .before .before .before .before .before .before .before .woken-all .result .at)) wide) ∙ c .before .before .before .before .before .c .given .1)) (loop-room m fit (start .args .budget) _ _ _ _ _ _ (here .inv))
+    let here = c .before .before .before .before .before .before .before .before .before .loop in
+    let wide = c .before .before .before .before .before .before .before .before .before .before .before .before .before .before .before .before .before .before .wide .ensures in
+    let us = c .before .before .before .before .before .wake .last .0 in
+    let woken : (k : ℕ) → k < m .t → getD us k 0 ≡ wakeWord (here .told) (here .key) (getD (here .state) k 0) = λ k l. c .before .before .before .before .before .wake .ensures .1 k (omega (arith, wide)) in
+    let least : c .before .before .before .floor-of .result ≡ leastWord (m .t) us = c .before .before .before .floor-of .ensures ∙ ap (λ (t : ℕ). leastWord t us) wide in
+    falls-later _ _ _ (rw least (loop-later m fit (start .args .budget) _ _ _ _ _ _ _ (here .inv) (omega (arith, wide, c .before .before .before .before .before .before .before .before .if1 .left)) us woken (omega (arith, least, c .if4 .left)))) (loop-room m fit (start .args .budget) _ _ _ _ _ _ _ (here .inv))
 
 loop-again-3 : tie.Need-loop-again-3 Inv-loop μ-loop
-loop-again-3 c = let start = c .before .before .before .before .before .before .before .before .before .before .before .before .before .before .before .before .before in
-    let m = start .args .t1 in
+loop-again-3 c = let start = c .before .before .before .before .before .before .before .before .before .before .before .before .before .before .before .before .before .before .before in
+    let m = start .args .m in
     let fit = start .pre in
     let counts = modelFault-counts m fit in
-    let here = c .before .before .before .before .before .before .before .before .before .before .loop in
-    let wide = c .before .before .before .before .before .before .before .before .before .before .before .before .before .before .before .wide .ensures in
-    rw (c .no-marks2 .ensures)
-    (loop-begun m fit (start .args .budget) _ _ _ _ _ _ (here .inv) (omega (arith, wide, c .before .before .before .before .before .before .before .before .before .if1 .left)) _ (c .before .before .before .before .before .before .before .before .woken-all .ensures) _
-    (sym (c .before .before .before .before .before .before .before .floor-of .ensures ∙ ap (λ (t : ℕ). floorTo t (c .before .before .before .before .before .before .before .before .woken-all .result .at)) wide) ∙ c .before .before .before .before .before .c .given .1) (c .before .if4 .left))
+    let here = c .before .before .before .before .before .before .before .before .before .loop in
+    let wide = c .before .before .before .before .before .before .before .before .before .before .before .before .before .before .before .before .before .before .wide .ensures in
+    let us = c .before .before .before .before .before .wake .last .0 in
+    let woken : (k : ℕ) → k < m .t → getD us k 0 ≡ wakeWord (here .told) (here .key) (getD (here .state) k 0) = λ k l. c .before .before .before .before .before .wake .ensures .1 k (omega (arith, wide)) in
+    let least : c .before .before .before .floor-of .result ≡ leastWord (m .t) us = c .before .before .before .floor-of .ensures ∙ ap (λ (t : ℕ). leastWord t us) wide in
+    rw least (loop-begun m fit (start .args .budget) _ _ _ _ _ _ _ (here .inv) (omega (arith, wide, c .before .before .before .before .before .before .before .before .if1 .left)) us woken (c .before .before .before .before .before .wake .ensures .0) (omega (arith, least, c .if4 .left)))
 
 pub cycles-spec : {M : Type 1} → statement M
 cycles-spec =
@@ -269,38 +324,40 @@ cycles-spec =
     Inv-loop
     μ-loop
     wide-requires
-    no-variables-requires
-    fresh-threads-requires
-    first-cycle-requires
-    no-marks-requires
+    pack-words-requires
+    pack-ends-requires
+    pack-nexts-requires
+    first-segments-requires
     loop-holds
-    mul-x
-    element-copy-out-x
-    is-at-requires
+    mul-w
+    array-read-w
     add-turn
     loop-less
     loop-again
+    threads-of-requires
     result-requires
     returns
+    array-read-segment
     wide-requires-2
-    mul-g
-    element-copy-out-g
-    effect-in-requires
-    mul-thread
-    element-set-from-thread
-    marked-with-requires
+    mul-end
+    array-read-end
+    mul-next
+    array-read-next
+    execute-all-requires
+    close-word-requires
+    mul-state
+    array-write-state
+    follow-requires
+    array-write-segments
     add-n
     add-turn-2
     loop-less-2
     loop-again-2
-    woken-all-requires
+    wake-requires
     floor-of-requires
-    enum-known-c
-    enum-told
+    mul-if4
+    threads-of-requires-2
     result-requires-2
     returns-2
-    result-requires-3
-    returns-3
-    no-marks-requires-2
     loop-less-3
     loop-again-3)

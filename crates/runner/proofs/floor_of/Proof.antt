@@ -1,36 +1,30 @@
--- `runner::floor_of` meets its contract. The invariant: the least of the first k threads.
+-- `runner::floor_of` meets its contract.
 use Prim.Native.Nat.{_≤_, _-_}
-use mathlib.Core.Path.{_≡_, ap, _∙_}
-use native.Mathlib.Numerals.{add-one}
+use mathlib.Core.Path.{_≡_}
 use native.Mathlib.Omega.{arith}
-use Rattle.clock.specs.declared.Bound.{Bound}
-use Rattle.clock.specs.Advance.{least}
-use Rattle.runner.specs.Marked.{floorTo}
-use Rattle.runner.proofs.ThreadLaws.{floorTo-none, floorTo-more}
+use Rattle.runner.specs.Words.{leastWord}
+use Rattle.runner.proofs.ExitLaws.{leastWord-none, leastWord-next}
 use borrow.Author.Needs.{needs}
 use Rattle.runner.proofs.floor_of.Statement.{statement}
 use Rattle.runner.proofs.floor_of.Tie as tie
 
 abbrev Inv-loop : tie.InvT-loop
-Inv-loop t ts least₀ k₀ least k = (k ≤ t) × (least ≡ floorTo k (ts .at))
+Inv-loop state t least₀ k₀ least k = (k ≤ t) × (least ≡ leastWord k state)
 
 abbrev μ-loop : tie.MeasureT-loop
-μ-loop t ts least₀ k₀ least k = t - k
+μ-loop state t least₀ k₀ least k = t - k
 
 loop-holds : tie.Need-loop-holds Inv-loop μ-loop
-loop-holds c = (omega arith, floorTo-none _)
+loop-holds c = (omega arith, leastWord-none (c .args .state .now))
 
-mul-x : tie.Need-mul-x Inv-loop μ-loop
-mul-x c = search needs
+mul-w : tie.Need-mul-w Inv-loop μ-loop
+mul-w c = omega arith
 
-element-copy-out-x : tie.Need-element-copy-out-x Inv-loop μ-loop
-element-copy-out-x c = search needs
+element-copy-out-w : tie.Need-element-copy-out-w Inv-loop μ-loop
+element-copy-out-w c = omega arith
 
-ready-cycle-requires : tie.Need-ready-cycle-requires Inv-loop μ-loop
-ready-cycle-requires c κs = search needs
-
-least-of-requires : tie.Need-least-of-requires Inv-loop μ-loop
-least-of-requires c κs = search needs
+smaller-requires : tie.Need-smaller-requires Inv-loop μ-loop
+smaller-requires c κs = search needs
 
 add-k : tie.Need-add-k Inv-loop μ-loop
 add-k c = omega arith
@@ -39,7 +33,7 @@ loop-less : tie.Need-loop-less Inv-loop μ-loop
 loop-less c = omega arith
 
 loop-again : tie.Need-loop-again Inv-loop μ-loop
-loop-again c = (omega arith, c .least-of .ensures ∙ (ap (λ (x : Bound). least (c .before .before .before .before .loop .least) x) (c .before .ready-cycle .ensures) ∙ floorTo-more (c .before .before .before .before .before .args .t2 .at) (c .before .before .before .before .loop .k) _ (c .before .before .before .before .loop .inv .1)))
+loop-again c = (omega arith, leastWord-next (c .before .before .before .loop .k) (c .before .before .before .before .args .state .now) _ _ (c .before .before .before .loop .inv .1) (c .smaller .ensures))
 
 returns : tie.Need-returns Inv-loop μ-loop
 returns c = let e : c .before .loop .k ≡ c .before .before .args .t = omega arith in rw (← e) (c .before .loop .inv .1)
@@ -51,10 +45,9 @@ floor-of-spec =
     Inv-loop
     μ-loop
     loop-holds
-    mul-x
-    element-copy-out-x
-    ready-cycle-requires
-    least-of-requires
+    mul-w
+    element-copy-out-w
+    smaller-requires
     add-k
     loop-less
     loop-again

@@ -1,35 +1,30 @@
 -- `runner::plain_run` meets its contract.
-use mathlib.Core.Path.{sym, _∙_}
-use Rattle.runner.proofs.RunLaws.{plainRun-fit, plainRun-fault}
+use mathlib.Core.Path.{refl, sym, _∙_}
 use borrow.Author.Needs.{needs}
+use Rattle.runner.proofs.RunLaws.{plainRun-fit, plainRun-fault}
 use Rattle.runner.proofs.plain_run.Statement.{statement}
 use Rattle.runner.proofs.plain_run.Tie as tie
 
 model-fault-requires : tie.Need-model-fault-requires
 model-fault-requires c κs = search needs
 
-no-variables-requires : tie.Need-no-variables-requires
-no-variables-requires c κs = search needs
-
 no-threads-requires : tie.Need-no-threads-requires
 no-threads-requires c κs = search needs
 
 returns : tie.Need-returns
-returns c = plainRun-fault (c .before .before .before .before .args .m) _ _ _ (λ e. c .before .before .if1 .taken (c .before .before .before .model-fault .ensures ∙ e)) (c .before .no-variables .ensures) (c .no-threads .ensures)
+returns c =
+    plainRun-fault (c .before .before .before .args .m) _ _ _
+    (λ e. c .before .if1 .taken (c .before .before .model-fault .ensures ∙ e))
+    refl
+    (c .no-threads .ensures)
 
 cycles-requires : tie.Need-cycles-requires
 cycles-requires c κs = search needs
 
 returns-2 : tie.Need-returns-2
-returns-2 c = c .cycles .ensures ∙ plainRun-fit (c .before .before .before .args .m) _ (sym (c .before .before .model-fault .ensures) ∙ c .before .if1 .left)
+returns-2 c =
+    c .cycles .ensures ∙
+    plainRun-fit (c .before .before .before .args .m) _ (sym (c .before .before .model-fault .ensures) ∙ c .before .if1 .left)
 
 pub plain-run-spec : {M : Type 1} → statement M
-plain-run-spec =
-    tie.close
-    (tie.spec
-    model-fault-requires
-    no-variables-requires
-    no-threads-requires
-    returns
-    cycles-requires
-    returns-2)
+plain-run-spec = tie.close (tie.spec model-fault-requires no-threads-requires returns cycles-requires returns-2)

@@ -1,0 +1,74 @@
+-- Private contracts of the plain run's code: thread states as words, and what the code does to them.
+-- A cycle (t, d) is the number 1,024 t + d, below 2 ^ 44. A ready thread's word is its cycle; one that waits, is over or
+-- is overrun stands above every cycle, with its event and its cycle in it.
+use Prim.Native.Nat.{ℕ, zero, suc, _+_, _-_, _*_, _/_, _%_}
+use mathlib.Core.Bool.{Bool, false, cond, _&&_}
+use mathlib.Core.List.{List, _++_}
+use lib.Dec.{ltb, leb, eqb}
+use lib.ListN.{getD, replicate}
+use Rattle.base.specs.Index.{tabulate}
+use Rattle.clock.specs.declared.Cycle.{Cycle}
+use Rattle.clock.specs.Cycle.{cycleAt}
+use Rattle.model.specs.declared.State.{State}
+use Rattle.model.specs.declared.State.the-variants.{Ended, Overrun, Ready, Waiting}
+use Rattle.model.specs.declared.Thread.{Thread}
+use Rattle.model.specs.Record.{noThread}
+
+abbrev pub waiting : ℕ
+waiting = 4611686018427387904
+
+abbrev pub ended : ℕ
+ended = 9223372036854775808
+
+abbrev pub overrun : ℕ
+overrun = 13835058055282163712
+
+-- how many cycles there are
+abbrev pub span : ℕ
+span = 17592186044416
+
+abbrev pub keyOf : Cycle → ℕ
+keyOf c = 1024 * c .time .0 + c .delta .0
+
+abbrev pub wordOf : State → ℕ
+wordOf (Ended c) = ended + keyOf c
+wordOf (Overrun c) = overrun + keyOf c
+wordOf (Ready c) = keyOf c
+wordOf (Waiting e c) = waiting + span * e + keyOf c
+
+-- the state of a word
+unfoldable pub stateFrom : ℕ → State
+stateFrom w =
+    let c = cycleAt (w % span / 1024) (w % span % 1024) in
+    cond (ltb w waiting) (Ready c) (cond (ltb w ended) (Waiting ((w - waiting) / span % 256) c) (cond (ltb w overrun) (Ended c) (Overrun c)))
+
+-- the first k threads of their words; zero past them
+unfoldable pub threadsTo : List ℕ → List ℕ → ℕ → List Thread
+threadsTo ws ss k = tabulate k 0 (λ j. record { segment = getD ss j 0; state = stateFrom (getD ws j 0) }) ++ replicate (32 - k) noThread
+
+-- "becomes ready at the next delta", or is overrun
+unfoldable pub nextWord : ℕ → ℕ
+nextWord now = cond (ltb (now % 1024) 1023) (now + 1) (overrun + now)
+
+-- a thread whose segment ends so, at a cycle
+unfoldable pub closeWord : ℕ → ℕ → ℕ
+closeWord end now =
+    cond (eqb (end % 4) 0)
+    (ended + now)
+    (cond (eqb (end % 4) 2)
+    (waiting + span * (end / 1024 % 256) + now)
+    (cond (eqb (end / 1024) 0) (nextWord now) (1024 * (now / 1024 + end / 1024))))
+
+-- a thread at the end of a cycle, where the marked events were notified
+unfoldable pub wakeWord : List Bool → ℕ → ℕ → ℕ
+wakeWord fs now w =
+    cond (ltb w waiting)
+    w
+    (cond (leb ended w)
+    w
+    (cond (getD fs ((w - waiting) / span) false && leb ((w - waiting) % span) now) (nextWord now) w))
+
+-- the least of the first k words
+unfoldable pub leastWord : ℕ → List ℕ → ℕ
+leastWord zero ws = 18446744073709551615
+leastWord (suc k) ws = cond (ltb (getD ws k 0) (leastWord k ws)) (getD ws k 0) (leastWord k ws)
