@@ -60,9 +60,9 @@ module _ (x : Closer) where
   unfolding stepsOf
   stepsOf-time k y w e f = rw (e, f) refl
 
-  pub stepsOf-event : (w : ℕ) (y : Next) → x ≡ Event w y → record { a = y .a; b = y .b; word = 1 } ≡ stepsOf x
+  pub stepsOf-event : (w v : ℕ) (y : Next) → x ≡ Event w y → v ≡ 1 → record { a = y .a; b = y .b; word = v } ≡ stepsOf x
   unfolding stepsOf
-  stepsOf-event w y e = rw e refl
+  stepsOf-event w v y e f = rw (e, f) refl
 
 module _ (g : Steps) (r s : ℕ) where
   pub directWord-self : r ≡ s → 0 ≡ directWord g r s

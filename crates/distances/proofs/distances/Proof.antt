@@ -27,7 +27,7 @@ returns-2 c =
     distances-short (c .before .before .before .before .before .args .m) (c .before .before .before .before .before .args .words .now) e (rw (c .before .wide .ensures) at (c .if2 .taken))
 
 fill-requires : tie.Need-fill-requires
-fill-requires c κs = search needs
+fill-requires c κs = (sym (c .before .before .before .before .model-fault .ensures) ∙ c .before .before .before .if1 .left, c .before .before .wide .ensures, omega arith)
 
 same-length : tie.Need-same-length
 same-length c = search needs

@@ -1,4 +1,5 @@
 -- `distances::steps_of` meets its contract, by the kind of closer.
+use mathlib.Core.Path.{refl}
 use borrow.Author.Needs.{needs}
 use Rattle.distances.proofs.StoreLaws.{stepsOf-end, stepsOf-time, stepsOf-event}
 use Rattle.distances.proofs.steps_of.Tie as tie
@@ -23,7 +24,7 @@ returns-2 : tie.Need-returns-2
 returns-2 c = stepsOf-time _ _ _ _ (c .before .before .closer .given .1) (c .units-word .ensures)
 
 returns-3 : tie.Need-returns-3
-returns-3 c = stepsOf-event _ _ _ (c .before .closer2 .given .1)
+returns-3 c = stepsOf-event _ _ _ _ (c .before .closer2 .given .1) refl
 
 pub steps-of-spec : {M : Type 1} → statement M
 steps-of-spec =
