@@ -22,8 +22,6 @@ pub mod Lists
 pub mod CarriedOn
 pub mod SamePlaces
 pub mod Theorem
-pub mod ReadSoFar
-pub mod Accepted
 pub mod PlainInstance
 pub mod KitInstance
 pub mod OrderIndependent

@@ -21,7 +21,8 @@ use Rattle.rules.proofs.FaultLaws.{fault-here}
 use Rattle.reader.specs.Word.{byteAt, wordAt, longAt}
 use Rattle.reader.specs.Record.{framingFault, segmentFrom, segmentBytesFault, bodyFault, withRecord}
 use Rattle.parser.specs.Parts.{countFault, recordFault}
-use Rattle.parser.proofs.RecordLaws.{unless-zero, Opened}
+use Rattle.files.proofs.FrameLaws.{unless-zero}
+use Rattle.parser.proofs.RecordLaws.{Opened}
 
 module _ (k n t : ℕ) (r : List ℕ) where
   pub count-segment : k ≡ 2 → countFault k n t r ≡ 0 → n < 64

@@ -21,7 +21,8 @@ use Rattle.reader.specs.Word.{wordAt}
 use Rattle.reader.specs.Record.{framingFault, bodyFault, withRecord}
 use Rattle.reader.specs.File.{readEnd, readFrom, readFile}
 use Rattle.parser.specs.Parts.{recordFault, refusedWith}
-use Rattle.parser.proofs.RecordLaws.{isWhole-head, framingFault-short, framed, Opened, opened-some, opened-least, opened-left}
+use Rattle.files.proofs.FrameLaws.{framed}
+use Rattle.parser.proofs.RecordLaws.{isWhole-head, framingFault-short, Opened, opened-some, opened-least, opened-left}
 use Rattle.parser.proofs.BodyLaws.{recordFault-is}
 use Rattle.parser.proofs.SegmentLaws.{part-rest}
 

@@ -399,8 +399,8 @@ fn record_from(last: u32, v: u8, e: u8, n: u8, t: u8, b: &[u8]) -> Record
     }
 }
 
-// Document 01: "a model .. returned by value beside the number" is zero.
-fn refused(number: u8) -> Read
+// Document 01: "a model or marks returned by value beside the number are zero and unset".
+pub fn refused(number: u8) -> Read
     ensures { λ r. ⌜ r ≡ refusedWith number ⌝ }
 {
     Read {

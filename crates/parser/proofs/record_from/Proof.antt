@@ -4,7 +4,8 @@ use native.Mathlib.Omega.{arith}
 use borrow.Author.Needs.{needs}
 use denote.Ref.{now}
 use Rattle.base.proofs.IndexLaws.{orElse-zero}
-use Rattle.parser.proofs.RecordLaws.{framed, Opened, opened-length, opened-head, opened-segment}
+use Rattle.files.proofs.FrameLaws.{framed}
+use Rattle.parser.proofs.RecordLaws.{Opened, opened-length, opened-head, opened-segment}
 use Rattle.parser.proofs.BodyLaws.{recordFault-framing, recordFault-other, recordFault-segment}
 use Rattle.parser.proofs.record_from.Statement.{statement}
 use Rattle.parser.proofs.record_from.Tie as tie

@@ -24,12 +24,8 @@ use Rattle.rules.proofs.FaultLaws.{unless-kept}
 use Rattle.reader.specs.Word.{wordAt}
 use Rattle.reader.specs.Closer.{closerFrom, closerShapeFault, closerBytesFault}
 use Rattle.reader.specs.Statement.{opFrom, opShapeFault, opBytesFault}
-use Rattle.reader.specs.Record.{follows, lengthFits, framingFault, statementCount, statementBytes, segmentFrom, segmentBytesFault, bodyFault, withRecord}
-
--- a rule that gives no number is kept
-unless-zero : (b : Bool) (n : ℕ) → (n ≡ 0 → ⊥) → unless b n ≡ 0 → b ≡ true
-unless-zero true n h e = refl
-unless-zero false n h e = absurd (h e)
+use Rattle.reader.specs.Record.{follows, lengthFits, statementCount, statementBytes, segmentFrom, segmentBytesFault, bodyFault, withRecord}
+use Rattle.files.proofs.FrameLaws.{unless-zero, segment-length}
 
 -- a segment's record without fault gives a segment without fault
 module _ (v e : ℕ) (r : List ℕ) (short : statementCount r ≤ 32) (none : segmentBytesFault v e r ≡ 0) where
@@ -174,29 +170,10 @@ module _ (last : ℕ) (m : Model) (r : List ℕ) (g : SoFar last m) where
         few-threads = omega (arith, ltb-true (m .t) 32 (unless-zero (ltb (m .t) 32) 4 (λ e. omega arith) none));
       }
 
--- the length of a segment's record allows 32 statements
-short-segment : (l : ℕ) → lengthFits 2 l ≡ true → (l - 17) / 6 ≤ 32
-unfolding lengthFits
-short-segment l fits =
-    let (p, q) = and→both (leb 17 l && leb l 209) (eqb ((l - 17) % 6) 0) (true→T (lengthFits 2 l) fits) in
-    let (a, b) = and→both (leb 17 l) (leb l 209) p in
-    omega (arith, leb→le l 209 b)
-
 pub record-kept : (last k : ℕ) (m : Model) (r : List ℕ) → SoFar last m → Follows last k → lengthFits k (length r) ≡ true → bodyFault k m r ≡ 0 → (k ≡ 4 → ⊥) → SoFar k (withRecord k m r)
 record-kept last k m r g (head z e) fits none more = subst (λ (k : ℕ). bodyFault k m r ≡ 0 → SoFar k (withRecord k m r)) (sym e) (head-kept last m r g z) none
 record-kept last k m r g (segment a b e) fits none more =
-    let short = short-segment (length r) (subst (λ (k : ℕ). lengthFits k (length r) ≡ true) e fits) in
+    let short : statementCount r ≤ 32 = omega (arith, segment-length (length r) k fits e .1) in
     subst (λ (k : ℕ). bodyFault k m r ≡ 0 → SoFar k (withRecord k m r)) (sym e) (segment-added last m r g a b short) none
 record-kept last k m r g (thread a b e) fits none more = subst (λ (k : ℕ). bodyFault k m r ≡ 0 → SoFar k (withRecord k m r)) (sym e) (thread-added last m r g a) none
 record-kept last k m r g (ending z e) fits none more = absurd (more e)
-
--- what a record without fault of its head is: all there, of a kind that may come, and of a length for it
-pub framing-kept : (last : ℕ) (b : List ℕ) → framingFault last b ≡ 0 → (wordAt b 0 ≤ length b) × (follows last (wordAt b 2) ≡ true) × (lengthFits (wordAt b 2) (wordAt b 0) ≡ true)
-unfolding framingFault
-framing-kept last b none =
-    let (p, rest) = orElse-zero (unless (leb 4 (length b) && (leb 4 (wordAt b 0) && leb (wordAt b 0) (length b))) 1) _ none in
-    let (q, r) = orElse-zero (unless (follows last (wordAt b 2)) 2) (unless (lengthFits (wordAt b 2) (wordAt b 0)) 3) rest in
-    let whole = true→T _ (unless-zero (leb 4 (length b) && (leb 4 (wordAt b 0) && leb (wordAt b 0) (length b))) 1 (λ e. omega arith) p) in
-    let (_, left) = and→both (leb 4 (length b)) (leb 4 (wordAt b 0) && leb (wordAt b 0) (length b)) whole in
-    let (_, within) = and→both (leb 4 (wordAt b 0)) (leb (wordAt b 0) (length b)) left in
-    (leb→le (wordAt b 0) (length b) within, unless-zero (follows last (wordAt b 2)) 2 (λ e. omega arith) q, unless-zero (lengthFits (wordAt b 2) (wordAt b 0)) 3 (λ e. omega arith) r)

@@ -20,7 +20,8 @@ use Rattle.reader.specs.declared.Read.{Read}
 use Rattle.reader.specs.Word.{wordAt}
 use Rattle.reader.specs.Record.{follows, lengthFits, framingFault, bodyFault, withRecord}
 use Rattle.reader.specs.File.{readOr, readEnd, readFrom, readFile}
-use Rattle.order.proofs.ReadSoFar.{SoFar, nothing-read, Follows, head, segment, thread, ending, follows→, record-kept, framing-kept}
+use Rattle.files.proofs.FrameLaws.{framed}
+use Rattle.files.proofs.ReadSoFar.{SoFar, nothing-read, Follows, head, segment, thread, ending, follows→, record-kept}
 
 -- after the threads, with targets that are there, no rule is broken
 read-kept : (m : Model) → SoFar 3 m → targetsFault m ≡ 0 → modelFault m ≡ 0
@@ -41,7 +42,7 @@ read-kept m g targets =
         ∙ unless-kept (leb (m .t) 32) 4 (T→true (leb (m .t) 32) (le→leb (m .t) 32 (g .few-threads)))
 
 -- a number that is 0 comes with the model that was read
-readOr-accepted : (n : ℕ) (m : Model) → readOr n m .number ≡ 0 → (n ≡ 0) × (readOr n m .model ≡ m)
+pub readOr-accepted : (n : ℕ) (m : Model) → readOr n m .number ≡ 0 → (n ≡ 0) × (readOr n m .model ≡ m)
 readOr-accepted n m = cond-case (λ (x : Read). x .number ≡ 0 → (n ≡ 0) × (x .model ≡ m)) (eqb n 0) (λ t e. (eqb→eq n 0 t, refl)) (λ t e. absurd (T-not (eqb n 0) t (eq→eqb n 0 e)))
 
 end-kept : (b : List ℕ) (m : Model) → SoFar 3 m → readEnd b m .number ≡ 0 → modelFault (readEnd b m .model) ≡ 0
@@ -80,12 +81,12 @@ step-kept most last b m ih g =
 
     taken : (framingFault last b ≡ 0) × (bodyFault k m r ≡ 0) → cond (eqb k 4) (readEnd rest m) (readFrom most k rest (withRecord k m r)) .number ≡ 0 → modelFault (cond (eqb k 4) (readEnd rest m) (readFrom most k rest (withRecord k m r)) .model) ≡ 0
     taken (framing, body) =
-        let (within, order, fits) = framing-kept last b framing in
-        let size : length r ≡ wordAt b 0 = length-take-le (wordAt b 0) b within in
-        let next = follows→ last k (true→T (follows last k) order) in
+        let f = framed last b framing in
+        let size : length r ≡ wordAt b 0 = length-take-le (wordAt b 0) b (f .whole .left) in
+        let next = follows→ last k (true→T (follows last k) (f .after)) in
         cond-case (λ (x : Read). x .number ≡ 0 → modelFault (x .model) ≡ 0) (eqb k 4)
         (λ t. end-kept rest m (subst (λ (l : ℕ). SoFar l m) (last-thread next (eqb→eq k 4 t)) g))
-        (λ t. ih k rest (withRecord k m r) (record-kept last k m r g next (ap (lengthFits k) size ∙ fits) body (λ e. T-not (eqb k 4) t (eq→eqb k 4 e))))
+        (λ t. ih k rest (withRecord k m r) (record-kept last k m r g next (ap (lengthFits k) size ∙ f .fits) body (λ e. T-not (eqb k 4) t (eq→eqb k 4 e))))
 
 from-kept : (most last : ℕ) (b : List ℕ) (m : Model) → SoFar last m → readFrom most last b m .number ≡ 0 → modelFault (readFrom most last b m .model) ≡ 0
 unfolding readFrom
@@ -95,3 +96,25 @@ from-kept (suc most) last b m g e = step-kept most last b m (λ k c n h f. from-
 pub accepted-kept : (b : List ℕ) → readFile b .number ≡ 0 → modelFault (readFile b .model) ≡ 0
 unfolding readFile
 accepted-kept b e = from-kept (length b) 0 b noModel nothing-read e
+
+-- beside a number the model is zero
+pub readOr-refused : (n : ℕ) (m : Model) → (readOr n m .number ≡ 0 → ⊥) → readOr n m .model ≡ noModel
+readOr-refused n m = cond-case (λ (x : Read). (x .number ≡ 0 → ⊥) → x .model ≡ noModel) (eqb n 0) (λ t h. absurd (h refl)) (λ t h. refl)
+
+from-refused : (most last : ℕ) (b : List ℕ) (m : Model) → (readFrom most last b m .number ≡ 0 → ⊥) → readFrom most last b m .model ≡ noModel
+unfolding readFrom readEnd
+from-refused zero last b m h = readOr-refused 1 m h
+from-refused (suc most) last b m h =
+    let k = wordAt b 2 in
+    let rest = drop (wordAt b 0) b in
+    let next = withRecord k m (take (wordAt b 0) b) in
+    let fault = orElse (framingFault last b) (bodyFault k m (take (wordAt b 0) b)) in
+    let more = from-refused most k rest next in
+    cond-case (λ (x : Read). (x .number ≡ 0 → ⊥) → x .model ≡ noModel) (eqb fault 0)
+    (λ t. cond-case (λ (x : Read). (x .number ≡ 0 → ⊥) → x .model ≡ noModel) (eqb k 4) (λ u. readOr-refused (orElse (unless (eqb (length rest) 0) 9) (targetsFault m)) m) (λ u. more))
+    (λ t. readOr-refused fault m)
+    h
+
+pub refused-zero : (b : List ℕ) → (readFile b .number ≡ 0 → ⊥) → readFile b .model ≡ noModel
+unfolding readFile
+refused-zero b h = from-refused (length b) 0 b noModel h

@@ -1,0 +1,1 @@
+// What holds of a file that is read, record by record. Laws alone: the definitions are those of reader.
