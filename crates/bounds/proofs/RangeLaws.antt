@@ -99,7 +99,7 @@ module _ (m : Model) (ws : List ℕ) (l : List Notification) (ts : List Thread)
         (getD ws (r * m .n + s) 0)
         (fit-words (r * m .n + s) (omega (arith, suc-mul r (m .n), mul-le-mul-right (m .n) p)))
 
-    within-heard : (e : ℕ) (since : Cycle) → Within cutTime lastDelta (leastHeard l e since)
+    pub within-heard : (e : ℕ) (since : Cycle) → Within cutTime lastDelta (leastHeard l e since)
     within-heard e since = go (leastHeard l e since) refl
       where
         go : (b : Bound) → leastHeard l e since ≡ b → Within cutTime lastDelta b

@@ -1,1 +1,9 @@
+pub mod Computed
+pub mod Edges
 pub mod LimitLaws
+pub mod PlaceLaws
+pub mod StateLaws
+pub mod NearestLaws
+pub mod RoundLaws
+pub mod AheadLaws
+pub mod DeliverLaws

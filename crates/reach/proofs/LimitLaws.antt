@@ -22,12 +22,15 @@ use Rattle.tables.specs.Word.{allOnes, boundOf}
 use Rattle.early.specs.Hazard.{isSooner}
 use Rattle.early.specs.Fit.{isFitWord}
 use Rattle.bounds.proofs.FitLaws.{FitWord, isFitWord→}
-use Rattle.bounds.proofs.RangeLaws.{Within, within-leastBelow}
+use Rattle.bounds.proofs.RangeLaws.{Within, within-more, within-leastBelow}
 use Rattle.reach.specs.Limit.{unit, top, limitOf, limitOfCycle, limitOfWord, lesser, lesserBelow, sumOf, isSoonerLimit}
 
 -- a bound that a limit holds: a time below 2 ^ 44, a delta below 65,536
 abbrev pub Limited : Bound → Type 0
 Limited b = Within 17592186044416 65535 b
+
+pub within-limited : (t d : ℕ) (b : Bound) → t ≤ 17592186044416 → d ≤ 65535 → Within t d b → Limited b
+within-limited t d b p q w = within-more t d 17592186044416 65535 b (omega arith) (omega arith) w
 
 -- the order
 
@@ -69,7 +72,7 @@ limitOf-same (At a) (At b) p q e = ap At (cycle-path (omega arith) (omega arith)
 
 -- the least
 
-limitOf-cond : (t : Bool) (a b : Bound) → limitOf (cond t a b) ≡ cond t (limitOf a) (limitOf b)
+pub limitOf-cond : (t : Bool) (a b : Bound) → limitOf (cond t a b) ≡ cond t (limitOf a) (limitOf b)
 limitOf-cond true a b = refl
 limitOf-cond false a b = refl
 

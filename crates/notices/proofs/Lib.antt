@@ -1,0 +1,5 @@
+pub mod LengthLaws
+pub mod PlaceLaws
+pub mod HeldLaws
+pub mod NotedLaws
+pub mod Edges
