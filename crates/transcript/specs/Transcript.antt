@@ -1,0 +1,70 @@
+-- What `replayrun` prints of a list of requests, byte by byte, in ASCII: a line for each request, the sheet's lines of the
+-- variables and the threads, a line for each logged notification.
+use Prim.Native.Nat.{ℕ, zero, suc, _+_, _*_, min}
+use mathlib.Core.Bool.{Bool, cond, _||_}
+use mathlib.Core.List.{List, [], _∷_, _++_}
+use lib.Dec.{ltb, eqb}
+use lib.ListN.{length, getD}
+use Rattle.clock.specs.Cycle.{cycleAt}
+use Rattle.model.specs.declared.Thread.{Thread}
+use Rattle.model.specs.Refusal.{accepted, unfit}
+use Rattle.sheet.specs.Digits.{digitsOf}
+use Rattle.sheet.specs.Sheet.{lineOf, cycleWords, vLines, tLines, refusedLine}
+use Rattle.early.specs.declared.Notification.{Notification}
+use Rattle.early.specs.declared.Site.{Site}
+use Rattle.early.specs.Log.{places, pairOf}
+use Rattle.transcript.specs.Label.{noNumber}
+
+-- the label's digits, or `?`
+unfoldable pub labelWord : ℕ → List ℕ
+labelWord x = cond (eqb x noNumber) (63 ∷ []) (digitsOf x)
+
+-- "A request answers either the segment run with its cycle, or one refusal number": `granted SEG TIME DELTA` or `refused N`
+unfoldable pub answerWords : ℕ → ℕ → ℕ → ℕ → List (List ℕ)
+answerWords number segment time delta =
+    cond (eqb number accepted)
+    ((103 ∷ 114 ∷ 97 ∷ 110 ∷ 116 ∷ 101 ∷ 100 ∷ []) ∷ digitsOf segment ∷ digitsOf time ∷ digitsOf delta ∷ [])
+    ((114 ∷ 101 ∷ 102 ∷ 117 ∷ 115 ∷ 101 ∷ 100 ∷ []) ∷ digitsOf number ∷ [])
+
+-- `r`, the label, the answer
+unfoldable pub rLine : ℕ → ℕ → ℕ → ℕ → ℕ → List ℕ
+rLine label number segment time delta = lineOf (114 ∷ []) (labelWord label ∷ answerWords number segment time delta)
+
+-- the answer of request i stands at words 4 i to 4 i + 3: number, segment, time, delta
+unfoldable pub rLineAt : List ℕ → List ℕ → ℕ → List ℕ
+rLineAt labels ws i = rLine (getD labels i 0) (getD ws (4 * i) 0) (getD ws (4 * i + 1) 0) (getD ws (4 * i + 2) 0) (getD ws (4 * i + 3) 0)
+
+-- the lines of the first so many requests
+unfoldable pub rLines : ℕ → List ℕ → List ℕ → List ℕ
+rLines zero labels ws = []
+rLines (suc i) labels ws = rLines i labels ws ++ rLineAt labels ws i
+
+-- a logged notification: event, cycle
+unfoldable pub lLine : Notification → List ℕ
+lLine x = lineOf (108 ∷ []) (digitsOf (x .event) ∷ cycleWords (x .cycle))
+
+-- the lines of the log's first so many places
+unfoldable pub lLines : ℕ → List Notification → List ℕ
+lLines zero xs = []
+lLines (suc i) xs = lLines i xs ++ lLine (getD xs i (pairOf 0 (cycleAt 0 0)))
+
+-- of a model with v variables and t threads, or as many as there are places
+unfoldable pub closingOf : ℕ → ℕ → Site → List Thread → List ℕ
+closingOf v t site ts =
+    vLines (min v 64) (site .variables .at) ++ (tLines (min t 32) ts ++ lLines (min (site .count) places) (site .log))
+
+abbrev pub mostRequests : ℕ
+mostRequests = 1024
+
+-- more requests than a transcript holds, or fewer than 4 words for each
+unfoldable pub isUnfitList : List ℕ → List ℕ → Bool
+isUnfitList labels ws = ltb mostRequests (length labels) || ltb (length ws) (4 * length labels)
+
+-- the whole text; only `refused 11` of an unfit list
+unfoldable pub transcriptOf : List ℕ → List ℕ → ℕ → ℕ → Site → List Thread → List ℕ
+transcriptOf labels ws v t site ts =
+    cond (isUnfitList labels ws) (refusedLine unfit) (rLines (length labels) labels ws ++ closingOf v t site ts)
+
+-- how many bytes a transcript has at most: 1,024 lines of 94, 64 of 44, 32 of 112, 128 of 65, with 20 digits for each number
+abbrev pub longestTranscript : ℕ
+longestTranscript = 110976
