@@ -1,0 +1,9 @@
+#!/bin/sh
+# Builds the library and both examples, and runs them on model M.
+set -e
+cd "$(dirname "$0")/.."
+rt staticlib exports >/dev/null
+mkdir -p target/examples
+cc -O2 -Wall -Wextra -I bindings/c -o target/examples/example bindings/c/example.c -L target/staticlib -lexports
+target/examples/example models/m.model
+cargo run --quiet --offline --manifest-path bindings/rust/Cargo.toml --target-dir target/rust --example threads models/m.model

@@ -1,0 +1,6 @@
+// Links the static library that `rt staticlib exports` writes.
+fn main() {
+    let root = std::path::Path::new(env!("CARGO_MANIFEST_DIR")).join("../..");
+    println!("cargo:rustc-link-search=native={}", root.join("target/staticlib").display());
+    println!("cargo:rustc-link-lib=static=exports");
+}

@@ -1,0 +1,4 @@
+pub mod LengthLaws
+pub mod LimitLaws
+pub mod StoreLaws
+pub mod AheadLaws
