@@ -13,7 +13,7 @@ from concurrent.futures import ThreadPoolExecutor
 from generator import file_of, is_long, model_of, pick, with_horizon
 
 os.environ["SYSTEMC_DISABLE_COPYRIGHT_MESSAGE"] = "1"
-SHORT, LONG = 300, 2300
+SHORT, LONG = 300, 3300
 KINDS = ["ended", "overrun", "ready", "wait"]
 
 
@@ -42,33 +42,30 @@ class Runs:
     def __init__(self, scplain, seed):
         self.scplain, self.seed, self.seen = scplain, seed, Counter()
 
-    def run(self, file, budget, counted=True):
+    def run(self, file, budget):
         out = sheet([self.scplain, "-o", "-b", str(budget)], file)
         lines = [x.split() for x in out.splitlines()]
-        n = next(int(x[1]) for x in lines if x[0] == "n")
-        records = [x for x in lines if x[0] == "t"]
-        if counted:
-            spent = out.endswith("spent\n")
-            self.seen.update({"runs": 1, "segments": n, "runs spent": spent, "runs done": not spent})
-            self.seen.update("records " + x[3] for x in records)
-        return n, [int(x[-2]) for x in records]
+        return lines, next(int(x[1]) for x in lines if x[0] == "n"), [x for x in lines if x[0] == "t"]
 
-    def at_horizon(self, file, h, most):
-        if 1 <= h <= 1000000000:
-            x = with_horizon(file, h)
-            self.run(x, most)
-            self.run(x, pick(self.seed, 9, most))
+    def count(self, file, budget):
+        lines, n, records = self.run(file, budget)
+        spent = lines[-1] == ["spent"]
+        self.seen.update({"runs": 1, "segments": n, "runs spent": spent, "runs done": not spent})
+        self.seen.update("records " + x[3] for x in records)
 
     def all(self):
-        file = file_of(model_of(self.seed))
-        most = LONG if is_long(self.seed) else SHORT
-        n, times = self.run(file, most)
-        budgets = [max(n - 1, 0), n, pick(self.seed, 7, n)]
-        for b in budgets + ([0, 1, n + 1] if most == SHORT else []):
-            self.run(file, b)
-        h = times[pick(self.seed, 8, len(times))]
-        for x in [max(h - 1, 0), h] + ([h + 1, 1] if most == SHORT else []):
-            self.at_horizon(file, x, most)
+        seed, model = self.seed, model_of(self.seed)
+        file = file_of(model)
+        most = LONG if is_long(seed) else SHORT
+        _, n, records = self.run(file, most)
+        time = int(records[pick(seed, 8, len(records))][-2])
+        budgets = [most, max(n - 1, 0), n, pick(seed, 3, n), n + 1, 1, 0, pick(seed, 7, most)]
+        for b in budgets:
+            self.count(file, b)
+        for i, h in enumerate([time - 1, time, time + 1, 1]):
+            x = with_horizon(file, min(max(h, 1), 1000000000))
+            self.count(x, most)
+            self.count(x, pick(seed, 9 + 2 * i, most))
         return self.seen
 
 

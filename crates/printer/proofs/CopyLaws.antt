@@ -7,19 +7,15 @@ use native.Mathlib.Numerals.{add-one}
 use native.Mathlib.Omega.{arith}
 use lib.Dec.{leb, leb→le}
 use lib.ListN.{length, getD, take, drop, set}
-use lib.Seq.{length-take-le, drop-cons, take-suc, set-at}
+use lib.Seq.{length-take-le, take-length, drop-cons, take-suc, set-at}
 use borrow.Author.Tests.{le-leb, lt-leb}
 use Rattle.base.proofs.BoolLaws.{cond-case}
 use Rattle.sheet.specs.Sheet.{sheetIn, bytesIn}
 
 -- no room: nothing is written
-pub copied-short :
-    (text out : List ℕ) (n : ℕ) → n ≤ length text → length out < n →
-    (0 ≡ bytesIn (take n text) out) × (out ≡ sheetIn (take n text) out)
+pub copied-short : (text out : List ℕ) → length out < length text → (0 ≡ bytesIn text out) × (out ≡ sheetIn text out)
 unfolding sheetIn bytesIn
-copied-short text out n h g =
-    let e : length (take n text) ≡ n = length-take-le n text h in
-    (rw (e, lt-leb n (length out) g) refl, rw (e, lt-leb n (length out) g) refl)
+copied-short text out g = (rw (lt-leb (length text) (length out) g) refl, rw (lt-leb (length text) (length out) g) refl)
 
 -- one byte more
 pub copied-more :
@@ -32,13 +28,11 @@ copied-more text out i h g =
 
 -- all of them
 pub copied-all :
-    (text out end : List ℕ) (n i : ℕ) → n ≤ length text → n ≤ length out → i ≤ n → n ≤ i → end ≡ take i text ++ drop i out →
-    (n ≡ bytesIn (take n text) out) × (end ≡ sheetIn (take n text) out)
+    (text out end : List ℕ) (i : ℕ) → length text ≤ length out → i ≡ length text → end ≡ take i text ++ drop i out →
+    (i ≡ bytesIn text out) × (end ≡ sheetIn text out)
 unfolding sheetIn bytesIn
-copied-all text out end n i h g l m p =
-    let e : length (take n text) ≡ n = length-take-le n text h in
-    let q : i ≡ n = omega arith in
-    (rw (e, le-leb n (length out) g) refl, p ∙ rw (q, e, le-leb n (length out) g) refl)
+copied-all text out end i g e p =
+    (rw (le-leb (length text) (length out) g) e, p ∙ rw (e, take-length text, le-leb (length text) (length out) g) refl)
 
 -- the bytes that are the text are bytes of the buffer
 pub bytesIn-within : (text out : List ℕ) → bytesIn text out ≤ length out

@@ -8,7 +8,7 @@ use plain::PlainRun;
 ghost use Prim.Native.Nat.{_+_, _<_, _≤_, min};
 ghost use mathlib.Core.Path.{_≡_};
 ghost use mathlib.Core.List.{[], _∷_};
-ghost use lib.ListN.{length, take};
+ghost use lib.ListN.{length};
 ghost use Rattle.sheet.specs.Digits.{digitsOf};
 ghost use Rattle.sheet.specs.Sheet.{restOf, cycleWords, stateWords, vLine, tLine, nLine, spentLine, refusedLine, vLines, tLines, runSheet, sheetOf, sheetIn, bytesIn, longestSheet};
 ghost use Rattle.printer.specs.Put.{Puts};
@@ -45,23 +45,21 @@ fn digit(d: u64) -> u8
     48 + d as u8
 }
 
-// One byte, where there is room. Each function below answers where the next byte goes.
-fn put_byte(out: &mut [u8], at: usize, byte: u8) -> usize
-    requires { ⌜ at ≤ length (now out) ⌝ }
+// One byte, where there is room. Each function below writes from a place on, as far as there is room, and answers where the next byte goes.
+pub fn put_byte(out: &mut [u8], at: usize, byte: u8) -> usize
     ensures { λ r. ⌜ Puts (now (out .entry)) at (now (out .exit)) r (byte ∷ []) ⌝ }
 {
     if at < out.len() {
         out[at] = byte;
         return at + 1;
     }
-    at
+    out.len()
 }
 
-fn put_word(out: &mut [u8], at: usize, word: &[u8]) -> usize
-    requires { ⌜ at ≤ length (now out) ⌝ }
+pub fn put_word(out: &mut [u8], at: usize, word: &[u8]) -> usize
     ensures { λ r. ⌜ Puts (now (out .entry)) at (now (out .exit)) r (now (word .entry)) ⌝ }
 {
-    let mut to = at;
+    let mut to = least(at, out.len());
     let mut i = 0;
     while i < word.len() {
         to = put_byte(out, to, word[i]);
@@ -72,7 +70,6 @@ fn put_word(out: &mut [u8], at: usize, word: &[u8]) -> usize
 
 // The digits of n / 10, then the last digit.
 fn put_digits(out: &mut [u8], at: usize, n: u64) -> usize
-    requires { ⌜ at ≤ length (now out) ⌝ }
     ensures { λ r. ⌜ Puts (now (out .entry)) at (now (out .exit)) r (digitsOf n) ⌝ }
 {
     if n < 10 {
@@ -83,8 +80,7 @@ fn put_digits(out: &mut [u8], at: usize, n: u64) -> usize
 }
 
 // A further word that is a number: a space before it. From here on each contract also bounds what is written.
-fn put_number(out: &mut [u8], at: usize, n: u64) -> usize
-    requires { ⌜ at ≤ length (now out) ⌝ }
+pub fn put_number(out: &mut [u8], at: usize, n: u64) -> usize
     ensures { λ r. ⌜ Puts (now (out .entry)) at (now (out .exit)) r (32 ∷ digitsOf n) × (r ≤ at + 21) ⌝ }
 {
     let a = put_byte(out, at, b' ');
@@ -92,8 +88,7 @@ fn put_number(out: &mut [u8], at: usize, n: u64) -> usize
 }
 
 // A cycle, to the end of its line.
-fn put_cycle(out: &mut [u8], at: usize, c: Cycle) -> usize
-    requires { ⌜ at ≤ length (now out) ⌝ }
+pub fn put_cycle(out: &mut [u8], at: usize, c: Cycle) -> usize
     ensures { λ r. ⌜ Puts (now (out .entry)) at (now (out .exit)) r (restOf (cycleWords c)) × (r ≤ at + 43) ⌝ }
 {
     let time = c.time.0;
@@ -105,7 +100,6 @@ fn put_cycle(out: &mut [u8], at: usize, c: Cycle) -> usize
 
 // A state, to the end of its line. Document 01: "for wait: event, cycle begun".
 fn put_state(out: &mut [u8], at: usize, s: State) -> usize
-    requires { ⌜ at ≤ length (now out) ⌝ }
     ensures { λ r. ⌜ Puts (now (out .entry)) at (now (out .exit)) r (restOf (stateWords s)) × (r ≤ at + 69) ⌝ }
 {
     match s {
@@ -131,7 +125,6 @@ fn put_state(out: &mut [u8], at: usize, s: State) -> usize
 
 // Document 01: "v: variable, value".
 fn put_v_line(out: &mut [u8], at: usize, i: u64, x: u64) -> usize
-    requires { ⌜ at ≤ length (now out) ⌝ }
     ensures { λ r. ⌜ Puts (now (out .entry)) at (now (out .exit)) r (vLine i x) × (r ≤ at + 44) ⌝ }
 {
     let a = put_byte(out, at, b'v');
@@ -142,7 +135,6 @@ fn put_v_line(out: &mut [u8], at: usize, i: u64, x: u64) -> usize
 
 // Document 01: "t: thread, segment, state, then the cycle".
 fn put_t_line(out: &mut [u8], at: usize, k: u64, x: Thread) -> usize
-    requires { ⌜ at ≤ length (now out) ⌝ }
     ensures { λ r. ⌜ Puts (now (out .entry)) at (now (out .exit)) r (tLine k x) × (r ≤ at + 112) ⌝ }
 {
     let segment = long_byte(x.segment);
@@ -154,12 +146,11 @@ fn put_t_line(out: &mut [u8], at: usize, k: u64, x: Thread) -> usize
 }
 
 // The lines of the variables, lowest number first.
-fn put_v_lines(out: &mut [u8], at: usize, v: u8, xs: Variables) -> usize
-    requires { ⌜ at ≤ length (now out) ⌝ }
+pub fn put_v_lines(out: &mut [u8], at: usize, v: u8, xs: Variables) -> usize
     ensures { λ r. ⌜ Puts (now (out .entry)) at (now (out .exit)) r (vLines (min v 64) (xs .at)) × (r ≤ at + 2816) ⌝ }
 {
     let n = least(wide(v), 64);
-    let mut to = at;
+    let mut to = least(at, out.len());
     let mut i = 0;
     while i < n {
         let x = xs.at[i];
@@ -170,12 +161,11 @@ fn put_v_lines(out: &mut [u8], at: usize, v: u8, xs: Variables) -> usize
 }
 
 // The lines of the threads, lowest number first.
-fn put_t_lines(out: &mut [u8], at: usize, t: u8, xs: Threads) -> usize
-    requires { ⌜ at ≤ length (now out) ⌝ }
+pub fn put_t_lines(out: &mut [u8], at: usize, t: u8, xs: Threads) -> usize
     ensures { λ r. ⌜ Puts (now (out .entry)) at (now (out .exit)) r (tLines (min t 32) (xs .at)) × (r ≤ at + 3584) ⌝ }
 {
     let n = least(wide(t), 32);
-    let mut to = at;
+    let mut to = least(at, out.len());
     let mut k = 0;
     while k < n {
         let x = xs.at[k];
@@ -187,7 +177,6 @@ fn put_t_lines(out: &mut [u8], at: usize, t: u8, xs: Threads) -> usize
 
 // Document 01: "n: segments run".
 fn put_n_line(out: &mut [u8], at: usize, n: u64) -> usize
-    requires { ⌜ at ≤ length (now out) ⌝ }
     ensures { λ r. ⌜ Puts (now (out .entry)) at (now (out .exit)) r (nLine n) × (r ≤ at + 23) ⌝ }
 {
     let a = put_byte(out, at, b'n');
@@ -208,7 +197,6 @@ fn put_spent(out: &mut [u8], at: usize, spent: bool) -> usize
 
 // Document 01: "A refused file prints only `refused` and its number".
 fn put_refused(out: &mut [u8], at: usize, number: u8) -> usize
-    requires { ⌜ at ≤ length (now out) ⌝ }
     ensures { λ r. ⌜ Puts (now (out .entry)) at (now (out .exit)) r (refusedLine number) × (r ≤ at + 29) ⌝ }
 {
     let a = put_word(out, at, b"refused");
@@ -236,20 +224,19 @@ fn put_sheet(out: &mut [u8], v: u8, t: u8, run: PlainRun) -> usize
     put_refused(out, 0, run.number)
 }
 
-// The first n bytes of a text at the front of out, if there is room for all of them.
-fn copy_in(text: &[u8], n: usize, out: &mut [u8]) -> usize
-    requires { ⌜ n ≤ length (now text) ⌝ }
-    ensures { λ r. ⌜ (r ≡ bytesIn (take n (now (text .entry))) (now (out .entry))) × (now (out .exit) ≡ sheetIn (take n (now (text .entry))) (now (out .entry))) ⌝ }
+// A text at the front of out, if there is room for all of it; its length in bytes. Else 0, and nothing is written.
+pub fn copy_in(text: &[u8], out: &mut [u8]) -> usize
+    ensures { λ r. ⌜ (r ≡ bytesIn (now (text .entry)) (now (out .entry))) × (now (out .exit) ≡ sheetIn (now (text .entry)) (now (out .entry))) ⌝ }
 {
-    if out.len() < n {
+    if out.len() < text.len() {
         return 0;
     }
     let mut i = 0;
-    while i < n {
+    while i < text.len() {
         out[i] = text[i];
         i += 1;
     }
-    n
+    i
 }
 
 // The sheet of a plain run of a model with v variables and t threads, at the front of out; its length in bytes.
@@ -260,7 +247,7 @@ pub fn sheet(v: u8, t: u8, run: PlainRun, out: &mut [u8]) -> usize
 {
     let mut text = [0u8; 8192];
     let n = put_sheet(&mut text, v, t, run);
-    copy_in(&text, n, out)
+    copy_in(&text[..n], out)
 }
 
 // The sheet of a file that the reader refuses, in the same way.
@@ -270,5 +257,5 @@ pub fn refusal(number: u8, out: &mut [u8]) -> usize
 {
     let mut text = [0u8; 8192];
     let n = put_refused(&mut text, 0, number);
-    copy_in(&text, n, out)
+    copy_in(&text[..n], out)
 }

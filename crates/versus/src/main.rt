@@ -1,245 +1,230 @@
-// The plain run against a second simulator: model M, cases 2 and 3, examples of the source documents, and generated models.
-// It prints the sheets of the first and the counts of the last; every difference is a line of its own, and the last line counts them.
-mod build;
+// The plain run against a second simulator: stored models (model M, cases 2 and 3, examples of the source documents), whose sheets
+// are written, and generated ones. The counts follow; every difference is a line of its own, with the seed and what differs first.
 mod compare;
-mod generate;
+mod draw;
 mod number;
-mod papers;
 mod print;
 mod second;
 
+use libc::STDIN_FILENO;
 use model::Model;
 use second::Outcome;
-use second::Record;
+ghost use Prim.Native.Nat.{_≤_};
 
 // The first seed, and how many models.
 const SEED: u64 = 24000;
 
 const MODELS: u64 = 2400;
 
-// The largest budget of a run, where it is not a long one and where it is.
-const SHORT: u64 = 300;
+// Places of the counts.
+const OF_MODELS: usize = 0;
 
-const LONG: u64 = 2300;
+const REFUSALS: usize = 1;
 
-struct Totals {
-    bad: u64,
-    refusals: u64,
-    runs: u64,
-    segments: u64,
-    heard: u64,
-    spent: u64,
-    done: u64,
-    ended: u64,
-    overrun: u64,
-    ready: u64,
-    waiting: u64,
-    differences: u64,
-}
+const RUNS: usize = 2;
 
-fn no_totals() -> Totals {
-    Totals {
-        bad: 0,
-        refusals: 0,
-        runs: 0,
-        segments: 0,
-        heard: 0,
-        spent: 0,
-        done: 0,
-        ended: 0,
-        overrun: 0,
-        ready: 0,
-        waiting: 0,
-        differences: 0,
+const SEGMENTS: usize = 3;
+
+const DONE: usize = 4;
+
+const SPENT: usize = 5;
+
+const RECORDS: usize = 6;
+
+const DIFFERENCES: usize = 10;
+
+fn add(totals: &mut [u64; 11], i: usize, x: u64) {
+    if i < 11 {
+        totals[i] = number::sum(totals[i], x);
     }
 }
 
-fn counted_record(totals: Totals, r: Record) -> Totals {
-    let mut a = totals;
-    let kind = r.kind;
-    match kind {
-        0 => a.ended = number::more(a.ended),
-        1 => a.overrun = number::more(a.overrun),
-        2 => a.ready = number::more(a.ready),
-        _ => a.waiting = number::more(a.waiting),
-    }
-    a
-}
-
-fn counted(totals: Totals, t: usize, o: Outcome) -> Totals {
-    let mut a = totals;
-    a.runs = number::more(a.runs);
-    a.segments = std::num::wrapping_add_u64(a.segments, o.n);
-    a.heard = std::num::wrapping_add_u64(a.heard, o.heard);
-    if o.spent {
-        a.spent = number::more(a.spent);
-    } else {
-        a.done = number::more(a.done);
-    }
-    let mut k = 0;
+fn count(totals: &mut [u64; 11], o: Outcome) {
+    add(totals, RUNS, 1);
+    add(totals, SEGMENTS, o.n);
+    add(totals, if o.spent { SPENT } else { DONE }, 1);
+    let t = o.t;
+    let mut k: u64 = 0;
     while k < t {
         if 32 <= k {
-            return a;
+            return;
         }
-        let r = o.records[k];
-        a = counted_record(a, r);
+        let r = o.records[number::place(k)];
+        add(totals, RECORDS + number::place(r % 4), 1);
         k += 1;
     }
-    a
+}
+
+fn smaller(a: usize, b: usize) -> usize
+    ensures { λ r. ⌜ r ≤ b ⌝ }
+{
+    if a < b { a } else { b }
+}
+
+// The model in the first n bytes.
+fn model_in(file: &[u8], n: usize) -> Model {
+    let k = smaller(n, file.len());
+    let x = parser::read_file(&file[..k]);
+    x.model
 }
 
 // One run of both.
-fn held_together(totals: Totals, seed: u64, m: Model, budget: u64) -> Totals {
-    let t = number::index(m.t);
-    let o = second::simulate(m, budget);
-    let r = runner::plain_run(m, budget);
-    let d = compare::compared(t, r, o);
-    let mut a = counted(totals, t, o);
+fn hold(totals: &mut [u64; 11], seed: u64, file: &[u8], size: usize, budget: u64) {
+    let o = second::simulate(file, budget);
+    let d = compare::compared(0, runner::plain_run(model_in(file, size), budget), o);
+    count(totals, o);
     if d.kind != compare::NOTHING {
-        let h = m.horizon;
-        print::difference(seed, h.0, budget, d);
-        a.differences = number::more(a.differences);
+        print::difference(seed, second::field(file, 4, 4), budget, d);
+        add(totals, DIFFERENCES, 1);
     }
-    a
 }
 
-// Budgets inside and at the end of the run: none, one, one less than it takes, as many, one more, and one of those between.
-fn at_budgets(totals: Totals, seed: u64, m: Model, most: u64) -> Totals {
-    let o = second::simulate(m, most);
-    let n = o.n;
-    let mut a = held_together(totals, seed, m, most);
-    a = held_together(a, seed, m, number::less(n));
-    a = held_together(a, seed, m, n);
-    a = held_together(a, seed, m, generate::pick(seed, 7, n));
-    if most == SHORT {
-        a = held_together(a, seed, m, 0);
-        a = held_together(a, seed, m, 1);
-        a = held_together(a, seed, m, number::more(n));
+// Budgets inside and at the end of a run of n segments.
+fn budget(i: u64, seed: u64, n: u64, most: u64) -> u64 {
+    match i {
+        1 => number::less(n),
+        2 => n,
+        3 => draw::pick(seed, i, n),
+        4 => number::sum(n, 1),
+        5 => 1,
+        6 => 0,
+        7 | 9 | 11 | 13 | 15 => draw::pick(seed, i, most),
+        _ => most,
     }
-    a
 }
 
-// The time of a thread's record, as a horizon.
-fn edge(seed: u64, m: Model, most: u64) -> u64 {
-    let o = second::simulate(m, most);
-    let k = number::place(generate::pick(seed, 8, number::byte(m.t)));
-    if 32 <= k {
+// The model's own horizon, and those around a thread's time.
+fn horizon(i: u64, own: u64, time: u64) -> u64 {
+    let h = match i / 2 {
+        0 | 1 | 2 | 3 => own,
+        4 => number::less(time),
+        5 => time,
+        6 => number::sum(time, 1),
+        _ => 1,
+    };
+    if h == 0 {
         return 1;
     }
-    let r = o.records[k];
-    r.key / 1024
+    if 1000000000 < h {
+        return 1000000000;
+    }
+    h
 }
 
-fn at_horizon(totals: Totals, seed: u64, m: Model, h: u64, most: u64) -> Totals {
-    if h < 1 {
-        return totals;
+// A model at its horizons and budgets.
+fn hold_all(totals: &mut [u64; 11], seed: u64, file: &mut [u8; 16384], size: usize, most: u64) {
+    let o = second::simulate(file, most);
+    let own = second::field(file, 4, 4);
+    let k = number::place(draw::pick(seed, 8, o.t) % 32);
+    let time = o.records[k] / 268435456;
+    let mut i: u64 = 0;
+    while i < 16 {
+        draw::put(file, 4, 4, horizon(i, own, time));
+        hold(totals, seed, file, size, budget(i, seed, o.n, most));
+        i += 1;
     }
-    if 1000000000 < h {
-        return totals;
-    }
-    let x = build::with_horizon(m, h);
-    let a = held_together(totals, seed, x, most);
-    held_together(a, seed, x, generate::pick(seed, 9, most))
+    add(totals, OF_MODELS, 1);
 }
 
 // A model against the file rules, by its counts: 11, and nothing run.
-fn refused(totals: Totals, seed: u64, m: Model) -> Totals {
-    let mut x = m;
-    match seed % 6 {
+fn refuse(totals: &mut [u64; 11], seed: u64, file: &[u8; 16384], size: usize) {
+    let mut x = model_in(file, size);
+    match seed % 5 {
         0 => x.t = 0,
         1 => x.t = 33,
         2 => x.n = 0,
         3 => x.v = 65,
-        4 => x.e = 33,
-        _ => x = build::with_horizon(m, 0),
+        _ => x.e = 33,
     }
-    let mut a = totals;
-    if compare::is_refusal(runner::plain_run(x, SHORT)) {
-        a.refusals = number::more(a.refusals);
-        return a;
+    let o = Outcome {
+        cells: [0u64; 96],
+        records: [0u64; 32],
+        t: 0,
+        n: 0,
+        spent: false,
+    };
+    let d = compare::compared(11, runner::plain_run(x, 300), o);
+    if d.kind == compare::NOTHING {
+        add(totals, REFUSALS, 1);
+        return;
     }
-    print::line(b"not refused, seed", seed);
-    a.differences = number::more(a.differences);
-    a
+    print::difference(seed, 0, 300, d);
+    add(totals, DIFFERENCES, 1);
 }
 
-fn one_model(totals: Totals, seed: u64) -> Totals {
-    let m = generate::model_of(seed);
-    let fault = rules::model_fault(m);
-    if fault != 0 {
-        print::line(b"bad model, seed", seed);
-        let mut b = totals;
-        b.bad = number::more(b.bad);
-        return b;
-    }
-    let most = if generate::is_long(seed) { LONG } else { SHORT };
-    let mut a = at_budgets(totals, seed, m, most);
-    let h = edge(seed, m, most);
-    a = at_horizon(a, seed, m, number::less(h), most);
-    a = at_horizon(a, seed, m, h, most);
-    if most == SHORT {
-        a = at_horizon(a, seed, m, number::more(h), most);
-        a = at_horizon(a, seed, m, 1, most);
-    }
-    refused(a, seed, m)
+fn hold_drawn(totals: &mut [u64; 11], seed: u64) {
+    let mut file = [0u8; 16384];
+    let size = number::place(draw::model_of(seed, &mut file));
+    let most = if draw::is_long(seed) { 3300 } else { 300 };
+    hold_all(totals, seed, &mut file, size, most);
+    refuse(totals, seed, &file, size);
 }
 
-fn all_models() -> Totals {
-    let mut a = no_totals();
+fn all_drawn() {
+    let mut totals = [0u64; 11];
     let mut i: u64 = 0;
     while i < MODELS {
-        a = one_model(a, SEED + i);
+        hold_drawn(&mut totals, SEED + i);
         i += 1;
     }
-    a
+    print::counts(&totals);
 }
 
-// The sheet of a model, and both simulators on it.
-fn shown(totals: Totals, name: &[u8], m: Model) -> Totals {
-    print::text(name);
-    print::text(b"\n");
-    print::sheet(m.v, m.t, runner::plain_run(m, 1000000));
-    let a = held_together(totals, 0, m, 1000000);
-    at_budgets(a, 0, m, SHORT)
+// Reads n bytes to the front of the buffer, and answers how many came.
+fn read_part(buffer: &mut [u8], n: usize) -> usize {
+    if buffer.len() < n {
+        return 0;
+    }
+    io::read_full(STDIN_FILENO, &mut buffer[..n])
 }
 
-fn all_shown() -> Totals {
-    let mut a = no_totals();
-    a = shown(a, b"Model M", papers::model_m(1261));
-    a = shown(a, b"Case 2", papers::model_m(1251));
-    a = shown(a, b"Case 3", papers::model_m(1250));
-    a = shown(a, b"Document 000, Fig. 1", papers::dvd_player());
-    a = shown(a, b"Document 000, Fig. 4", papers::two_behaviours());
-    a = shown(a, b"Document 000, Fig. 5", papers::two_writes());
-    a = shown(a, b"Document 001, Fig. 1", papers::manager_and_workers());
-    a = shown(
-        a,
-        b"Document 002, Fig. 1, writer first",
-        papers::atomic(0, 1),
-    );
-    shown(
-        a,
-        b"Document 002, Fig. 1, reader first",
-        papers::atomic(1, 0),
-    )
+// The next part of the input: two bytes that say its length, and its bytes. 0 at the end.
+fn next_part(buffer: &mut [u8]) -> usize {
+    let mut head = [0u8; 2];
+    if io::read_full(STDIN_FILENO, &mut head) < 2 {
+        return 0;
+    }
+    read_part(buffer, number::place(second::field(&head, 0, 2)))
+}
+
+fn write_part(buffer: &[u8], n: usize) {
+    if n <= buffer.len() {
+        print::text(&buffer[..n]);
+    }
+}
+
+// The sheet of a stored model.
+fn write_sheet(file: &[u8], n: usize) {
+    let m = model_in(file, n);
+    let mut out = [0u8; 8192];
+    let size = printer::sheet(m.v, m.t, runner::plain_run(m, 1000000), &mut out);
+    write_part(&out, size);
+}
+
+// A name and a model; whether there was one.
+fn hold_next(totals: &mut [u64; 11]) -> bool {
+    let mut file = [0u8; 16384];
+    let n = next_part(&mut file);
+    if n == 0 {
+        return false;
+    }
+    write_part(&file, n);
+    let size = next_part(&mut file);
+    write_sheet(&file, size);
+    hold_all(totals, 0, &mut file, size, 1000000);
+    true
+}
+
+fn all_stored() {
+    let mut totals = [0u64; 11];
+    let mut turns: u64 = 1000;
+    while 0 < turns && hold_next(&mut totals) {
+        turns -= 1;
+    }
+    print::counts(&totals);
 }
 
 fn main() {
-    let a = all_shown();
-    print::line(b"runs of these", a.runs);
-    print::line(b"differences", a.differences);
-    let b = all_models();
-    print::line(b"generated models", MODELS);
-    print::line(b"bad models", b.bad);
-    print::line(b"refusals", b.refusals);
-    print::line(b"runs", b.runs);
-    print::line(b"segments", b.segments);
-    print::line(b"events heard", b.heard);
-    print::line(b"runs done", b.done);
-    print::line(b"runs spent", b.spent);
-    print::line(b"records ended", b.ended);
-    print::line(b"records overrun", b.overrun);
-    print::line(b"records ready", b.ready);
-    print::line(b"records waiting", b.waiting);
-    print::line(b"differences", b.differences);
+    all_stored();
+    all_drawn();
 }

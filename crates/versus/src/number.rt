@@ -1,25 +1,14 @@
-// Numbers in wider types.
+// Numbers in wider types, and sums at their edges.
 ghost use mathlib.Core.Path.{_≡_};
+ghost use Prim.Native.Nat.{_<_};
 
-pub fn index(x: u8) -> usize
-    ensures { λ r. ⌜ r ≡ x ⌝ }
-{
-    x as usize
-}
-
-pub fn byte(x: u8) -> u64
-    ensures { λ r. ⌜ r ≡ x ⌝ }
+pub fn wide(x: u8) -> u64
+    ensures { λ r. ⌜ (r ≡ x) × (r < 256) ⌝ }
 {
     x as u64
 }
 
 pub fn word(x: u32) -> u64
-    ensures { λ r. ⌜ r ≡ x ⌝ }
-{
-    x as u64
-}
-
-pub fn size(x: usize) -> u64
     ensures { λ r. ⌜ r ≡ x ⌝ }
 {
     x as u64
@@ -31,8 +20,8 @@ pub fn place(x: u64) -> usize
     x as usize
 }
 
-pub fn more(x: u64) -> u64 {
-    std::num::wrapping_add_u64(x, 1)
+pub fn sum(x: u64, y: u64) -> u64 {
+    std::num::wrapping_add_u64(x, y)
 }
 
 pub fn less(x: u64) -> u64 {

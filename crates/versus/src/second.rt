@@ -1,464 +1,298 @@
-// A second simulator of the plain run, written anew from document 01: an agenda of activations kept sorted by time, delta and thread,
-// and a list of waiting threads for each event. It shares the model's values with the plain run, and no code.
-// A cycle is one key, time × 1,024 + delta; an activation is key × 32 + thread.
-use model::Closer;
-use model::Model;
-use model::Next;
-use model::Op;
-use model::Segment;
-ghost use mathlib.Core.Path.{_≡_};
+// A second simulator of the plain run, written anew from document 01: an agenda of activations, kept sorted by time, delta and thread.
+// It works on the bytes of an accepted model file, and shares no code with the reader and the plain run.
+// A cycle is one key, time × 1,024 + delta. An activation is key × 32 + thread; that of a waiting thread stands above all others, by event.
+use crate::number;
 
-pub const ENDED: u8 = 0;
+pub const ENDED: u64 = 0;
 
-pub const OVERRUN: u8 = 1;
+pub const OVERRUN: u64 = 1;
 
-pub const READY: u8 = 2;
+pub const READY: u64 = 2;
 
-pub const WAITING: u8 = 3;
+pub const WAITING: u64 = 3;
 
-// No activation, and no cycle: above every key that can occur.
+// No activation: the thread has ended or is overrun.
 const NEVER: u64 = 18446744073709551615;
 
-// Keys stay below: times are less than 2,000,000,000.
-const KEYS: u64 = 17592186044416;
+const WAITS: u64 = 1125899906842624;
 
-// A thread record: its kind is one of the four states; the event is 0 in any but a waiting one.
-pub struct Record {
-    pub segment: u8,
-    pub kind: u8,
-    pub event: u8,
-    pub key: u64,
-}
-
+// Cells 0 to 63 hold the variables, cells 64 to 95 for each event one more than the key of the cycle that notified it last.
 pub struct Outcome {
-    pub variables: [u32; 64],
-    pub records: [Record; 32],
+    pub cells: [u64; 96],
+    pub records: [u64; 32],
+    pub t: u64,
     pub n: u64,
     pub spent: bool,
-    // threads that heard an event, those that overran on it included
-    pub heard: u64,
 }
 
-struct World {
-    variables: [u32; 64],
-    records: [Record; 32],
-    // the first `due` entries, the soonest last
-    agenda: [u64; 32],
-    due: usize,
-    // for each event its first waiting thread, for each thread the one behind it; numbers from 1, 0 for none
-    first: [u8; 32],
-    behind: [u8; 32],
-    // events notified in this cycle
-    called: [bool; 32],
-    heard: u64,
+// A thread record in one word.
+pub fn record(kind: u64, segment: u64, event: u64, key: u64) -> u64 {
+    kind % 4 + segment % 256 * 4 + event % 256 * 1024 + key % 4398046511104 * 262144
 }
 
-fn wide(x: u8) -> usize
-    ensures { λ r. ⌜ r ≡ x ⌝ }
-{
-    x as usize
-}
-
-fn word(x: u32) -> u64
-    ensures { λ r. ⌜ r ≡ x ⌝ }
-{
-    x as u64
-}
-
-fn index(x: u32) -> usize {
-    x as usize
-}
-
-fn narrow(x: usize) -> u8 {
-    (x % 256) as u8
-}
-
-// "Sums and differences are taken modulo 4,294,967,296."
-fn sum(x: u32, y: u32) -> u32 {
-    ((word(x) + word(y)) % 4294967296) as u32
-}
-
-fn difference(x: u32, y: u32) -> u32 {
-    ((word(x) + 4294967296 - word(y)) % 4294967296) as u32
-}
-
-fn look(v: &[u32; 64], a: usize) -> u32 {
-    if a < 64 {
-        return v[a];
+fn byte(file: &[u8], i: u64) -> u64 {
+    let k = number::place(i);
+    if k < file.len() {
+        return number::wide(file[k]);
     }
     0
 }
 
-fn assign(v: &mut [u32; 64], a: usize, x: u32) {
-    if a < 64 {
-        v[a] = x;
+// A number of so many bytes, lowest first.
+pub fn field(file: &[u8], i: u64, size: u64) -> u64 {
+    let mut x = 0;
+    let mut n = size;
+    while 0 < n {
+        n -= 1;
+        x = number::sum(x % 281474976710656 * 256, byte(file, number::sum(i, n)));
+    }
+    x
+}
+
+fn cell(cells: &[u64; 96], i: u64) -> u64 {
+    if i < 96 {
+        return cells[number::place(i)];
+    }
+    0
+}
+
+fn store(cells: &mut [u64; 96], i: u64, x: u64) {
+    if i < 96 {
+        cells[number::place(i)] = x;
     }
 }
 
-fn call(called: &mut [bool; 32], e: usize) {
-    if e < 32 {
-        called[e] = true;
-    }
-}
-
-// A statement: a variable is given a value, or an event is called.
-fn execute(op: Op, v: &mut [u32; 64], called: &mut [bool; 32]) {
+// What a variable is given: b, x the variable's own value, y that of variable b. "Sums and differences are taken modulo 4,294,967,296."
+fn value(op: u64, b: u64, x: u64, y: u64) -> u64 {
     match op {
-        Op::Set(a, b) => assign(v, wide(a), b),
-        Op::Add(a, b) => {
-            let x = look(v, wide(a));
-            assign(v, wide(a), sum(x, b));
-        }
-        Op::Copy(a, b) => {
-            let y = look(v, index(b));
-            assign(v, wide(a), y);
-        }
-        Op::AddVariable(a, b) => {
-            let x = look(v, wide(a));
-            let y = look(v, index(b));
-            assign(v, wide(a), sum(x, y));
-        }
-        Op::SubVariable(a, b) => {
-            let x = look(v, wide(a));
-            let y = look(v, index(b));
-            assign(v, wide(a), difference(x, y));
-        }
-        Op::Notify(e) => call(called, wide(e)),
+        1 => b,
+        2 => number::sum(x, b) % 4294967296,
+        3 => y,
+        4 => number::sum(x, y) % 4294967296,
+        _ => std::num::wrapping_sub_u64(x, y) % 4294967296,
     }
 }
 
-fn execute_all(g: Segment, v: &mut [u32; 64], called: &mut [bool; 32]) {
-    let count = g.n;
-    let n = wide(count);
-    let mut j = 0;
-    while j < n {
-        if 32 <= j {
-            return;
+// The statement at a place of the file.
+fn execute(file: &[u8], i: u64, now: u64, cells: &mut [u64; 96]) {
+    let op = byte(file, i);
+    let a = byte(file, number::sum(i, 1));
+    if op == 6 {
+        store(cells, number::sum(64, a), number::sum(now, 1));
+        return;
+    }
+    let b = field(file, number::sum(i, 2), 4);
+    let x = cell(cells, a);
+    let y = cell(cells, b);
+    store(cells, a, value(op, b, x, y));
+}
+
+fn execute_all(file: &[u8], first: u64, n: u64, now: u64, cells: &mut [u64; 96]) {
+    let mut i = first;
+    let mut left = n;
+    while 0 < left {
+        execute(file, i, now, cells);
+        i = number::sum(i, 6);
+        left -= 1;
+    }
+}
+
+// "The next segment is A if the variable is below the limit after the statements, else B." The closer stands at a place of the file.
+fn chosen(file: &[u8], closer: u64, cells: &[u64; 96]) -> u64 {
+    let test = byte(file, number::sum(closer, 8));
+    if test < 255 {
+        if field(file, number::sum(closer, 9), 4) <= cell(cells, test) {
+            return byte(file, number::sum(closer, 7));
         }
-        let x = g.statements[j];
-        let op = x.op;
-        execute(op, v, called);
-        j += 1;
     }
+    byte(file, number::sum(closer, 6))
 }
 
-// "The next segment is A if the variable is below the limit after the statements, else B."
-fn chosen(x: Next, v: [u32; 64]) -> u8 {
-    if x.test == 255 {
-        return x.a;
+// The record of a thread that goes on after so many units; overrun where its next delta would be 1,024.
+fn resumed(segment: u64, now: u64, units: u64) -> u64 {
+    if 0 < units {
+        return record(
+            READY,
+            segment,
+            0,
+            number::sum(now / 1024, units) % 4294967296 * 1024,
+        );
     }
-    if look(&v, wide(x.test)) < x.limit {
-        x.a
-    } else {
-        x.b
+    if now % 1024 == 1023 {
+        return record(OVERRUN, segment, 0, now);
     }
+    record(READY, segment, 0, number::sum(now, 1))
 }
 
-// The delta after a cycle; never where it would be 1,024.
-fn one_delta(key: u64) -> u64 {
-    if key % 1024 == 1023 {
-        return NEVER;
+// The record after the closer, of a thread that ran segment s and has the next to run.
+fn closed(file: &[u8], closer: u64, s: u64, next: u64, now: u64) -> u64 {
+    let kind = byte(file, closer);
+    if kind == 0 {
+        return record(ENDED, s, 0, now);
     }
-    if KEYS <= key {
-        return NEVER;
+    if kind == 2 {
+        return record(WAITING, next, byte(file, number::sum(closer, 1)), now);
     }
-    key + 1
+    resumed(next, now, field(file, number::sum(closer, 2), 4))
 }
 
-// The end of a wait of so many units begun at a cycle.
-fn after(key: u64, units: u32) -> u64 {
-    if units == 0 {
-        return one_delta(key);
+fn activation(x: u64, k: u64) -> u64 {
+    if x % 4 == READY {
+        return x / 262144 * 32 + k % 32;
     }
-    if KEYS <= key {
-        return NEVER;
+    if x % 4 == WAITING {
+        return WAITS + x / 1024 % 256 * 32 + k % 32;
     }
-    (key / 1024 + word(units)) * 1024
+    NEVER
 }
 
-fn activation(key: u64, k: usize) -> u64 {
-    if KEYS <= key {
-        return NEVER;
+fn drop_first(agenda: &mut [u64; 32]) {
+    let mut i = 0;
+    while i < 31 {
+        agenda[i] = agenda[i + 1];
+        i += 1;
     }
-    key * 32 + (k % 32) as u64
+    agenda[31] = NEVER;
 }
 
 // One activation more, in its place.
-fn scheduled(world: World, entry: u64) -> World {
-    let mut w = world;
-    let count = w.due;
-    if 32 <= count {
-        return w;
-    }
-    let mut i = count;
-    while 0 < i {
-        let before = w.agenda[i - 1];
-        if entry <= before {
-            break;
+fn insert(agenda: &mut [u64; 32], entry: u64) {
+    let mut x = entry;
+    let mut i = 0;
+    while i < 32 {
+        let y = agenda[i];
+        if x < y {
+            agenda[i] = x;
+            x = y;
         }
-        w.agenda[i] = before;
-        i -= 1;
+        i += 1;
     }
-    w.agenda[i] = entry;
-    w.due = count + 1;
-    w
 }
 
-// The soonest activation, or never.
-fn soonest(world: World) -> u64 {
-    let count = world.due;
-    if count == 0 {
-        return NEVER;
+// An activation after the cycle `now`: a thread that waits on an event notified in it goes on at the next delta.
+fn heard(x: u64, records: &mut [u64; 32], cells: &[u64; 96], now: u64) -> u64 {
+    if x < WAITS {
+        return x;
     }
-    if 32 < count {
-        return NEVER;
+    if cell(cells, number::sum(64, (x - WAITS) / 32)) != number::sum(now, 1) {
+        return x;
     }
-    world.agenda[count - 1]
+    let k = x % 32;
+    let r = resumed(records[number::place(k)] / 4 % 256, now, 0);
+    records[number::place(k)] = r;
+    activation(r, k)
 }
 
-fn without_soonest(world: World) -> World {
-    let mut w = world;
-    if 0 < w.due {
-        w.due = w.due - 1;
-    }
-    w
-}
-
-fn noted(world: World, k: usize, r: Record) -> World {
-    let mut w = world;
-    if k < 32 {
-        w.records[k] = r;
-    }
-    w
-}
-
-// Thread k ready, or overrun at `now` where there is no such cycle; it runs segment s next.
-fn resumed(world: World, k: usize, s: u8, key: u64, now: u64) -> World {
-    if key == NEVER {
-        return noted(
-            world,
-            k,
-            Record {
-                segment: s,
-                kind: OVERRUN,
-                event: 0,
-                key: now,
-            },
-        );
-    }
-    let w = noted(
-        world,
-        k,
-        Record {
-            segment: s,
-            kind: READY,
-            event: 0,
-            key,
-        },
-    );
-    scheduled(w, activation(key, k))
-}
-
-// Thread k at the front of an event's list.
-fn joined(world: World, e: usize, k: usize) -> World {
-    let mut w = world;
-    if 32 <= e {
-        return w;
-    }
-    if 32 <= k {
-        return w;
-    }
-    w.behind[k] = w.first[e];
-    w.first[e] = narrow(k + 1);
-    w
-}
-
-fn closed(world: World, k: usize, s: u8, closer: Closer, now: u64) -> World {
-    let v = world.variables;
-    match closer {
-        Closer::End => noted(
-            world,
-            k,
-            Record {
-                segment: s,
-                kind: ENDED,
-                event: 0,
-                key: now,
-            },
-        ),
-        Closer::Time(d, x) => resumed(world, k, chosen(x, v), after(now, d.0), now),
-        Closer::Event(e, x) => {
-            let w = noted(
-                world,
-                k,
-                Record {
-                    segment: chosen(x, v),
-                    kind: WAITING,
-                    event: e,
-                    key: now,
-                },
-            );
-            joined(w, wide(e), k)
+fn woken(agenda: [u64; 32], records: &mut [u64; 32], cells: &[u64; 96], now: u64) -> [u64; 32] {
+    let mut fresh = [NEVER; 32];
+    let mut i = 0;
+    while i < 32 {
+        let x = agenda[i];
+        if x == NEVER {
+            return fresh;
         }
+        insert(&mut fresh, heard(x, records, cells, now));
+        i += 1;
     }
+    fresh
 }
 
-// Thread k runs segment s whole.
-fn ran(world: World, k: usize, s: u8, g: Segment, now: u64) -> World {
-    let mut w = world;
-    let mut v = w.variables;
-    let mut called = w.called;
-    execute_all(g, &mut v, &mut called);
-    w.variables = v;
-    w.called = called;
-    let closer = g.closer;
-    closed(w, k, s, closer, now)
-}
-
-// A waiting thread hears its event, notified in the cycle `now`.
-fn hearing(world: World, k: usize, now: u64) -> World {
-    if 32 <= k {
-        return world;
-    }
-    let r = world.records[k];
-    let mut w = world;
-    w.heard = std::num::wrapping_add_u64(w.heard, 1);
-    resumed(w, k, r.segment, one_delta(now), now)
-}
-
-fn behind(world: World, k: usize) -> usize {
-    if k < 32 {
-        return wide(world.behind[k]);
-    }
-    0
-}
-
-// Every thread of an event's list hears it.
-fn emptied(world: World, e: usize, now: u64) -> World {
-    let mut w = world;
-    if 32 <= e {
-        return w;
-    }
-    let mut at = wide(w.first[e]);
-    let mut left: usize = 32;
+// The place of each segment's closer, and from 64 on that of each thread's first segment; the number of threads.
+fn survey(file: &[u8], places: &mut [u64; 96]) -> u64 {
+    let mut i = 10;
+    let mut n = 0;
+    let mut t = 0;
+    let mut left: u64 = 97;
     while 0 < left {
-        if at == 0 {
-            break;
+        let kind = byte(file, number::sum(i, 2));
+        if kind == 4 {
+            return t;
         }
-        let k = at - 1;
-        at = behind(w, k);
-        w = hearing(w, k, now);
+        if kind == 3 {
+            store(places, number::sum(64, t), number::sum(i, 4));
+            t = number::sum(t, 1);
+        } else {
+            store(places, n, number::sum(i, 4));
+            n = number::sum(n, 1);
+        }
+        i = number::sum(i, field(file, i, 2));
         left -= 1;
     }
-    w.first[e] = 0;
-    w
+    t
 }
 
-// The end of a cycle: all whose event was called in it become ready at the next delta.
-fn woken(world: World, now: u64) -> World {
-    let mut w = world;
-    let mut e = 0;
-    while e < 32 {
-        if w.called[e] {
-            w.called[e] = false;
-            w = emptied(w, e, now);
-        }
-        e += 1;
-    }
-    w
-}
-
-// "All threads start ready at (0, 0)", "Variables start at 0".
-fn opened(m: Model) -> World {
-    let none = Record {
-        segment: 0,
-        kind: ENDED,
-        event: 0,
-        key: 0,
-    };
-    let mut w = World {
-        variables: [0u32; 64],
-        records: [none; 32],
-        agenda: [0u64; 32],
-        due: 0,
-        first: [0u8; 32],
-        behind: [0u8; 32],
-        called: [false; 32],
-        heard: 0,
-    };
-    let count = m.t;
-    let t = wide(count);
-    let mut k = 0;
+// "All threads start ready at (0, 0)."
+fn start(file: &[u8], places: &[u64; 96], t: u64, records: &mut [u64; 32]) -> [u64; 32] {
+    let mut agenda = [NEVER; 32];
+    let mut k: u64 = 0;
     while k < t {
         if 32 <= k {
-            return w;
+            return agenda;
         }
-        let s = m.starts[k];
-        w = resumed(w, k, s.first, 0, 0);
+        let first = byte(file, cell(places, number::sum(64, k)));
+        records[number::place(k)] = record(READY, first, 0, 0);
+        insert(&mut agenda, k);
         k += 1;
     }
-    w
+    agenda
 }
 
-fn placed(world: World, k: usize) -> u8 {
-    if k < 32 {
-        let r = world.records[k];
-        return r.segment;
-    }
-    0
+// The soonest activation: its thread runs its segment whole, and is put on the agenda again.
+fn step(
+    file: &[u8],
+    places: &[u64; 96],
+    agenda: &mut [u64; 32],
+    records: &mut [u64; 32],
+    cells: &mut [u64; 96],
+    now: u64,
+) {
+    let k = agenda[0] % 32;
+    let s = records[number::place(k)] / 4 % 256;
+    let closer = cell(places, s);
+    let size = field(file, std::num::wrapping_sub_u64(closer, 4), 2);
+    let n = number::less(number::less(size / 6));
+    execute_all(file, number::sum(closer, 13), n, now, cells);
+    let r = closed(file, closer, s, chosen(file, closer, cells), now);
+    records[number::place(k)] = r;
+    drop_first(agenda);
+    insert(agenda, activation(r, k));
 }
 
-fn left_by(world: World, n: u64, spent: bool) -> Outcome {
-    let variables = world.variables;
-    let records = world.records;
-    Outcome {
-        variables,
-        records,
-        n,
-        spent,
-        heard: world.heard,
-    }
-}
-
-// The least key that is not run: that of (H, 0).
-fn end_of(h: u64) -> u64 {
-    if 1000000000 < h {
-        return 0;
-    }
-    h * 1024
-}
-
-// The run of a model that keeps the file rules, of at most so many segments.
-pub fn simulate(m: Model, budget: u64) -> Outcome {
-    let horizon = m.horizon;
-    let end = end_of(horizon.0);
-    let mut w = opened(m);
+// The run of an accepted file, of at most so many segments.
+pub fn simulate(file: &[u8], budget: u64) -> Outcome {
+    let end = field(file, 4, 4) % 4294967296 * 1024;
+    let mut places = [0u64; 96];
+    let t = survey(file, &mut places);
+    let mut records = [0u64; 32];
+    let mut agenda = start(file, &places, t, &mut records);
+    let mut cells = [0u64; 96];
     let mut now = 0;
     let mut left = budget;
-    let mut n = 0;
     loop {
-        let mut entry = soonest(w);
-        if now < entry / 32 {
-            w = woken(w, now);
-            entry = soonest(w);
-            if end <= entry / 32 {
-                return left_by(w, n, false);
+        if now < agenda[0] / 32 {
+            agenda = woken(agenda, &mut records, &cells, now);
+            now = agenda[0] / 32;
+            if end <= now {
+                let n = std::num::wrapping_sub_u64(budget, left);
+                return Outcome {
+                    cells,
+                    records,
+                    t,
+                    n,
+                    spent: false,
+                };
             }
-            now = entry / 32;
         }
         if left == 0 {
-            return left_by(w, n, true);
+            return Outcome {
+                cells,
+                records,
+                t,
+                n: budget,
+                spent: true,
+            };
         }
-        w = without_soonest(w);
-        let k = (entry % 32) as usize;
-        let s = placed(w, k);
-        let i = wide(s);
-        if 64 <= i {
-            return left_by(w, n, false);
-        }
-        let g = m.segments[i];
-        w = ran(w, k, s, g, now);
+        step(file, &places, &mut agenda, &mut records, &mut cells, now);
         left -= 1;
-        n = std::num::wrapping_add_u64(n, 1);
     }
 }

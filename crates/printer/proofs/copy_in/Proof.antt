@@ -10,13 +10,13 @@ use Rattle.printer.proofs.copy_in.Statement.{statement}
 use Rattle.printer.proofs.copy_in.Tie as tie
 
 abbrev Inv-loop : tie.InvT-loop
-Inv-loop text n out₀ i₀ out i = (i ≤ n) × (length out ≡ length out₀) × (out ≡ take i text ++ drop i out₀)
+Inv-loop text out₀ i₀ out i = (i ≤ length text) × (length out ≡ length out₀) × (out ≡ take i text ++ drop i out₀)
 
 abbrev μ-loop : tie.MeasureT-loop
-μ-loop text n out₀ i₀ out i = n - i
+μ-loop text out₀ i₀ out i = length text - i
 
 returns : tie.Need-returns Inv-loop μ-loop
-returns c = copied-short (c .before .args .text .now) (c .before .args .out .now) (c .before .args .n) (search needs) (search needs)
+returns c = copied-short (c .before .args .text .now) (c .before .args .out .now) (c .if1 .taken)
 
 loop-holds : tie.Need-loop-holds Inv-loop μ-loop
 loop-holds c = (omega arith, refl, refl)
@@ -45,7 +45,7 @@ same-length c = search needs
 returns-2 : tie.Need-returns-2 Inv-loop μ-loop
 returns-2 c =
     let a = c .before .before .before .args in
-    copied-all (a .text .now) (a .out .now) (c .before .loop .out) (a .n) (c .before .loop .i) (omega arith) (omega arith) (omega arith) (omega arith) (c .before .loop .inv .2)
+    copied-all (a .text .now) (a .out .now) (c .before .loop .out) (c .before .loop .i) (omega arith) (omega arith) (c .before .loop .inv .2)
 
 pub copy-in-spec : {M : Type 1} → statement M
 copy-in-spec =

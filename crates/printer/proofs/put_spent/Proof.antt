@@ -21,7 +21,7 @@ returns c = (rw (c .before .before .before .before .before .if1 .taken) (c .befo
 
 returns-2 : tie.Need-returns-2
 unfolding spentLine
-returns-2 c = (rw (c .if1 .left) (puts-none (c .before .before .args .out .now) (c .before .before .args .at) (omega arith)), omega arith)
+returns-2 c = (rw (c .if1 .left) (puts-none (c .before .before .args .out .now) (c .before .before .args .at) _ (omega arith)), omega arith)
 
 pub put-spent-spec : {M : Type 1} → statement M
 put-spent-spec =

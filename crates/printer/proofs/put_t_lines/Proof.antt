@@ -23,9 +23,12 @@ wide-requires c κs = search needs
 least-requires : tie.Need-least-requires Inv-loop μ-loop
 least-requires c κs = search needs
 
+least-requires-2 : tie.Need-least-requires-2 Inv-loop μ-loop
+least-requires-2 c κs = search needs
+
 loop-holds : tie.Need-loop-holds Inv-loop μ-loop
 unfolding tLines
-loop-holds c = (omega arith, (puts-none _ _ (search needs), omega arith))
+loop-holds c = (omega arith, (puts-none _ _ _ (c .least2 .ensures), omega arith))
 
 mul-x : tie.Need-mul-x Inv-loop μ-loop
 mul-x c = omega arith
@@ -48,7 +51,7 @@ loop-again c =
     let l = c .before .before .before .before .before .before in (
       omega arith,
       (
-        puts-t-more (l .before .before .before .before .args .t4 .at) (l .loop .k) (l .loop .inv .1 .0) (c .before .before .put-t-line .ensures .0),
+        puts-t-more (l .before .before .before .before .before .args .t4 .at) (l .loop .k) (l .loop .inv .1 .0) (c .before .before .put-t-line .ensures .0),
         omega arith,
       ),
     )
@@ -58,7 +61,7 @@ same-length c = omega arith
 
 returns : tie.Need-returns Inv-loop μ-loop
 returns c =
-    let e : c .before .loop .k ≡ min (c .before .before .before .before .before .args .t) 32 = omega arith in
+    let e : c .before .loop .k ≡ min (c .before .before .before .before .before .before .args .t) 32 = omega arith in
     (rw e at (c .before .loop .inv .1 .0), omega arith)
 
 pub put-t-lines-spec : {M : Type 1} → statement M
@@ -69,6 +72,7 @@ put-t-lines-spec =
     μ-loop
     wide-requires
     least-requires
+    least-requires-2
     loop-holds
     mul-x
     element-copy-out-x

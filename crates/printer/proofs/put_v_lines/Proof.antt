@@ -22,9 +22,12 @@ wide-requires c κs = search needs
 least-requires : tie.Need-least-requires Inv-loop μ-loop
 least-requires c κs = search needs
 
+least-requires-2 : tie.Need-least-requires-2 Inv-loop μ-loop
+least-requires-2 c κs = search needs
+
 loop-holds : tie.Need-loop-holds Inv-loop μ-loop
 unfolding vLines
-loop-holds c = (omega arith, (puts-none _ _ (search needs), omega arith))
+loop-holds c = (omega arith, (puts-none _ _ _ (c .least2 .ensures), omega arith))
 
 mul-x : tie.Need-mul-x Inv-loop μ-loop
 mul-x c = omega arith
@@ -49,7 +52,7 @@ loop-again c =
     let l = c .before .before .before .before .before .before .before in (
       omega arith,
       (
-        puts-v-more (l .before .before .before .before .args .t4 .at) (l .loop .i) _ (c .before .before .before .long-word .ensures) (l .loop .inv .1 .0) (c .before .before .put-v-line .ensures .0),
+        puts-v-more (l .before .before .before .before .before .args .t4 .at) (l .loop .i) _ (c .before .before .before .long-word .ensures) (l .loop .inv .1 .0) (c .before .before .put-v-line .ensures .0),
         omega arith,
       ),
     )
@@ -59,7 +62,7 @@ same-length c = omega arith
 
 returns : tie.Need-returns Inv-loop μ-loop
 returns c =
-    let e : c .before .loop .i ≡ min (c .before .before .before .before .before .args .v) 64 = omega arith in
+    let e : c .before .loop .i ≡ min (c .before .before .before .before .before .before .args .v) 64 = omega arith in
     (rw e at (c .before .loop .inv .1 .0), omega arith)
 
 pub put-v-lines-spec : {M : Type 1} → statement M
@@ -70,6 +73,7 @@ put-v-lines-spec =
     μ-loop
     wide-requires
     least-requires
+    least-requires-2
     loop-holds
     mul-x
     element-copy-out-x

@@ -1,5 +1,7 @@
 -- `printer::sheet` meets its contract. The text is shorter than the array that it is made in, so nothing of it was cut.
+use mathlib.Core.Path.{sym}
 use native.Mathlib.Omega.{arith}
+use lib.Seq.{length-take-le}
 use borrow.Author.Needs.{needs}
 use Rattle.printer.proofs.PutLaws.{puts-uncut}
 use Rattle.printer.proofs.sheet.Statement.{statement}
@@ -11,8 +13,11 @@ slice-aggregate-put-sheet c = search needs
 put-sheet-requires : tie.Need-put-sheet-requires
 put-sheet-requires c κs = search needs
 
+array-share-prefix-text : tie.Need-array-share-prefix-text
+array-share-prefix-text c = search needs
+
 slice-aggregate-copy-in : tie.Need-slice-aggregate-copy-in
-slice-aggregate-copy-in c = search needs
+slice-aggregate-copy-in c = sym (length-take-le _ _ (omega arith))
 
 copy-in-requires : tie.Need-copy-in-requires
 copy-in-requires c κs = search needs
@@ -31,6 +36,7 @@ sheet-spec =
     (tie.spec
     slice-aggregate-put-sheet
     put-sheet-requires
+    array-share-prefix-text
     slice-aggregate-copy-in
     copy-in-requires
     same-length

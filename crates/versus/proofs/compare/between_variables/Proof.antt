@@ -1,5 +1,4 @@
--- `versus::compare::between_variables` is safe and ends. The measure is what is left; nothing has to hold from turn to turn.
--- Assumes nothing.
+-- `versus::compare::between_variables` is safe and ends.
 use Prim.Native.Nat.{_-_}
 use native.Mathlib.Omega.{arith}
 use borrow.Author.Needs.{needs}
@@ -7,34 +6,37 @@ use Rattle.versus.proofs.compare.between_variables.Statement.{statement
 use Rattle.versus.proofs.compare.between_variables.Tie as tie
 
 abbrev Inv-loop : tie.InvT-loop
-Inv-loop a b i₀ i = Unit {0}
+Inv-loop b a i₀ i = Unit {0}
 
 abbrev μ-loop : tie.MeasureT-loop
-μ-loop a b i₀ i = 64 - i
+μ-loop b a i₀ i = 64 - i
 
 loop-holds : tie.Need-loop-holds Inv-loop μ-loop
 loop-holds c = tt
 
-mul-x : tie.Need-mul-x Inv-loop μ-loop
-mul-x c = omega arith
+mul-word : tie.Need-mul-word Inv-loop μ-loop
+mul-word c = omega arith
 
-element-copy-out-x : tie.Need-element-copy-out-x Inv-loop μ-loop
-element-copy-out-x c = search needs
-
-mul-y : tie.Need-mul-y Inv-loop μ-loop
-mul-y c = omega arith
-
-array-read-y : tie.Need-array-read-y Inv-loop μ-loop
-array-read-y c = search needs
+element-copy-out-word : tie.Need-element-copy-out-word Inv-loop μ-loop
+element-copy-out-word c = search needs
 
 word-requires : tie.Need-word-requires Inv-loop μ-loop
-word-requires c κs = tt
+word-requires c κs = search needs
 
-word-requires-2 : tie.Need-word-requires-2 Inv-loop μ-loop
-word-requires-2 c κs = tt
+mul-if1 : tie.Need-mul-if1 Inv-loop μ-loop
+mul-if1 c = omega arith
+
+element-copy-out-if1 : tie.Need-element-copy-out-if1 Inv-loop μ-loop
+element-copy-out-if1 c = search needs
+
+mul-differing : tie.Need-mul-differing Inv-loop μ-loop
+mul-differing c = omega arith
+
+element-copy-out-differing : tie.Need-element-copy-out-differing Inv-loop μ-loop
+element-copy-out-differing c = search needs
 
 differing-requires : tie.Need-differing-requires Inv-loop μ-loop
-differing-requires c κs = tt
+differing-requires c κs = search needs
 
 returns : tie.Need-returns Inv-loop μ-loop
 returns c = tt
@@ -48,8 +50,8 @@ loop-less c = omega arith
 loop-again : tie.Need-loop-again Inv-loop μ-loop
 loop-again c = tt
 
-no-difference-requires : tie.Need-no-difference-requires Inv-loop μ-loop
-no-difference-requires c κs = tt
+differing-requires-2 : tie.Need-differing-requires-2 Inv-loop μ-loop
+differing-requires-2 c κs = search needs
 
 returns-2 : tie.Need-returns-2 Inv-loop μ-loop
 returns-2 c = tt
@@ -61,16 +63,17 @@ between-variables-spec =
     Inv-loop
     μ-loop
     loop-holds
-    mul-x
-    element-copy-out-x
-    mul-y
-    array-read-y
+    mul-word
+    element-copy-out-word
     word-requires
-    word-requires-2
+    mul-if1
+    element-copy-out-if1
+    mul-differing
+    element-copy-out-differing
     differing-requires
     returns
     add-i
     loop-less
     loop-again
-    no-difference-requires
+    differing-requires-2
     returns-2)

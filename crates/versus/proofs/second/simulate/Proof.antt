@@ -1,75 +1,55 @@
--- `versus::second::simulate` is safe and ends. The measure is what is left; nothing has to hold from turn to turn.
--- Assumes nothing.
+-- `versus::second::simulate` is safe and ends.
 use native.Mathlib.Omega.{arith}
 use borrow.Author.Needs.{needs}
 use Rattle.versus.proofs.second.simulate.Statement.{statement}
 use Rattle.versus.proofs.second.simulate.Tie as tie
 
 abbrev Inv-loop : tie.InvT-loop
-Inv-loop budget m end w₀ now₀ left₀ n₀ w now left n = Unit {0}
+Inv-loop file budget end places t records₀ agenda₀ cells₀ now₀ left₀ records agenda cells now left =
+    Unit {0}
 
 abbrev μ-loop : tie.MeasureT-loop
-μ-loop budget m end w₀ now₀ left₀ n₀ w now left n = left
+μ-loop file budget end places t records₀ agenda₀ cells₀ now₀ left₀ records agenda cells now left =
+    left
 
-end-of-requires : tie.Need-end-of-requires Inv-loop μ-loop
-end-of-requires c κs = tt
+field-requires : tie.Need-field-requires Inv-loop μ-loop
+field-requires c κs = search needs
 
-opened-requires : tie.Need-opened-requires Inv-loop μ-loop
-opened-requires c κs = tt
+mul-end : tie.Need-mul-end Inv-loop μ-loop
+mul-end c = omega arith
+
+survey-requires : tie.Need-survey-requires Inv-loop μ-loop
+survey-requires c κs = search needs
+
+start-requires : tie.Need-start-requires Inv-loop μ-loop
+start-requires c κs = search needs
 
 loop-holds : tie.Need-loop-holds Inv-loop μ-loop
 loop-holds c = tt
 
-soonest-requires : tie.Need-soonest-requires Inv-loop μ-loop
-soonest-requires c κs = tt
+array-read-if1 : tie.Need-array-read-if1 Inv-loop μ-loop
+array-read-if1 c = search needs
 
 woken-requires : tie.Need-woken-requires Inv-loop μ-loop
-woken-requires c κs = tt
+woken-requires c κs = search needs
 
-soonest-requires-2 : tie.Need-soonest-requires-2 Inv-loop μ-loop
-soonest-requires-2 c κs = tt
+array-read-now : tie.Need-array-read-now Inv-loop μ-loop
+array-read-now c = search needs
 
-left-by-requires : tie.Need-left-by-requires Inv-loop μ-loop
-left-by-requires c κs = tt
+wrapping-sub-u64-requires : tie.Need-wrapping-sub-u64-requires Inv-loop μ-loop
+wrapping-sub-u64-requires c κs = search needs
 
 returns : tie.Need-returns Inv-loop μ-loop
 returns c = tt
 
-left-by-requires-2 : tie.Need-left-by-requires-2 Inv-loop μ-loop
-left-by-requires-2 c κs = tt
-
 returns-2 : tie.Need-returns-2 Inv-loop μ-loop
 returns-2 c = tt
 
-without-soonest-requires : tie.Need-without-soonest-requires Inv-loop μ-loop
-without-soonest-requires c κs = tt
-
-placed-requires : tie.Need-placed-requires Inv-loop μ-loop
-placed-requires c κs = tt
-
-wide-requires : tie.Need-wide-requires Inv-loop μ-loop
-wide-requires c κs = tt
-
-left-by-requires-3 : tie.Need-left-by-requires-3 Inv-loop μ-loop
-left-by-requires-3 c κs = tt
-
-returns-3 : tie.Need-returns-3 Inv-loop μ-loop
-returns-3 c = tt
-
-mul-g : tie.Need-mul-g Inv-loop μ-loop
-mul-g c = omega arith
-
-element-copy-out-g : tie.Need-element-copy-out-g Inv-loop μ-loop
-element-copy-out-g c = search needs
-
-ran-requires : tie.Need-ran-requires Inv-loop μ-loop
-ran-requires c κs = tt
+step-requires : tie.Need-step-requires Inv-loop μ-loop
+step-requires c κs = search needs
 
 sub-left : tie.Need-sub-left Inv-loop μ-loop
 sub-left c = omega arith
-
-wrapping-add-u64-requires : tie.Need-wrapping-add-u64-requires Inv-loop μ-loop
-wrapping-add-u64-requires c κs = tt
 
 loop-less : tie.Need-loop-less Inv-loop μ-loop
 loop-less c = omega arith
@@ -83,25 +63,18 @@ simulate-spec =
     (tie.spec
     Inv-loop
     μ-loop
-    end-of-requires
-    opened-requires
+    field-requires
+    mul-end
+    survey-requires
+    start-requires
     loop-holds
-    soonest-requires
+    array-read-if1
     woken-requires
-    soonest-requires-2
-    left-by-requires
+    array-read-now
+    wrapping-sub-u64-requires
     returns
-    left-by-requires-2
     returns-2
-    without-soonest-requires
-    placed-requires
-    wide-requires
-    left-by-requires-3
-    returns-3
-    mul-g
-    element-copy-out-g
-    ran-requires
+    step-requires
     sub-left
-    wrapping-add-u64-requires
     loop-less
     loop-again)

@@ -1,5 +1,4 @@
--- `versus::second::woken` is safe and ends. The measure is what is left; nothing has to hold from turn to turn.
--- Assumes nothing.
+-- `versus::second::woken` is safe and ends.
 use Prim.Native.Nat.{_-_}
 use native.Mathlib.Omega.{arith}
 use borrow.Author.Needs.{needs}
@@ -7,25 +6,31 @@ use Rattle.versus.proofs.second.woken.Statement.{statement}
 use Rattle.versus.proofs.second.woken.Tie as tie
 
 abbrev Inv-loop : tie.InvT-loop
-Inv-loop now w₀ e₀ w e = Unit {0}
+Inv-loop records₀ cells now agenda fresh₀ i₀ records fresh i = Unit {0}
 
 abbrev μ-loop : tie.MeasureT-loop
-μ-loop now w₀ e₀ w e = 32 - e
+μ-loop records₀ cells now agenda fresh₀ i₀ records fresh i = 32 - i
 
 loop-holds : tie.Need-loop-holds Inv-loop μ-loop
 loop-holds c = tt
 
-element-copy-out-if1 : tie.Need-element-copy-out-if1 Inv-loop μ-loop
-element-copy-out-if1 c = search needs
+mul-x : tie.Need-mul-x Inv-loop μ-loop
+mul-x c = omega arith
 
-element-write-w : tie.Need-element-write-w Inv-loop μ-loop
-element-write-w c = search needs
+array-read-x : tie.Need-array-read-x Inv-loop μ-loop
+array-read-x c = search needs
 
-emptied-requires : tie.Need-emptied-requires Inv-loop μ-loop
-emptied-requires c κs = tt
+returns : tie.Need-returns Inv-loop μ-loop
+returns c = tt
 
-add-e : tie.Need-add-e Inv-loop μ-loop
-add-e c = omega arith
+heard-requires : tie.Need-heard-requires Inv-loop μ-loop
+heard-requires c κs = search needs
+
+insert-requires : tie.Need-insert-requires Inv-loop μ-loop
+insert-requires c κs = search needs
+
+add-i : tie.Need-add-i Inv-loop μ-loop
+add-i c = omega arith
 
 loop-less : tie.Need-loop-less Inv-loop μ-loop
 loop-less c = omega arith
@@ -33,8 +38,8 @@ loop-less c = omega arith
 loop-again : tie.Need-loop-again Inv-loop μ-loop
 loop-again c = tt
 
-returns : tie.Need-returns Inv-loop μ-loop
-returns c = tt
+returns-2 : tie.Need-returns-2 Inv-loop μ-loop
+returns-2 c = tt
 
 pub woken-spec : {M : Type 1} → statement M
 woken-spec =
@@ -43,10 +48,12 @@ woken-spec =
     Inv-loop
     μ-loop
     loop-holds
-    element-copy-out-if1
-    element-write-w
-    emptied-requires
-    add-e
+    mul-x
+    array-read-x
+    returns
+    heard-requires
+    insert-requires
+    add-i
     loop-less
     loop-again
-    returns)
+    returns-2)

@@ -1,0 +1,3 @@
+pub mod LabelLaws
+pub mod LineLaws
+pub mod WholeLaws

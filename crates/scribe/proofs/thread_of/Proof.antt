@@ -1,0 +1,17 @@
+-- `scribe::thread_of` meets its contract.
+use borrow.Author.Needs.{needs}
+use Rattle.scribe.proofs.LabelLaws.{threadOf-small, threadOf-large}
+use Rattle.scribe.proofs.thread_of.Statement.{statement}
+use Rattle.scribe.proofs.thread_of.Tie as tie
+
+cast-result : tie.Need-cast-result
+cast-result c = search needs
+
+returns : tie.Need-returns
+returns c = threadOf-small _ (c .if1 .taken)
+
+returns-2 : tie.Need-returns-2
+returns-2 c = threadOf-large _ (c .if1 .left)
+
+pub thread-of-spec : {M : Type 1} → statement M
+thread-of-spec = tie.close (tie.spec cast-result returns returns-2)

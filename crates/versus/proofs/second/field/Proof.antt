@@ -1,0 +1,54 @@
+-- `versus::second::field` is safe and ends.
+use native.Mathlib.Omega.{arith}
+use borrow.Author.Needs.{needs}
+use Rattle.versus.proofs.second.field.Statement.{statement}
+use Rattle.versus.proofs.second.field.Tie as tie
+
+abbrev Inv-loop : tie.InvT-loop
+Inv-loop file i size x₀ n₀ x n = Unit {0}
+
+abbrev μ-loop : tie.MeasureT-loop
+μ-loop file i size x₀ n₀ x n = n
+
+loop-holds : tie.Need-loop-holds Inv-loop μ-loop
+loop-holds c = tt
+
+sub-n : tie.Need-sub-n Inv-loop μ-loop
+sub-n c = omega arith
+
+mul-sum : tie.Need-mul-sum Inv-loop μ-loop
+mul-sum c = omega arith
+
+sum-requires : tie.Need-sum-requires Inv-loop μ-loop
+sum-requires c κs = search needs
+
+byte-requires : tie.Need-byte-requires Inv-loop μ-loop
+byte-requires c κs = search needs
+
+sum-requires-2 : tie.Need-sum-requires-2 Inv-loop μ-loop
+sum-requires-2 c κs = search needs
+
+loop-less : tie.Need-loop-less Inv-loop μ-loop
+loop-less c = omega arith
+
+loop-again : tie.Need-loop-again Inv-loop μ-loop
+loop-again c = tt
+
+returns : tie.Need-returns Inv-loop μ-loop
+returns c = tt
+
+pub field-spec : {M : Type 1} → statement M
+field-spec =
+    tie.close
+    (tie.spec
+    Inv-loop
+    μ-loop
+    loop-holds
+    sub-n
+    mul-sum
+    sum-requires
+    byte-requires
+    sum-requires-2
+    loop-less
+    loop-again
+    returns)
