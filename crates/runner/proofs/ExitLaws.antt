@@ -1,23 +1,19 @@
--- The definitions of `Words` and `Packed`, one law for each way out of the code that computes them.
-use Prim.Native.Nat.{ℕ, _+_, _-_, _*_, _/_, _%_, _<_, _≤_}
-use mathlib.Core.Path.{_≡_, refl}
-use mathlib.Core.Bool.{Bool, true, false, cond}
-use mathlib.Core.List.{List, [], _∷_}
-use types.Run.{OneOf, miss}
-use denote.Enum.Declared.{tagOf}
+-- The definitions of `Words` and `Turn`, one law for each way out of the code that computes them.
+use Prim.Native.Nat.{ℕ, zero, suc, _+_, _-_, _*_, _/_, _%_, _<_, _≤_}
+use mathlib.Core.Path.{_≡_, refl, ap, sym, _∙_}
+use mathlib.Core.Bool.{Bool, true, false, cond, _&&_}
+use mathlib.Core.List.{List}
 use native.Mathlib.Numerals.{add-one}
-use lib.Dec.{ltb}
-use lib.ListN.{length, getD, List·getD-eq-default}
+use native.Mathlib.Omega.{arith}
+use lib.Dec.{ltb, leb, eqb}
+use lib.ListN.{length, getD, set, List·getD-eq-default}
+use lib.Seq.{getD-set-same, getD-set-other}
 use borrow.Author.Tests.{lt-ltb, le-ltb, le-leb, lt-leb, eq-eqb, ne-eqb}
 use Rattle.clock.specs.Cycle.{cycleAt}
-use Rattle.model.specs.declared.Op.the-variants.{Set, Add, Copy, AddVariable, SubVariable, Notify}
-use Rattle.model.specs.declared.Closer.{Closer}
-use Rattle.model.specs.declared.Closer.the-variants.{End, Time, Event}
-use Rattle.model.proofs.Closer as closer
 use Rattle.model.specs.declared.State.the-variants.{Ended, Overrun, Ready, Waiting}
-use Rattle.model.specs.Statement.{executeOp}
+use Rattle.packed.specs.Unpack.{endBy, executeBy, markedBy, followBy}
 use Rattle.runner.specs.Words.{waiting, ended, overrun, span, stateFrom, nextWord, closeWord, wakeWord, leastWord}
-use Rattle.runner.specs.Packed.{opOf, markedOp, executeTo, markedTo, packEnd, nextBy, followBy}
+use Rattle.runner.specs.Turn.{Locals, locals, ranBy, turnOn, turnsTo}
 
 module _ (k : ℕ) where
   pub nextWord-ready : k % 1024 < 1023 → k + 1 ≡ nextWord k
@@ -37,13 +33,13 @@ module _ (k : ℕ) where
     unfolding closeWord
     closeWord-event n h = rw (ne-eqb (e % 4) 0 n, eq-eqb (e % 4) 2 h) refl
 
-    pub closeWord-delta : (e % 4 ≡ 0 → ⊥) → (e % 4 ≡ 2 → ⊥) → e / 1024 ≡ 0 → nextWord k ≡ closeWord e k
+    pub closeWord-delta : (e % 4 ≡ 0 → ⊥) → (e % 4 ≡ 2 → ⊥) → e / 1024 % 4294967296 ≡ 0 → nextWord k ≡ closeWord e k
     unfolding closeWord
-    closeWord-delta n o h = rw (ne-eqb (e % 4) 0 n, ne-eqb (e % 4) 2 o, eq-eqb (e / 1024) 0 h) refl
+    closeWord-delta n o h = rw (ne-eqb (e % 4) 0 n, ne-eqb (e % 4) 2 o, eq-eqb (e / 1024 % 4294967296) 0 h) refl
 
-    pub closeWord-units : (e % 4 ≡ 0 → ⊥) → (e % 4 ≡ 2 → ⊥) → (e / 1024 ≡ 0 → ⊥) → 1024 * (k / 1024 + e / 1024) ≡ closeWord e k
+    pub closeWord-units : (e % 4 ≡ 0 → ⊥) → (e % 4 ≡ 2 → ⊥) → (e / 1024 % 4294967296 ≡ 0 → ⊥) → 1024 * (k / 1024 + e / 1024 % 4294967296) ≡ closeWord e k
     unfolding closeWord
-    closeWord-units n o h = rw (ne-eqb (e % 4) 0 n, ne-eqb (e % 4) 2 o, ne-eqb (e / 1024) 0 h) refl
+    closeWord-units n o h = rw (ne-eqb (e % 4) 0 n, ne-eqb (e % 4) 2 o, ne-eqb (e / 1024 % 4294967296) 0 h) refl
 
 module _ (w : ℕ) where
   pub stateFrom-ready : w < waiting → Ready (cycleAt (w % span / 1024) (w % span % 1024)) ≡ stateFrom w
@@ -92,73 +88,61 @@ pub leastWord-next : (k : ℕ) (ws : List ℕ) (b r : ℕ) → b ≡ leastWord k
 unfolding leastWord
 leastWord-next k ws b r e f = rw (add-one, ← e) f
 
+leastWord-set : (j k : ℕ) (ws : List ℕ) (x : ℕ) → j ≤ k → leastWord j (set ws k x) ≡ leastWord j ws
+unfolding leastWord
+leastWord-set zero k ws x h = refl
+leastWord-set (suc j) k ws x h =
+    let e : getD (set ws k x) j 0 ≡ getD ws j 0 = getD-set-other ws k j x 0 (λ q. omega arith) in
+    rw (e, leastWord-set j k ws x (omega arith)) refl
+
+-- for the code: a word is stored, and the least with it
+pub leastWord-stored : (k : ℕ) (ws : List ℕ) (x b r : ℕ) → k < length ws → b ≡ leastWord k ws → r ≡ cond (ltb x b) x b → r ≡ leastWord (k + 1) (set ws k x)
+leastWord-stored k ws x b r h e f =
+    leastWord-next k (set ws k x) b r (e ∙ sym (leastWord-set k k ws x (omega arith)))
+    (f ∙ ap (λ (y : ℕ). cond (ltb y b) y b) (sym (getD-set-same ws k x 0 h)))
+
 pub leastWord-none : (ws : List ℕ) → 18446744073709551615 ≡ leastWord 0 ws
 unfolding leastWord
 leastWord-none ws = refl
 
-module _ (w : ℕ) (v : List ℕ) where
-  pub nextBy-untested : w / 65536 % 256 ≡ 255 → w % 256 ≡ nextBy w v
-  unfolding nextBy
-  nextBy-untested h = rw (eq-eqb (w / 65536 % 256) 255 h) refl
+-- a thread that is looked at
+module _ (code : List ℕ) (now budget k : ℕ) where
+  module _ (x : Locals) where
+    pub turnOn-passed : (getD (x .state) k 0 ≡ now → ⊥) → x ≡ turnOn code now budget k x
+    unfolding turnOn
+    turnOn-passed h = rw (ne-eqb (getD (x .state) k 0) now h) refl
 
-  pub nextBy-below : (w / 65536 % 256 ≡ 255 → ⊥) → (x : ℕ) → x ≡ getD v (w / 65536 % 256 % 64) 0 → x < w / 16777216 → w % 256 ≡ nextBy w v
-  unfolding nextBy
-  nextBy-below n x e h = rw (ne-eqb (w / 65536 % 256) 255 n, ← e, lt-ltb x (w / 16777216) h) refl
+    pub turnOn-full : budget ≤ x .n → x ≡ turnOn code now budget k x
+    unfolding turnOn
+    turnOn-full h = go (eqb (getD (x .state) k 0) now)
+      where
+        go : (b : Bool) → x ≡ cond (b && ltb (x .n) budget) (ranBy code now k x) x
+        go true = rw (le-ltb (x .n) budget h) refl
+        go false = refl
 
-  pub nextBy-above : (w / 65536 % 256 ≡ 255 → ⊥) → (x : ℕ) → x ≡ getD v (w / 65536 % 256 % 64) 0 → w / 16777216 ≤ x → w / 256 % 256 ≡ nextBy w v
-  unfolding nextBy
-  nextBy-above n x e h = rw (ne-eqb (w / 65536 % 256) 255 n, ← e, le-ltb x (w / 16777216) h) refl
+    pub turnOn-ran : getD (x .state) k 0 ≡ now → x .n < budget → ranBy code now k x ≡ turnOn code now budget k x
+    unfolding turnOn
+    turnOn-ran h l = rw (eq-eqb (getD (x .state) k 0) now h, lt-ltb (x .n) budget l) refl
 
-  module _ (e s : ℕ) where
-    pub followBy-over : e % 4 ≡ 0 → s ≡ followBy e w s v
-    unfolding followBy
-    followBy-over h = rw (eq-eqb (e % 4) 0 h) refl
+  pub turnsTo-next : (x y z : Locals) → y ≡ turnsTo code now budget k x → z ≡ turnOn code now budget k y → z ≡ turnsTo code now budget (k + 1) x
+  unfolding turnsTo
+  turnsTo-next x y z e f = rw (add-one, ← e) f
 
-    pub followBy-on : (e % 4 ≡ 0 → ⊥) → nextBy w v ≡ followBy e w s v
-    unfolding followBy
-    followBy-on n = rw (ne-eqb (e % 4) 0 n) refl
+pub turnsTo-none : (code : List ℕ) (now budget : ℕ) (x : Locals) → x ≡ turnsTo code now budget 0 x
+unfolding turnsTo
+turnsTo-none code now budget x = refl
 
-module _ (w : ℕ) where
-  pub opOf-set : w % 8 ≡ 0 → opOf w ≡ Set (w / 8 % 64) (w / 2048 % 4294967296)
-  unfolding opOf
-  opOf-set h = rw (eq-eqb (w % 8) 0 h) refl
+-- for the code: the arrays of a thread that ran
+pub ran-as : (code : List ℕ) (now k : ℕ) (v ws ss : List ℕ) (fs : List Bool) (n : ℕ) (v′ : List ℕ) (fs′ : List Bool) (e w f : ℕ) →
+    v′ ≡ executeBy code (getD ss k 0) v → fs′ ≡ markedBy code (getD ss k 0) fs → e ≡ endBy code (getD ss k 0) → w ≡ closeWord e now → f ≡ followBy code (getD ss k 0) v′ →
+    locals v′ (set ws k w) (set ss k f) fs′ (n + 1) ≡ ranBy code now k (locals v ws ss fs n)
+ran-as code now k v ws ss fs n v′ fs′ e w f p q r t u =
+    let t′ : w ≡ closeWord (endBy code (getD ss k 0)) now = t ∙ ap (λ (z : ℕ). closeWord z now) r in
+    let u′ : f ≡ followBy code (getD ss k 0) (executeBy code (getD ss k 0) v) = u ∙ ap (followBy code (getD ss k 0)) p in
+    λ i. locals (p i) (set ws k (t′ i)) (set ss k (u′ i)) (q i) (n + 1)
 
-  module _ (n0 : w % 8 ≡ 0 → ⊥) where
-    pub opOf-add : w % 8 ≡ 1 → opOf w ≡ Add (w / 8 % 64) (w / 2048 % 4294967296)
-    unfolding opOf
-    opOf-add h = rw (ne-eqb (w % 8) 0 n0, eq-eqb (w % 8) 1 h) refl
+pub isOut-room : (b n l k : ℕ) → n < b → false ≡ leb b n && leb l k
+isOut-room b n l k h = rw (lt-leb b n h) refl
 
-    module _ (n1 : w % 8 ≡ 1 → ⊥) where
-      pub opOf-copy : w % 8 ≡ 2 → opOf w ≡ Copy (w / 8 % 64) (w / 2048 % 64)
-      unfolding opOf
-      opOf-copy h = rw (ne-eqb (w % 8) 0 n0, ne-eqb (w % 8) 1 n1, eq-eqb (w % 8) 2 h) refl
-
-      module _ (n2 : w % 8 ≡ 2 → ⊥) where
-        pub opOf-add-variable : w % 8 ≡ 3 → opOf w ≡ AddVariable (w / 8 % 64) (w / 2048 % 64)
-        unfolding opOf
-        opOf-add-variable h = rw (ne-eqb (w % 8) 0 n0, ne-eqb (w % 8) 1 n1, ne-eqb (w % 8) 2 n2, eq-eqb (w % 8) 3 h) refl
-
-        module _ (n3 : w % 8 ≡ 3 → ⊥) where
-          pub opOf-sub-variable : w % 8 ≡ 4 → opOf w ≡ SubVariable (w / 8 % 64) (w / 2048 % 64)
-          unfolding opOf
-          opOf-sub-variable h = rw (ne-eqb (w % 8) 0 n0, ne-eqb (w % 8) 1 n1, ne-eqb (w % 8) 2 n2, ne-eqb (w % 8) 3 n3, eq-eqb (w % 8) 4 h) refl
-
-          pub opOf-notify : (w % 8 ≡ 4 → ⊥) → opOf w ≡ Notify (w / 8 % 32)
-          unfolding opOf
-          opOf-notify n4 = rw (ne-eqb (w % 8) 0 n0, ne-eqb (w % 8) 1 n1, ne-eqb (w % 8) 2 n2, ne-eqb (w % 8) 3 n3, ne-eqb (w % 8) 4 n4) refl
-
--- one statement more of a segment
-module _ (ws : List ℕ) (base j : ℕ) where
-  pub executeTo-next : (v x y : List ℕ) → x ≡ executeTo ws base j v → y ≡ executeOp (opOf (getD ws (base + j) 0)) x → y ≡ executeTo ws base (j + 1) v
-  unfolding executeTo
-  executeTo-next v x y e f = rw (add-one, ← e) f
-
-  pub markedTo-next : (fs x y : List Bool) → x ≡ markedTo ws base j fs → y ≡ markedOp (opOf (getD ws (base + j) 0)) x → y ≡ markedTo ws base (j + 1) fs
-  unfolding markedTo
-  markedTo-next fs x y e f = rw (add-one, ← e) f
-
--- the `End` arm
-pub packEnd-over : (n : ℕ) (z : Closer) → OneOf (0 ∷ []) (tagOf closer.the-type z) → 4 * n ≡ packEnd n z
-packEnd-over n End h = refl
-packEnd-over n (Time k x) h = absurd (miss (0 ∷ []) 1 tt h)
-packEnd-over n (Event e x) h = absurd (miss (0 ∷ []) 2 tt h)
+pub isOut-least : (b n l k : ℕ) → b ≤ n → leb l k ≡ leb b n && leb l k
+isOut-least b n l k h = rw (le-leb b n h) refl

@@ -1,5 +1,5 @@
 -- The next cycle, and a run that is done.
---     floorOf-ready, floorOf-rest     some thread is ready before the horizon exactly where the floor is
+--     floorOf-one, someReady-here, someReady-rest     some thread is ready before the horizon exactly where the floor is
 --     begun-rest     where the floor is not before the horizon no cycle begins
 --     stepped-done, runFor-done, runFor-out, runFor-on     a run that is done stands still; else it goes on by one step
 use Prim.Native.Nat.{ℕ, zero, suc, _<_, _≤_}
@@ -10,7 +10,7 @@ use mathlib.Core.List.{List}
 use lib.Dec.{T, T-not}
 use borrow.Author.Tests.{le-ltb}
 use Rattle.base.proofs.BoolLaws.{T-case, T→true, T→false}
-use Rattle.base.proofs.IndexLaws.{anyBelow-found, anyBelow-some, anyBelow-none}
+use Rattle.base.proofs.IndexLaws.{anyBelow-found, anyBelow-some}
 use Rattle.clock.specs.declared.Bound.{Bound}
 use Rattle.clock.specs.declared.Bound.the-variants.{Never, At}
 use Rattle.clock.specs.Order.{_≼_}
@@ -42,16 +42,7 @@ module _ (m : Model) (ts : List Thread) where
   unfolding someReady
   someReady-here k h t = anyBelow-found (m .t) _ k h t
 
-  -- no thread is ready before the horizon, so neither is the floor
-  pub floorOf-rest : T (not (someReady m ts)) → T (not (isBoundBeforeHorizon m (floorOf m ts)))
-  unfolding someReady isBoundBeforeHorizon
-  floorOf-rest t = go floorOf-one
-    where
-      go : (floorOf m ts ≡ Never) ⊎ ((k : ℕ) × (k < m .t) × (floorOf m ts ≡ readyCycle (threadAt ts k .state))) → T (not (isBoundBeforeHorizon m (floorOf m ts)))
-      go (inl e) = rw e tt
-      go (inr (k, h, e)) = rw e (anyBelow-none (m .t) _ t k h)
-
-  -- and the other way round
+  -- the floor is not before the horizon, so no thread is ready before it
   pub someReady-rest : T (not (isBoundBeforeHorizon m (floorOf m ts))) → someReady m ts ≡ false
   unfolding someReady
   someReady-rest n = go (T-case (someReady m ts))

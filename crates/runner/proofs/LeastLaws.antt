@@ -4,11 +4,11 @@
 use Prim.Native.Nat.{ℕ, zero, suc, _*_, _<_, _≤_}
 use mathlib.Core.Path.{_≡_, refl, ap, sym, _∙_, subst}
 use mathlib.Core.Logic.{_⊎_, inl, inr}
-use mathlib.Core.Bool.{not, cond}
+use mathlib.Core.Bool.{not}
 use mathlib.Core.List.{List}
 use native.Mathlib.Omega.{arith}
 use native.Mathlib.Decide.{ℕ-discrete, decLt}
-use lib.Dec.{T, ltb}
+use lib.Dec.{T}
 use lib.ListN.{getD}
 use borrow.Author.Tests.{lt-ltb, le-ltb}
 use Rattle.clock.specs.declared.Cycle.{Cycle}
@@ -27,10 +27,6 @@ use Rattle.runner.specs.Words.{waiting, keyOf, wordOf, leastWord}
 use Rattle.cycles.proofs.WakeLaws.{floorOf-≼}
 use Rattle.runner.proofs.FloorLaws.{floorOf-one}
 use Rattle.runner.proofs.WordLaws.{Small, InRange}
-
-pub leastWord-more : (k : ℕ) (ws : List ℕ) → cond (ltb (getD ws k 0) (leastWord k ws)) (getD ws k 0) (leastWord k ws) ≡ leastWord (suc k) ws
-unfolding leastWord
-leastWord-more k ws = refl
 
 leastWord-below : (k : ℕ) (ws : List ℕ) → (leastWord (suc k) ws ≤ getD ws k 0) × (leastWord (suc k) ws ≤ leastWord k ws)
 unfolding leastWord

@@ -1,11 +1,10 @@
 pub mod FillLaws
 pub mod ExitLaws
-pub mod MarkLaws
 pub mod FloorLaws
 pub mod SoundLaws
 pub mod WordLaws
 pub mod RangeLaws
 pub mod LeastLaws
-pub mod CodeLaws
 pub mod LoopLaws
+pub mod TurnLaws
 pub mod RunLaws

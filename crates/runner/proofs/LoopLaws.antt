@@ -3,9 +3,11 @@
 --     Stands, stands-step     the run from a place, with enough steps left, is the whole run
 --     Loop     the locals stand for a place, the marks for the events notified
 --     loop-start, loop-passed, loop-ran, loop-begun     before the loop, and after each turn
+--     loop-ahead     once all are looked at, every word is ahead
 --     loop-out, loop-rest     where the budget is out, and where no thread is ready before the horizon
-use Prim.Native.Nat.{ℕ, suc, _+_, _-_, _*_, _/_, _%_, _<_, _≤_, _^_}
+use Prim.Native.Nat.{ℕ, suc, _+_, _-_, _*_, _<_, _≤_, _^_}
 use mathlib.Core.Path.{_≡_, refl, ap, sym, _∙_}
+use mathlib.Core.Logic.{_⊎_, inl, inr}
 use mathlib.Core.Bool.{Bool, true, false, not, _&&_}
 use mathlib.Core.List.{List, [], _++_}
 use native.Mathlib.Nat.{add-mul, one-mul, mul-le-mul-right}
@@ -23,7 +25,11 @@ use Rattle.clock.specs.declared.Bound.{Bound}
 use Rattle.clock.specs.declared.Bound.the-variants.{At}
 use Rattle.clock.specs.Cycle.{cycleAt}
 use Rattle.clock.specs.Order.{Before, sooner, same-time}
+use Rattle.model.specs.declared.Closer.{Closer}
+use Rattle.model.specs.declared.Closer.the-variants.{End, Time, Event}
 use Rattle.model.specs.declared.Model.{Model}
+use Rattle.model.specs.declared.State.{State}
+use Rattle.model.specs.declared.State.the-variants.{Ended, Overrun, Ready, Waiting}
 use Rattle.model.specs.declared.Thread.{Thread}
 use Rattle.model.specs.declared.Threads.{Threads}
 use Rattle.model.specs.Values.{segmentAt, startAt, bodyOf}
@@ -32,23 +38,24 @@ use Rattle.model.specs.Limits.{isBeforeHorizon, isBoundBeforeHorizon}
 use Rattle.model.specs.Record.{noThread, threadAt, readyCycle}
 use Rattle.model.specs.Effect.{closedAt, effectIn, effectOf}
 use Rattle.model.specs.Footprint.{listedIn, notifiesIn}
-use Rattle.model.specs.Rules.{modelFault}
-use Rattle.rules.proofs.RuleLaws.{modelFault-horizon, modelFault-counts, modelFault-closer, modelFault-notifies}
+use Rattle.model.specs.Rules.{closerFault, modelFault}
+use Rattle.rules.proofs.RuleLaws.{closerFault-delay, modelFault-horizon, modelFault-counts, modelFault-statements, modelFault-closer, modelFault-notifies}
+use Rattle.packed.specs.Pack.{IsCode}
+use Rattle.packed.specs.Unpack.{marked, endBy, executeBy, markedBy, followBy}
+use Rattle.packed.proofs.MarkLaws.{Tells, Within, marked-length, tells-none, tells-more}
+use Rattle.packed.proofs.CodeLaws.{code-end, code-execute, code-marked, code-follow}
 use Rattle.plain.specs.declared.PlainRun.{PlainRun}
 use Rattle.plain.specs.Start.{Place, started, freshThreads, freshVariables, startOf}
 use Rattle.plain.specs.Wake.{wokenThread, woken, floorOf, someReady}
 use Rattle.plain.specs.Step.{isAt, isDue, ranOn, passedOn, begun, closedOn, stepped}
 use Rattle.plain.specs.Run.{isDone, isOut, runFor, lastStep, reported}
 use Rattle.cycles.proofs.RecordLaws.{<→horizon}
-use Rattle.runner.specs.Words.{keyOf, wordOf, stateFrom, threadsTo, closeWord, wakeWord, leastWord}
-use Rattle.runner.specs.Packed.{marked, executeTo, markedTo, followBy}
-use Rattle.runner.proofs.MarkLaws.{Tells, Within, marked-length, tells-none, tells-more}
+use Rattle.runner.specs.Words.{keyOf, wordOf, stateFrom, threadsTo, answer, closeWord, wakeWord, leastWord}
 use Rattle.runner.proofs.FloorLaws.{someReady-here, someReady-rest, begun-rest, stepped-close, runFor-done, runFor-out, runFor-on}
-use Rattle.runner.proofs.SoundLaws.{Sound, isDue→≡, sound-start, sound-passed, sound-ran, floor-ahead, sound-begun, threadAt-fresh, threadAt-woken, woken-length}
-use Rattle.runner.proofs.WordLaws.{Small, InRange, stateFrom-word, word-due, word-not-due, wakeWord-woken}
+use Rattle.runner.proofs.SoundLaws.{Ahead, Sound, isDue→≡, sound-start, sound-passed, sound-ran, floor-ahead, sound-begun, threadAt-fresh, threadAt-woken, woken-length}
+use Rattle.runner.proofs.WordLaws.{Small, InRange, unitsOf, stateFrom-word, word-due, word-not-due, closeWord-closed, wakeWord-woken}
 use Rattle.runner.proofs.RangeLaws.{Ranged, past-end, small-now, closedAt-range, ranged-start, ranged-set, ranged-woken}
-use Rattle.runner.proofs.LeastLaws.{floor-word, floor-late}
-use Rattle.runner.proofs.CodeLaws.{Code, code-execute, code-marked, code-size, code-end, code-follow}
+use Rattle.runner.proofs.LeastLaws.{leastWord-one, floor-word, floor-late}
 
 -- how many steps lie before a turn of a cycle: T + 1 for each cycle, whether it is run or not
 abbrev pub countAt : ℕ → ℕ → ℕ → ℕ
@@ -120,9 +127,6 @@ pub record Loop (m : Model) (budget : ℕ) (v ws ss : List ℕ) (fs : List Bool)
 -- what the run answers
 abbrev pub answerOf : Model → ℕ → PlainRun
 answerOf m budget = reported m (runFor m budget (lastStep m) (startOf m))
-
-abbrev pub answer : List ℕ → List Thread → ℕ → Bool → PlainRun
-answer v ts n spent = record { number = 0; variables = record { at = v }; threads = record { at = ts }; n = n; spent = spent }
 
 reported-as : (m : Model) (p : Place) (spent : Bool) → someReady m (p .threads) ≡ spent → answer (p .variables) (p .threads) (p .n) spent ≡ reported m p
 unfolding reported
@@ -219,9 +223,26 @@ threadsTo-as ws ss t ts h size words segments r =
     go k (no l) =
         past-end (tabulate t 0 f) (32 - t) k (omega (arith, tabulate-length t 0 f)) ∙ sym (r .rest k (omega arith))
 
+state-ahead : (c : Cycle) → Small c → (s : State) → Ahead c s → keyOf c < wordOf s
+state-ahead c small (Ready d) a = key-later (a d refl .0) (small .delta)
+state-ahead c small (Ended d) a = let k = small .key in omega arith
+state-ahead c small (Overrun d) a = let k = small .key in omega arith
+state-ahead c small (Waiting e d) a = let k = small .key in omega arith
+
 effect-within : (m : Model) → modelFault m ≡ 0 → (s : ℕ) → s < m .n → Within 32 (notifiedBy (bodyOf (segmentAt m s)))
 unfolding notifiesIn listedIn
 effect-within m fit s l e t = let few = modelFault-counts m fit .events in omega (arith, modelFault-notifies m fit 0 s l e t)
+
+closes : (m : Model) (fit : modelFault m ≡ 0) (code : List ℕ) → IsCode m 64 code → (s : ℕ) → s < m .n → (c : Cycle) → Small c → (x : List ℕ) →
+    InRange (closedAt s (segmentAt m s .closer) c x .state) → closeWord (endBy code s) (keyOf c) ≡ wordOf (closedAt s (segmentAt m s .closer) c x .state)
+closes m fit code is s l c small x r =
+    let few = modelFault-statements m fit s l in
+    rw (code-end m fit code is s l) (closeWord-closed c small (segmentAt m s .n) (omega arith) s (segmentAt m s .closer) x (units (m .v) (m .e) (segmentAt m s .closer) (modelFault-closer m fit s l)) r)
+  where
+    units : (v e : ℕ) (z : Closer) → closerFault v e z ≡ 0 → unitsOf z < 4294967296
+    units v e End f = omega arith
+    units v e (Time k y) f = omega (arith, closerFault-delay v e (Time k y) f)
+    units v e (Event w y) f = omega arith
 
 module _ (m : Model) (fit : modelFault m ≡ 0) (budget : ℕ) where
   pub loop-start : (ss : List ℕ) → length ss ≡ 32 → ((k : ℕ) → k < m .t → getD ss k 0 ≡ startAt m k .first) →
@@ -263,6 +284,17 @@ module _ (m : Model) (fit : modelFault m ≡ 0) (budget : ℕ) where
     -- the measure has room to fall
     pub loop-room : countAt (m .t) now turn < lastStep m
     loop-room = rw (loop .key) (countAt-room (m .t) (m .horizon .0) (loop .cycle) turn (loop .stands .sound .time) (loop .stands .sound .delta) (loop .stands .sound .turn))
+
+    -- every thread that was looked at is ahead
+    word-ahead : (k : ℕ) → k < m .t → k < turn → now < getD ws k 0
+    word-ahead k h l = rw (loop .key, loop .words k h) (state-ahead (loop .cycle) small (threadAt (loop .threads) k .state) (loop .stands .sound .ahead k l))
+
+    pub loop-ahead : m .t ≤ turn → now < leastWord (m .t) ws
+    loop-ahead h = go (leastWord-one (m .t) ws)
+      where
+        go : (leastWord (m .t) ws ≡ 18446744073709551615) ⊎ ((k : ℕ) × (k < m .t) × (leastWord (m .t) ws ≡ getD ws k 0)) → now < leastWord (m .t) ws
+        go (inl e) = omega (arith, loop-small)
+        go (inr (k, l, e)) = rw e (word-ahead k l (omega arith))
 
     pub loop-threads : threadsTo ws ss (m .t) ≡ loop .threads
     loop-threads = threadsTo-as ws ss (m .t) (loop .threads) (modelFault-counts m fit .threads) (loop .stands .sound .size) (loop .words) (loop .segments) (loop .ranged)
@@ -314,30 +346,28 @@ module _ (m : Model) (fit : modelFault m ≡ 0) (budget : ℕ) where
           (sound-ran m fit here (loop .stands .sound) h) (omega arith)
 
       -- "the ready threads of that cycle run their segment whole"
-      pub loop-ran : n < budget → (words ends nexts : List ℕ) → Code m words ends nexts → (s : ℕ) → s ≡ getD ss turn 0 → (x : List ℕ) (gs : List Bool) →
-          x ≡ executeTo words (32 * s) (getD ends s 0 / 4 % 256) v → gs ≡ markedTo words (32 * s) (getD ends s 0 / 4 % 256) fs →
-          Loop m budget x (set ws turn (closeWord (getD ends s 0) now)) (set ss turn (followBy (getD ends s 0) (getD nexts s 0) s x)) gs now (turn + 1) (n + 1)
+      pub loop-ran : n < budget → (code : List ℕ) → IsCode m 64 code → (s : ℕ) → s ≡ getD ss turn 0 → (x : List ℕ) → x ≡ executeBy code s v →
+          Loop m budget x (set ws turn (closeWord (endBy code s) now)) (set ss turn (followBy code s x)) (markedBy code s fs) now (turn + 1) (n + 1)
       unfolding here ranOn effectOf effectIn
-      loop-ran room words ends nexts code s same x gs e f =
+      loop-ran room code is s same x e =
           let r = threadAt (loop .threads) turn .segment in
           let p : s ≡ r = same ∙ loop .segments turn h in
           let l : s < m .n = rw same (loop-segment h) in
-          let size = code-size m fit words ends nexts code s l in
-          let after : x ≡ execute (bodyOf (segmentAt m s)) v = e ∙ (ap (λ (k : ℕ). executeTo words (32 * s) k v) size ∙ code-execute m fit words ends nexts code s l v) in
-          let told : gs ≡ marked fs (notifiedBy (bodyOf (segmentAt m s))) = f ∙ (ap (λ (k : ℕ). markedTo words (32 * s) k fs) size ∙ code-marked m fit words ends nexts code s l fs) in
+          let after : x ≡ execute (bodyOf (segmentAt m s)) v = e ∙ code-execute m fit code is s l v in
+          let told : markedBy code s fs ≡ marked fs (notifiedBy (bodyOf (segmentAt m s))) = code-marked m fit code is s l fs in
           let i : turn < length ws = omega (arith, loop .words-size, modelFault-counts m fit .threads) in
           let j : turn < length (loop .threads) = omega (arith, loop .stands .sound .size, modelFault-counts m fit .threads) in
           let k : turn < length ss = omega (arith, loop .segments-size, modelFault-counts m fit .threads) in
           let y = closedAt s (segmentAt m s .closer) (loop .cycle) x in
           let range : InRange (y .state) = closedAt-range (loop .cycle) soon (loop .stands .sound .delta) (m .v) (m .e) s (segmentAt m s .closer) x (modelFault-counts m fit .events) (modelFault-closer m fit s l) in
-          let close : closeWord (getD ends s 0) now ≡ wordOf (y .state) = ap (closeWord (getD ends s 0)) (loop .key) ∙ code-end m fit words ends nexts code s l (loop .cycle) small x range in
+          let close : closeWord (endBy code s) now ≡ wordOf (y .state) = ap (closeWord (endBy code s)) (loop .key) ∙ closes m fit code is s l (loop .cycle) small x range in
           record {
             threads = set (loop .threads) turn y;
             cycle = loop .cycle;
             events = loop .events ++ notifiedBy (bodyOf (segmentAt m s));
             key = loop .key;
             words = set-both (m .t) ws (loop .threads) turn _ y (λ (z : Thread). wordOf (z .state)) i j close (loop .words);
-            segments = set-both (m .t) ss (loop .threads) turn _ y (λ (z : Thread). z .segment) k j (code-follow m fit words ends nexts code s l (loop .cycle) x) (loop .segments);
+            segments = set-both (m .t) ss (loop .threads) turn _ y (λ (z : Thread). z .segment) k j (code-follow m fit code is s l (loop .cycle) x) (loop .segments);
             ranged = ranged-set (m .t) (loop .threads) turn y j h range (loop .ranged);
             tells = rw told (tells-more fs (loop .events) (notifiedBy (bodyOf (segmentAt m s))) (rw (loop .marks-size) (effect-within m fit s l)) (loop .tells));
             marks-size = ap length told ∙ (marked-length fs (notifiedBy (bodyOf (segmentAt m s))) ∙ loop .marks-size);
@@ -429,8 +459,3 @@ module _ (m : Model) (fit : modelFault m ≡ 0) (budget : ℕ) where
 -- for the code: the measure falls
 pub falls-later : (l a b : ℕ) → a < b → a < l → l - b < l - a
 falls-later l a b h k = omega arith
-
--- for the code: a result with its threads read back
-pub result-as : (v : List ℕ) (ts : Threads) (l : List Thread) (n : ℕ) (spent : Bool) → ts .at ≡ l →
-    record { number = 0; variables = record { at = v }; threads = ts; n = n; spent = spent } ≡ answer v l n spent
-result-as v ts l n spent e = λ i. record { number = 0; variables = record { at = v }; threads = record { at = e i }; n = n; spent = spent }

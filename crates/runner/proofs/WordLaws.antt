@@ -8,7 +8,7 @@ use mathlib.Core.Path.{_≡_, refl, ap, sym, _∙_}
 use mathlib.Core.Logic.{_⊎_, inl, inr}
 use mathlib.Core.Bool.{Bool, true, false, cond, not, _&&_}
 use mathlib.Core.List.{List}
-use native.Mathlib.Nat.{mul-mod-right, add-mul-mod-self-left, mod-eq-of-lt}
+use native.Mathlib.Nat.{mul-mod-right, mod-eq-of-lt}
 use native.Mathlib.Omega.{arith}
 use native.Mathlib.Decide.{ℕ-discrete, decLt}
 use lib.Dec.{T, ltb, leb}
@@ -31,20 +31,18 @@ use Rattle.model.specs.declared.State.the-variants.{Ended, Overrun, Ready, Wait
 use Rattle.model.specs.Record.{readyCycle, stateAfter}
 use Rattle.model.specs.Effect.{closedAt}
 use Rattle.model.specs.Footprint.{has}
+use Rattle.packed.specs.Pack.{packEnd}
+use Rattle.packed.proofs.MarkLaws.{Tells}
+use Rattle.packed.proofs.CodeLaws.{end-kind, end-load}
 use Rattle.plain.specs.Wake.{isWoken, wokenState}
 use Rattle.plain.specs.Step.{isAt}
 use Rattle.runner.specs.Words.{waiting, ended, overrun, span, keyOf, wordOf, stateFrom, nextWord, closeWord, wakeWord}
-use Rattle.runner.specs.Packed.{packEnd}
-use Rattle.runner.proofs.MarkLaws.{Tells}
 
--- how a segment of n statements closes: its kind, and its delay or its event
-pub end-kind : (i n k : ℕ) → i < 4 → (i + 4 * n + 1024 * k) % 4 ≡ i
-end-kind i n k h =
-    let e : i + 4 * n + 1024 * k ≡ i + 4 * (n + 256 * k) = omega arith in
-    ap (λ (x : ℕ). x % 4) e ∙ (add-mul-mod-self-left i 4 (n + 256 * k) ∙ mod-eq-of-lt h)
-
-pub end-load : (i n k : ℕ) → i < 4 → n < 256 → (i + 4 * n + 1024 * k) / 1024 ≡ k
-end-load i n k h l = omega arith
+-- the units that a closer waits for
+abbrev pub unitsOf : Closer → ℕ
+unitsOf End = 0
+unitsOf (Time k x) = k .0
+unitsOf (Event e x) = 0
 
 -- a cycle that a word holds
 pub record Small (c : Cycle) : Type 0 where
@@ -119,7 +117,7 @@ module _ (c : Cycle) (small : Small c) where
 
   -- a segment of n statements closes
   module _ (n : ℕ) (few : n < 256) where
-    closeWord-time : (k : Delay) (w : ℕ) → w % 4 ≡ 1 → w / 1024 ≡ k .0 → closeWord w (keyOf c) ≡ wordOf (stateAfter (waitEnds (wait.Time k) c))
+    closeWord-time : (k : Delay) (w : ℕ) → w % 4 ≡ 1 → w / 1024 % 4294967296 ≡ k .0 → closeWord w (keyOf c) ≡ wordOf (stateAfter (waitEnds (wait.Time k) c))
     unfolding closeWord
     closeWord-time k w e f = go (ℕ-discrete (k .0) 0)
       where
@@ -129,11 +127,12 @@ module _ (c : Cycle) (small : Small c) where
         go (no z) = let d = small .delta in
             rw (e, f, ne-eqb (k .0) 0 z, waitEnds-more k c z) (omega arith)
 
-    pub closeWord-closed : (s : ℕ) (z : Closer) (v : List ℕ) → InRange (closedAt s z c v .state) → closeWord (packEnd n z) (keyOf c) ≡ wordOf (closedAt s z c v .state)
+    pub closeWord-closed : (s : ℕ) (z : Closer) (v : List ℕ) → unitsOf z < 4294967296 → InRange (closedAt s z c v .state) → closeWord (packEnd n z) (keyOf c) ≡ wordOf (closedAt s z c v .state)
     unfolding closeWord closedAt
-    closeWord-closed s End v r = rw (mul-mod-right 4 n) refl
-    closeWord-closed s (Time k x) v r = closeWord-time k (1 + 4 * n + 1024 * k .0) (end-kind 1 n (k .0) (omega arith)) (end-load 1 n (k .0) (omega arith) few)
-    closeWord-closed s (Event e x) v (l, r) =
+    closeWord-closed s End v u r = rw (mul-mod-right 4 n) refl
+    closeWord-closed s (Time k x) v u r =
+        closeWord-time k (1 + 4 * n + 1024 * k .0) (end-kind 1 n (k .0) (omega arith)) (ap (λ (z : ℕ). z % 4294967296) (end-load 1 n (k .0) (omega arith) few) ∙ mod-eq-of-lt u)
+    closeWord-closed s (Event e x) v u (l, r) =
         let small : e % 256 ≡ e = mod-eq-of-lt l in
         rw (end-kind 2 n e (omega arith), end-load 2 n e (omega arith) few, small) refl
 

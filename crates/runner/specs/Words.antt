@@ -13,6 +13,7 @@ use Rattle.model.specs.declared.State.{State}
 use Rattle.model.specs.declared.State.the-variants.{Ended, Overrun, Ready, Waiting}
 use Rattle.model.specs.declared.Thread.{Thread}
 use Rattle.model.specs.Record.{noThread}
+use Rattle.plain.specs.declared.PlainRun.{PlainRun}
 
 abbrev pub waiting : ℕ
 waiting = 4611686018427387904
@@ -46,6 +47,10 @@ stateFrom w =
 unfoldable pub threadsTo : List ℕ → List ℕ → ℕ → List Thread
 threadsTo ws ss k = tabulate k 0 (λ j. record { segment = getD ss j 0; state = stateFrom (getD ws j 0) }) ++ replicate (32 - k) noThread
 
+-- what a run that is not refused leaves
+abbrev pub answer : List ℕ → List Thread → ℕ → Bool → PlainRun
+answer v ts n spent = record { number = 0; variables = record { at = v }; threads = record { at = ts }; n = n; spent = spent }
+
 -- "becomes ready at the next delta", or is overrun
 unfoldable pub nextWord : ℕ → ℕ
 nextWord now = cond (ltb (now % 1024) 1023) (now + 1) (overrun + now)
@@ -57,7 +62,7 @@ closeWord end now =
     (ended + now)
     (cond (eqb (end % 4) 2)
     (waiting + span * (end / 1024 % 256) + now)
-    (cond (eqb (end / 1024) 0) (nextWord now) (1024 * (now / 1024 + end / 1024))))
+    (cond (eqb (end / 1024 % 4294967296) 0) (nextWord now) (1024 * (now / 1024 + end / 1024 % 4294967296))))
 
 -- a thread at the end of a cycle, where the marked events were notified
 unfoldable pub wakeWord : List Bool → ℕ → ℕ → ℕ

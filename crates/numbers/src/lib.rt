@@ -1,0 +1,327 @@
+// A state and thread records as numbers in buffers, for callers in C and Rust. Words past those of a state are not looked at and not touched.
+use clock::Cycle;
+use clock::Delta;
+use clock::Time;
+use early::Notification;
+use early::Site;
+use model::State;
+use model::Thread;
+use model::Threads;
+use model::Variables;
+ghost use Prim.Native.Nat.{_+_, _<_, _≤_, _%_, _^_};
+ghost use mathlib.Core.Path.{_≡_};
+ghost use mathlib.Core.List.{[], _∷_};
+ghost use lib.ListN.{length, getD};
+ghost use lib.Seq.{sets};
+ghost use Rattle.numbers.specs.Numbers.{pairWords, threadWords, logWords, recordWords, wordsIn, pairAt, stateFrom, threadFrom, variablesFrom, siteFrom, threadsFrom, isPairHeld, isEventHeld, isRecordHeld, isLogHeld, areRecordsHeld, areHeld};
+
+fn long_byte(x: u8) -> u64
+    ensures { λ r. ⌜ r ≡ x ⌝ }
+{
+    x as u64
+}
+
+fn long_word(x: u32) -> u64
+    ensures { λ r. ⌜ r ≡ x ⌝ }
+{
+    x as u64
+}
+
+fn byte_of(x: u64) -> u8
+    ensures { λ r. ⌜ r ≡ x % 2 ^ 8 ⌝ }
+{
+    (x % 256) as u8
+}
+
+fn delta_of(x: u64) -> u32
+    ensures { λ r. ⌜ r ≡ x % 2 ^ 32 ⌝ }
+{
+    (x % 4294967296) as u32
+}
+
+// A word, 0 past the end.
+fn word_at(words: &[u64], i: usize) -> u64
+    ensures { λ r. ⌜ r ≡ getD (now (words .entry)) i 0 ⌝ }
+{
+    if i < words.len() {
+        return words[i];
+    }
+    0
+}
+
+fn value_at(values: &[u32], i: usize) -> u32
+    ensures { λ r. ⌜ r ≡ getD (now (values .entry)) i 0 ⌝ }
+{
+    if i < values.len() {
+        return values[i];
+    }
+    0
+}
+
+// The place numbered i of a log.
+fn pair_at(log: &[u64], i: usize) -> Notification
+    requires { ⌜ i < 128 ⌝ }
+    ensures { λ r. ⌜ r ≡ pairAt (now (log .entry)) i ⌝ }
+{
+    let p = 3 * i;
+    let event = byte_of(word_at(log, p + 1));
+    let time = word_at(log, p + 2);
+    let delta = delta_of(word_at(log, p + 3));
+    Notification {
+        event,
+        cycle: Cycle {
+            time: Time(time),
+            delta: Delta(delta),
+        },
+    }
+}
+
+// A state by its number; from 3 on, waiting.
+fn state_from(number: u64, event: u8, c: Cycle) -> State
+    ensures { λ r. ⌜ r ≡ stateFrom number event c ⌝ }
+{
+    if number == 0 {
+        return State::Ended(c);
+    }
+    if number == 1 {
+        return State::Overrun(c);
+    }
+    if number == 2 {
+        return State::Ready(c);
+    }
+    State::Waiting(event, c)
+}
+
+// The record of thread k.
+fn thread_from(records: &[u64], k: usize) -> Thread
+    requires { ⌜ k < 32 ⌝ }
+    ensures { λ r. ⌜ r ≡ threadFrom (now (records .entry)) k ⌝ }
+{
+    let p = 5 * k;
+    let segment = byte_of(word_at(records, p));
+    let number = word_at(records, p + 1);
+    let event = byte_of(word_at(records, p + 2));
+    let time = word_at(records, p + 3);
+    let delta = delta_of(word_at(records, p + 4));
+    let c = Cycle {
+        time: Time(time),
+        delta: Delta(delta),
+    };
+    let state = state_from(number, event, c);
+    Thread { segment, state }
+}
+
+fn variables_from(values: &[u32]) -> Variables
+    ensures { λ r. ⌜ r ≡ variablesFrom (now (values .entry)) ⌝ }
+{
+    let mut at = [0u32; 64];
+    let mut i = 0;
+    while i < 64 {
+        at[i] = value_at(values, i);
+        i += 1;
+    }
+    Variables { at }
+}
+
+pub fn site_from(variables: &[u32], log: &[u64]) -> Site
+    ensures { λ r. ⌜ r ≡ siteFrom (now (variables .entry)) (now (log .entry)) ⌝ }
+{
+    let values = variables_from(variables);
+    let count = byte_of(word_at(log, 0));
+    let mut places = [pair_at(log, 0); 128];
+    let mut i = 0;
+    while i < 128 {
+        places[i] = pair_at(log, i);
+        i += 1;
+    }
+    Site {
+        variables: values,
+        log: places,
+        count,
+    }
+}
+
+pub fn threads_from(records: &[u64]) -> Threads
+    ensures { λ r. ⌜ r ≡ threadsFrom (now (records .entry)) ⌝ }
+{
+    let mut at = [thread_from(records, 0); 32];
+    let mut k = 0;
+    while k < 32 {
+        at[k] = thread_from(records, k);
+        k += 1;
+    }
+    Threads { at }
+}
+
+// Three words from place `at` on.
+fn put_pair(out: &mut [u64], at: usize, x: Notification)
+    requires { ⌜ at + 3 ≤ length (now out) ⌝ }
+    ensures { λ _. ⌜ now (out .exit) ≡ sets (now (out .entry)) at (pairWords x) ⌝ }
+{
+    out[at] = long_byte(x.event);
+    out[at + 1] = x.cycle.time.0;
+    out[at + 2] = long_word(x.cycle.delta.0);
+}
+
+// Five words from place `at` on.
+fn put_record(out: &mut [u64], at: usize, segment: u8, number: u64, event: u8, c: Cycle)
+    requires { ⌜ at + 5 ≤ length (now out) ⌝ }
+    ensures { λ _. ⌜ now (out .exit) ≡ sets (now (out .entry)) at (segment ∷ number ∷ event ∷ c .time .0 ∷ c .delta .0 ∷ []) ⌝ }
+{
+    out[at] = long_byte(segment);
+    out[at + 1] = number;
+    out[at + 2] = long_byte(event);
+    out[at + 3] = c.time.0;
+    out[at + 4] = long_word(c.delta.0);
+}
+
+fn put_thread(out: &mut [u64], at: usize, x: Thread)
+    requires { ⌜ at + 5 ≤ length (now out) ⌝ }
+    ensures { λ _. ⌜ now (out .exit) ≡ sets (now (out .entry)) at (threadWords x) ⌝ }
+{
+    let s = x.state;
+    match s {
+        State::Ended(c) => put_record(out, at, x.segment, 0, 0, c),
+        State::Overrun(c) => put_record(out, at, x.segment, 1, 0, c),
+        State::Ready(c) => put_record(out, at, x.segment, 2, 0, c),
+        State::Waiting(e, c) => put_record(out, at, x.segment, 3, e, c),
+    }
+}
+
+fn variables_into(values: Variables, out: &mut [u32])
+    ensures { λ _. ⌜ now (out .exit) ≡ wordsIn (values .at) (now (out .entry)) ⌝ }
+{
+    if out.len() < 64 {
+        return;
+    }
+    let mut i = 0;
+    while i < 64 {
+        out[i] = values.at[i];
+        i += 1;
+    }
+}
+
+fn log_into(site: Site, out: &mut [u64])
+    ensures { λ _. ⌜ now (out .exit) ≡ wordsIn (logWords site) (now (out .entry)) ⌝ }
+{
+    if out.len() < 385 {
+        return;
+    }
+    out[0] = long_byte(site.count);
+    let mut i = 0;
+    while i < 128 {
+        let x = site.log[i];
+        put_pair(out, 3 * i + 1, x);
+        i += 1;
+    }
+}
+
+pub fn site_into(site: Site, variables: &mut [u32], log: &mut [u64])
+    ensures values { λ _. ⌜ now (variables .exit) ≡ wordsIn (site .variables .at) (now (variables .entry)) ⌝ }
+    ensures words { λ _. ⌜ now (log .exit) ≡ wordsIn (logWords site) (now (log .entry)) ⌝ }
+{
+    let values = site.variables;
+    variables_into(values, variables);
+    log_into(site, log);
+}
+
+pub fn threads_into(threads: Threads, records: &mut [u64])
+    ensures { λ _. ⌜ now (records .exit) ≡ wordsIn (recordWords threads) (now (records .entry)) ⌝ }
+{
+    if records.len() < 160 {
+        return;
+    }
+    let mut k = 0;
+    while k < 32 {
+        let x = threads.at[k];
+        put_thread(records, 5 * k, x);
+        k += 1;
+    }
+}
+
+fn is_pair_held(log: &[u64], i: usize) -> bool
+    requires { ⌜ i < 128 ⌝ }
+    ensures { λ r. ⌜ r ≡ isPairHeld (now (log .entry)) i ⌝ }
+{
+    let p = 3 * i;
+    if word_at(log, p + 1) < 256 {
+        return word_at(log, p + 3) < 4294967296;
+    }
+    false
+}
+
+// An event beside its state's number: 0 unless waiting.
+fn is_event_held(number: u64, event: u64) -> bool
+    ensures { λ r. ⌜ r ≡ isEventHeld number event ⌝ }
+{
+    if number == 3 {
+        return event < 256;
+    }
+    event == 0
+}
+
+fn is_record_held(records: &[u64], k: usize) -> bool
+    requires { ⌜ k < 32 ⌝ }
+    ensures { λ r. ⌜ r ≡ isRecordHeld (now (records .entry)) k ⌝ }
+{
+    let p = 5 * k;
+    let number = word_at(records, p + 1);
+    if word_at(records, p) >= 256 {
+        return false;
+    }
+    if number >= 4 {
+        return false;
+    }
+    if is_event_held(number, word_at(records, p + 2)) {
+        return word_at(records, p + 4) < 4294967296;
+    }
+    false
+}
+
+fn is_log_held(log: &[u64]) -> bool
+    ensures { λ r. ⌜ r ≡ isLogHeld (now (log .entry)) ⌝ }
+{
+    if log.len() < 385 {
+        return false;
+    }
+    if log[0] >= 256 {
+        return false;
+    }
+    let mut i = 0;
+    while i < 128 {
+        if !is_pair_held(log, i) {
+            return false;
+        }
+        i += 1;
+    }
+    true
+}
+
+fn are_records_held(records: &[u64]) -> bool
+    ensures { λ r. ⌜ r ≡ areRecordsHeld (now (records .entry)) ⌝ }
+{
+    if records.len() < 160 {
+        return false;
+    }
+    let mut k = 0;
+    while k < 32 {
+        if !is_record_held(records, k) {
+            return false;
+        }
+        k += 1;
+    }
+    true
+}
+
+// Whether the numbers are those of a state, each in its range, in buffers that are long enough.
+pub fn are_held(variables: &[u32], log: &[u64], records: &[u64]) -> bool
+    ensures { λ r. ⌜ r ≡ areHeld (now (variables .entry)) (now (log .entry)) (now (records .entry)) ⌝ }
+{
+    if variables.len() < 64 {
+        return false;
+    }
+    if is_log_held(log) {
+        return are_records_held(records);
+    }
+    false
+}

@@ -1,0 +1,6 @@
+pub mod PackLaws
+pub mod ExitLaws
+pub mod MarkLaws
+pub mod CodeLaws
+pub mod Computed
+pub mod Edges
