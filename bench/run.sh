@@ -6,13 +6,19 @@ PEER=$(cd "${PEER:-../../shared/peer}" && pwd)
 out=$(cd .. && pwd)/target/bench
 (cd .. && rt staticlib exports >/dev/null)
 mkdir -p "$out"
-g++ -O3 -std=c++17 -I "$PEER" -c native.cpp -o "$out/native.o"
-ar rcs "$out/libnative.a" "$out/native.o"
+for x in native requests; do
+    g++ -O3 -std=c++17 -I "$PEER" -c $x.cpp -o "$out/$x.o"
+    ar rcs "$out/lib$x.a" "$out/$x.o"
+done
 link="-L ../target/staticlib -l static=exports"
 rustc -O -o "$out/files" files.rs $link -L "$out" -l static=native
+rustc -O -o "$out/requests" requests.rs $link -L "$out" -l static=requests
 rustc -O -o "$out/plain" plain.rs $link
 echo "## Files"
 "$out/files"
+echo
+echo "## Lists of requests"
+"$out/requests"
 echo
 echo "## Plain run, million segments a second"
 make -s -C "$PEER" B="$out" all

@@ -1,0 +1,202 @@
+// Requests by plain loops, to measure the proved ones against. Document 01, "Early issue"; tables and state are made as the proved library makes them, fresh for each list.
+#include "model.h"
+#include <algorithm>
+#include <vector>
+
+typedef uint64_t B;  // a bound: time x 65,536 + delta, or NEVER
+static const B NEVER = ~0ull;
+static const uint64_t ONES = ~0ull, FAR = 1000000000ull << 10;
+
+static B plus(B x, B d) { return x == NEVER || d == NEVER ? NEVER : d < 65536 ? x + d : (x >> 16 << 16) + d; }
+static B at(uint64_t t, uint32_t d) { return t << 16 | d; }
+
+struct Rec { uint8_t seg, st, ev; uint64_t t; uint32_t d; };
+struct Pair { uint8_t e; uint64_t t; uint32_t d; };
+
+struct Kit {
+  Model m;
+  B dist[64][64];
+  bool mark[64][64];
+  uint32_t tells[64];
+  uint32_t v[64];
+  Rec r[32];
+  Pair log[160];
+  int count;
+
+  void tables() {
+    int n = m.N;
+    static uint64_t w[64 * 64];
+    for (int i = 0; i < n; i++) {
+      const Seg &g = m.seg[i];
+      uint64_t step = g.kind == 0 ? FAR : g.kind == 2 || g.delay == 0 ? 1 : (uint64_t)g.delay << 10;
+      for (int j = 0; j < n; j++) w[i * n + j] = i == j ? 0 : g.kind && (g.a == j || g.b == j) ? step : FAR;
+    }
+    for (int k = 0; k < n; k++)
+      for (int i = 0; i < n; i++) {
+        uint64_t a = w[i * n + k];
+        if (a >= FAR) continue;
+        for (int j = 0; j < n; j++) {
+          uint64_t b = w[k * n + j], c = b >= FAR ? FAR : b < 1024 ? a + b : (a >> 10 << 10) + b;
+          if (c < w[i * n + j]) w[i * n + j] = c;
+        }
+      }
+    for (int i = 0; i < n; i++)
+      for (int j = 0; j < n; j++) dist[i][j] = w[i * n + j] >= FAR ? NEVER : at(w[i * n + j] >> 10, w[i * n + j] & 1023);
+    uint64_t uses[64], writes[64];
+    for (int i = 0; i < n; i++) {
+      const Seg &g = m.seg[i];
+      uses[i] = g.kind && g.test != 255 ? 1ull << g.test : 0;
+      writes[i] = 0;
+      tells[i] = 0;
+      for (int j = 0; j < g.n; j++) {
+        const Stmt &s = g.st[j];
+        if (s.op == 6) { tells[i] |= 1u << s.a; continue; }
+        writes[i] |= 1ull << s.a;
+        if (s.op >= 3) uses[i] |= 1ull << s.b;
+      }
+      uses[i] |= writes[i];
+    }
+    for (int i = 0; i < n; i++)
+      for (int j = 0; j < n; j++) mark[i][j] = uses[i] & uses[j] & (writes[i] | writes[j]);
+  }
+
+  void fresh() {
+    memset(v, 0, sizeof v);
+    count = 0;
+    for (int k = 0; k < m.T; k++) r[k] = {m.first[k], READY, 0, 0, 0};
+  }
+
+  bool live(int k) { return r[k].st == READY || r[k].st == WAIT; }
+
+  const Pair *heard(int k) {
+    const Pair *best = 0;
+    for (int i = 0; i < count; i++)
+      if (log[i].e == r[k].ev && at(log[i].t, log[i].d) >= at(r[k].t, r[k].d) && (!best || at(log[i].t, log[i].d) < at(best->t, best->d))) best = &log[i];
+    return best;
+  }
+
+  B forecast(const B *x, int e) {
+    B b = NEVER;
+    for (int j = 0; j < m.T; j++)
+      if (live(j))
+        for (int s = 0; s < m.N; s++)
+          if (tells[s] >> e & 1) b = std::min(b, plus(x[j], dist[r[j].seg][s]));
+    return b;
+  }
+
+  void earliest(B *x) {
+    for (int k = 0; k < m.T; k++) {
+      x[k] = NEVER;
+      if (r[k].st == READY) x[k] = at(r[k].t, r[k].d);
+      if (r[k].st == WAIT)
+        if (const Pair *p = heard(k)) x[k] = at(p->t, p->d) + 1;
+    }
+    for (bool changed = true; changed;) {
+      changed = false;
+      for (int k = 0; k < m.T; k++)
+        if (r[k].st == WAIT) {
+          B b = plus(forecast(x, r[k].ev), 1);
+          if (b < x[k]) x[k] = b, changed = true;
+        }
+    }
+  }
+
+  B floor() {
+    B f = NEVER;
+    for (int k = 0; k < m.T; k++)
+      if (r[k].st == READY) f = std::min(f, at(r[k].t, r[k].d));
+    return f;
+  }
+
+  bool hazard(int i) {
+    B x[32], c = at(r[i].t, r[i].d);
+    earliest(x);
+    for (int j = 0; j < m.T; j++)
+      if (j != i && live(j))
+        for (int s = 0; s < m.N; s++)
+          if (mark[r[i].seg][s]) {
+            B b = plus(x[j], dist[r[j].seg][s]);
+            if (b < c || (b == c && j < i)) return true;
+          }
+    return false;
+  }
+
+  void wake(int k, uint64_t t, uint32_t d) {
+    if (d < 1023) r[k].st = READY, r[k].d = d + 1;
+    else r[k].st = OVERRUN, r[k].d = d;
+    r[k].t = t;
+    r[k].ev = 0;
+  }
+
+  int request(unsigned k, uint64_t *a) {
+    if (k >= (unsigned)m.T) return 10;
+    if (r[k].st != READY) return 12;
+    if (r[k].t >= m.H) return 13;
+    if (hazard(k)) return 14;
+    const Seg &g = m.seg[r[k].seg];
+    uint64_t t = r[k].t;
+    uint32_t d = r[k].d;
+    int full = count;
+    for (int i = 0; i < g.n; i++)
+      if (g.st[i].op == 6) {
+        bool held = false;
+        for (int j = 0; j < full; j++) held |= log[j].e == g.st[i].a && log[j].t == t && log[j].d == d;
+        if (!held) log[full++] = {g.st[i].a, t, d};
+      }
+    if (full > 128 || (floor() < at(t, d) && full > 96)) return 15;
+    count = full;
+    a[1] = r[k].seg, a[2] = t, a[3] = d;
+    for (int i = 0; i < g.n; i++) {
+      const Stmt &s = g.st[i];
+      switch (s.op) {
+        case 1: v[s.a] = s.b; break;
+        case 2: v[s.a] += s.b; break;
+        case 3: v[s.a] = v[s.b]; break;
+        case 4: v[s.a] += v[s.b]; break;
+        case 5: v[s.a] -= v[s.b]; break;
+      }
+    }
+    if (g.kind == 0) r[k].st = ENDED;
+    else {
+      r[k].seg = g.test == 255 || v[g.test] < g.limit ? g.a : g.b;
+      if (g.kind == 2) r[k].st = WAIT, r[k].ev = g.ev;
+      else if (g.delay) r[k].t += g.delay, r[k].d = 0;
+      else wake(k, t, d);
+    }
+    for (bool heard_any = true; heard_any;) {
+      heard_any = false;
+      for (int j = 0; j < m.T; j++)
+        if (r[j].st == WAIT)
+          if (const Pair *p = heard(j)) {
+            B x[32];
+            earliest(x);
+            if (forecast(x, r[j].ev) >= at(p->t, p->d)) wake(j, p->t, p->d), heard_any = true;
+          }
+    }
+    B f = floor();
+    int left = 0;
+    for (int i = 0; i < count; i++)
+      if (f != NEVER && at(log[i].t, log[i].d) >= f) log[left++] = log[i];
+    count = left;
+    return 0;
+  }
+};
+
+static Kit kit;
+
+// The answers of a list, 4 words each; how many were granted, and of these how many later than the floor.
+extern "C" uint8_t native_replay(const uint8_t *p, size_t len, const uint8_t *ks, size_t n, uint64_t *answers, uint64_t *granted, uint64_t *ahead) {
+  int number = read_model(p, len, kit.m);
+  if (number) return number;
+  kit.tables();
+  kit.fresh();
+  *granted = *ahead = 0;
+  for (size_t i = 0; i < n; i++) {
+    uint64_t *a = answers + 4 * i;
+    a[1] = a[2] = a[3] = 0;
+    B f = kit.floor();
+    a[0] = kit.request(ks[i], a);
+    if (a[0] == 0) *granted += 1, *ahead += at(a[2], a[3]) > f;
+  }
+  return 0;
+}

@@ -1,0 +1,74 @@
+// Lists of requests: the proved replay and plain loops, round by round in one run, with the cost of a request and the share of grants later than the floor.
+use std::hint::black_box;
+use std::time::Instant;
+
+extern "C" {
+    fn teaselauger_replay(
+        file: *const u8, n: usize, words: *mut u64, w: usize, threads: *const u8, t: usize, answers: *mut u64, a: usize, variables: *mut u32, v: usize, log: *mut u64, l: usize, records: *mut u64, r: usize,
+    ) -> u8;
+    fn native_replay(file: *const u8, n: usize, threads: *const u8, t: usize, answers: *mut u64, granted: *mut u64, ahead: *mut u64) -> u8;
+}
+
+fn seg(b: &mut Vec<u8>, closer: [u8; 13], statements: &[[u8; 6]]) {
+    let size = 17 + 6 * statements.len() as u16;
+    b.extend([size as u8, (size >> 8) as u8, 2, 0]);
+    b.extend(closer);
+    for s in statements {
+        b.extend(s);
+    }
+}
+
+// t threads, half of them tell their neighbour, which waits: `shared` variables are common to neighbours, else each has its own.
+fn site(t: u8, shared: bool) -> Vec<u8> {
+    let mut b = vec![10, 0, 1, 0, 0, 202, 154, 59, 64, t / 2];
+    for k in 0..t {
+        let own = if shared { k / 2 } else { k };
+        let (other, event) = (2 * k + 1, k / 2);
+        if k % 2 == 0 {
+            seg(&mut b, [1, 0, 3 + k, 0, 0, 0, other, other, 255, 0, 0, 0, 0], &[[2, own, 1, 0, 0, 0], [6, event, 0, 0, 0, 0]]);
+            seg(&mut b, [1, 0, 1, 0, 0, 0, 2 * k, 2 * k, 255, 0, 0, 0, 0], &[[2, own, 2, 0, 0, 0]]);
+        } else {
+            seg(&mut b, [2, event, 0, 0, 0, 0, other, other, 255, 0, 0, 0, 0], &[[2, own, 1, 0, 0, 0]]);
+            seg(&mut b, [1, 0, 2, 0, 0, 0, 2 * k, 2 * k, 255, 0, 0, 0, 0], &[[4, own, own, 0, 0, 0]]);
+        }
+    }
+    for k in 0..t {
+        b.extend([5, 0, 3, 0, 2 * k]);
+    }
+    b.extend([4, 0, 4, 0]);
+    b
+}
+
+fn main() {
+    println!("| site | threads, segments | requests | granted | later than the floor | proved, ns a request | native, ns a request | proved / native |");
+    println!("|---|---|---|---|---|---|---|---|");
+    for (name, t, shared) in [("small, own variables", 2u8, false), ("small, shared", 2, true), ("medium, own", 8, false), ("medium, shared", 8, true), ("full, own", 32, false), ("full, shared", 32, true)] {
+        let b = site(t, shared);
+        let n = 2000usize;
+        let mut seed = 1u64;
+        let ks: Vec<u8> = (0..n).map(|_| { seed = seed.wrapping_mul(6364136223846793005).wrapping_add(1442695040888963407); ((seed >> 33) % t as u64) as u8 }).collect();
+        let (mut x, mut y) = (vec![0u64; 4 * n], vec![0u64; 4 * n]);
+        let (mut words, mut vs, mut log, mut records) = (vec![0u64; 4096], vec![0u32; 64], vec![0u64; 385], vec![0u64; 160]);
+        let (mut granted, mut ahead) = (0u64, 0u64);
+        let mut proved = |n: usize, x: &mut Vec<u64>| unsafe {
+            let start = Instant::now();
+            assert_eq!(teaselauger_replay(black_box(b.as_ptr()), b.len(), words.as_mut_ptr(), 4096, ks.as_ptr(), n, x.as_mut_ptr(), x.len(), vs.as_mut_ptr(), 64, log.as_mut_ptr(), 385, records.as_mut_ptr(), 160), 0);
+            start.elapsed().as_nanos() as f64
+        };
+        let mut native = |n: usize, y: &mut Vec<u64>| unsafe {
+            let start = Instant::now();
+            assert_eq!(native_replay(black_box(b.as_ptr()), b.len(), ks.as_ptr(), n, y.as_mut_ptr(), &mut granted, &mut ahead), 0);
+            start.elapsed().as_nanos() as f64
+        };
+        let mut least = [f64::INFINITY; 4];
+        for _ in 0..15 {
+            least[0] = least[0].min(proved(0, &mut x));
+            least[1] = least[1].min(native(0, &mut y));
+            least[2] = least[2].min(proved(n, &mut x));
+            least[3] = least[3].min(native(n, &mut y));
+        }
+        assert!(x == y, "the answers of {name} differ");
+        let (p, q) = ((least[2] - least[0]) / n as f64, (least[3] - least[1]) / n as f64);
+        println!("| {name} | {t}, {} | {n} | {granted} | {:.0} % | {p:.0} | {q:.0} | {:.2} |", 2 * t, 100.0 * ahead as f64 / granted as f64, p / q);
+    }
+}

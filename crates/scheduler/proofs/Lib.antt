@@ -1,0 +1,11 @@
+pub mod FillLaws
+pub mod CrewLaws
+pub mod VariantLaws
+pub mod SweepLaws
+pub mod AnsweredLaws
+pub mod SettledLaws
+pub mod FitAnswerLaws
+pub mod FreshLaws
+pub mod AnswerWordLaws
+pub mod GoingLaws
+pub mod Edges

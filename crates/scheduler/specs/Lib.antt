@@ -1,0 +1,5 @@
+pub mod After
+pub mod Fresh
+pub mod Answers
+pub mod Awake
+pub mod Answered

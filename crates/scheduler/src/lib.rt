@@ -1,0 +1,654 @@
+// Document 01, "Early issue": the core on plain values.
+use clock::Bound;
+use clock::Cycle;
+use clock::Delta;
+use clock::Stamp;
+use clock::Step;
+use clock::ThreadNo;
+use clock::Time;
+use clock::Wait;
+use early::After;
+use early::Answer;
+use early::Notification;
+use early::Site;
+use model::Model;
+use model::Segment;
+use model::State;
+use model::Thread;
+use model::Threads;
+use model::Variables;
+use reach::Crew;
+use reach::Limits;
+ghost use mathlib.Core.Path.{_≡_};
+ghost use mathlib.Core.Bool.{false, cond, _&&_, _||_};
+ghost use Prim.Native.Nat.{ℕ, _+_, _*_, _<_, _≤_};
+ghost use mathlib.Core.List.{[], _∷_};
+ghost use lib.Seq.{sets};
+ghost use lib.Dec.{ltb};
+ghost use lib.ListN.{length, replicate};
+ghost use Rattle.clock.specs.Wait.{waitEnds, heldStep};
+ghost use Rattle.clock.specs.Advance.{isBoundBefore};
+ghost use Rattle.model.specs.Record.{noThread, threadAt, awaitedBy, stateAfter};
+ghost use Rattle.plain.specs.Start.{freshThreads};
+ghost use Rattle.early.specs.Log.{logOf};
+ghost use Rattle.early.specs.Fit.{isUnfit};
+ghost use Rattle.early.specs.Request.{earlyPlaces, freshSite, requestOf, requestsOf};
+ghost use Rattle.reach.specs.Limit.{sumOf};
+ghost use Rattle.reach.specs.Ahead.{reachOf, eventAwaited};
+ghost use Rattle.scheduler.specs.Awake.{floorBelow, crewOf, boundLimit, firstLimit, firstLimits, outlookOf, heardBy, lookedOn, sweptOn, settledOn};
+ghost use Rattle.scheduler.specs.Answered.{refusedOn, grantedOn, triedOn, clearOn, answeredOn};
+ghost use Rattle.scheduler.specs.After.{afterOf};
+ghost use Rattle.scheduler.specs.Fresh.{freshOf};
+ghost use Rattle.scheduler.specs.Answers.{answerWords, answersWords, grantsIn, leftBy, outcomeOf, answersIn};
+
+// A limit that stands for never, and the least that does so in a sum.
+const NEVER: u64 = 18446744073709551615;
+
+const TOP: u64 = 4611686018427387904;
+
+// The number, 0 where the model is accepted; then the fresh state and the fresh records, all zero beside a number.
+pub struct FreshState {
+    pub number: u8,
+    pub site: Site,
+    pub threads: Threads,
+}
+
+// What a list of requests leaves: 11 where the buffer is short, how many were granted, the state and the records.
+pub struct Outcome {
+    pub number: u8,
+    pub granted: u64,
+    pub site: Site,
+    pub threads: Threads,
+}
+
+// The records with what is known of them: the crew, the earliest limits, and whether a thread has heard.
+struct Outlook {
+    threads: Threads,
+    crew: Crew,
+    limits: Limits,
+    heard: bool,
+}
+
+fn wide(x: u8) -> usize
+    ensures { λ r. ⌜ r ≡ x ⌝ }
+{
+    x as usize
+}
+
+fn refused(number: u8, site: Site, threads: Threads) -> After
+    ensures { λ r. ⌜ r ≡ refusedOn number site (threads .at) ⌝ }
+{
+    After {
+        answer: Answer::Refused(number),
+        site,
+        threads,
+    }
+}
+
+// The event that a thread waits on, or 255.
+fn event_awaited(s: State) -> u8
+    ensures { λ r. ⌜ r ≡ eventAwaited (awaitedBy s) ⌝ }
+{
+    let State::Waiting(e, _) = s else {
+        return 255;
+    };
+    e
+}
+
+fn crew_of(threads: Threads, t: u8) -> Crew
+    requires { ⌜ t ≤ 32 ⌝ }
+    ensures { λ r. ⌜ r ≡ crewOf t (threads .at) ⌝ }
+{
+    let n = wide(t);
+    let mut segments = [0u8; 32];
+    let mut events = [255u8; 32];
+    let mut k = 0;
+    while k < n {
+        let x = threads.at[k];
+        let s = x.state;
+        segments[k] = x.segment;
+        events[k] = event_awaited(s);
+        k += 1;
+    }
+    Crew { segments, events }
+}
+
+// One delta later.
+fn one_later(x: u64) -> u64
+    ensures { λ r. ⌜ r ≡ sumOf x 1 ⌝ }
+{
+    if x < TOP {
+        return x + 1;
+    }
+    NEVER
+}
+
+fn bound_limit(b: Bound) -> u64
+    ensures { λ r. ⌜ r ≡ boundLimit b ⌝ }
+{
+    match b {
+        Bound::Never => NEVER,
+        Bound::At(c) => lookahead::limit_of(c),
+    }
+}
+
+// Document 01: chains "begin at a ready thread or a logged notification".
+fn first_limit(site: Site, s: State) -> u64
+    ensures { λ r. ⌜ r ≡ firstLimit (logOf site) s ⌝ }
+{
+    match s {
+        State::Ended(_) => NEVER,
+        State::Overrun(_) => NEVER,
+        State::Ready(c) => lookahead::limit_of(c),
+        State::Waiting(e, since) => one_later(bound_limit(notices::least_heard(site, e, since))),
+    }
+}
+
+fn first_limits(site: Site, threads: Threads, t: u8) -> Limits
+    requires { ⌜ t ≤ 32 ⌝ }
+    ensures { λ r. ⌜ r .at ≡ firstLimits t (logOf site) (threads .at) ⌝ }
+{
+    let n = wide(t);
+    let mut at = [NEVER; 32];
+    let mut k = 0;
+    while k < n {
+        let x = threads.at[k];
+        let s = x.state;
+        at[k] = first_limit(site, s);
+        k += 1;
+    }
+    Limits { at }
+}
+
+fn outlook_of(reach: &[u64], site: Site, threads: Threads, t: u8, heard: bool) -> Outlook
+    requires { ⌜ t ≤ 32 ⌝ }
+    ensures { λ r. ⌜ r ≡ outlookOf (now (reach .entry)) t (logOf site) (threads .at) heard ⌝ }
+{
+    let crew = crew_of(threads, t);
+    let first = first_limits(site, threads, t);
+    let limits = lookahead::earliest(reach, crew, first, t);
+    Outlook {
+        threads,
+        crew,
+        limits,
+        heard,
+    }
+}
+
+// Document 01: "The floor (least cycle of a ready thread)".
+fn floor_of(threads: Threads, t: u8) -> Bound
+    requires { ⌜ t ≤ 32 ⌝ }
+    ensures { λ r. ⌜ r ≡ floorBelow t (threads .at) ⌝ }
+{
+    let n = wide(t);
+    let mut least = Bound::Never;
+    let mut k = 0;
+    while k < n {
+        let x = threads.at[k];
+        let s = x.state;
+        least = clock::least_of(least, machine::ready_cycle(s));
+        k += 1;
+    }
+    least
+}
+
+// Document 01: "A delivery is looked for only if the thread waits".
+fn heard_by(reach: &[u64], site: Site, crew: Crew, xs: Limits, t: u8, s: State) -> Bound
+    ensures { λ r. ⌜ r ≡ heardBy (now (reach .entry)) t (logOf site) (crew .segments) (xs .at) (awaitedBy s) ⌝ }
+{
+    let State::Waiting(e, since) = s else {
+        return Bound::Never;
+    };
+    let Bound::At(c) = notices::least_heard(site, e, since) else {
+        return Bound::Never;
+    };
+    if lookahead::forecast(reach, crew, xs, t, e) < lookahead::limit_of(c) {
+        return Bound::Never;
+    }
+    Bound::At(c)
+}
+
+// Document 01: "It then becomes ready or overrun as in the plain run".
+fn woken_at(c: Cycle) -> State
+    ensures { λ r. ⌜ r ≡ stateAfter (heldStep (waitEnds Wait.Event c)) ⌝ }
+{
+    match clock::wait_ends(Wait::Event, c) {
+        Step::Ready(d) => State::Ready(d),
+        Step::Overrun(d) => State::Overrun(d),
+    }
+}
+
+// One look at thread k.
+fn look(reach: &[u64], site: Site, o: Outlook, t: u8, k: usize) -> Outlook
+    requires { ⌜ t ≤ 32 ⌝ }
+    requires { ⌜ k < t ⌝ }
+    requires { ⌜ o ≡ outlookOf (now reach) t (logOf site) (o .threads .at) (o .heard) ⌝ }
+    ensures seen { λ r. ⌜ r ≡ outlookOf (now (reach .entry)) t (logOf site) (lookedOn (now (reach .entry)) t (logOf site) (o .threads .at) k) (r .heard) ⌝ }
+    ensures still { λ r. ⌜ (r .heard ≡ false → (o .heard ≡ false) × (r .threads .at ≡ o .threads .at)) ⌝ }
+{
+    let mut threads = o.threads;
+    let crew = o.crew;
+    let limits = o.limits;
+    let x = threads.at[k];
+    let s = x.state;
+    let Bound::At(c) = heard_by(reach, site, crew, limits, t, s) else {
+        return o;
+    };
+    let state = woken_at(c);
+    threads.at[k] = Thread {
+        segment: x.segment,
+        state,
+    };
+    outlook_of(reach, site, threads, t, true)
+}
+
+// Document 01: "every thread is looked at".
+fn sweep(reach: &[u64], site: Site, o: Outlook, t: u8) -> Outlook
+    requires { ⌜ t ≤ 32 ⌝ }
+    requires { ⌜ o ≡ outlookOf (now reach) t (logOf site) (o .threads .at) (o .heard) ⌝ }
+    ensures seen { λ r. ⌜ r ≡ outlookOf (now (reach .entry)) t (logOf site) (sweptOn (now (reach .entry)) t (logOf site) (o .threads .at) t) (r .heard) ⌝ }
+    ensures still { λ r. ⌜ (r .heard ≡ false → r .threads .at ≡ o .threads .at) ⌝ }
+{
+    let n = wide(t);
+    let threads = o.threads;
+    let crew = o.crew;
+    let limits = o.limits;
+    let mut w = Outlook {
+        threads,
+        crew,
+        limits,
+        heard: false,
+    };
+    let mut k = 0;
+    while k < n {
+        w = look(reach, site, w, t, k);
+        k += 1;
+    }
+    w
+}
+
+// Document 01: "again and again until none hears anything".
+fn settle(reach: &[u64], site: Site, threads: Threads, t: u8) -> Threads
+    requires { ⌜ t ≤ 32 ⌝ }
+    ensures { λ r. ⌜ r .at ≡ settledOn (now (reach .entry)) t (logOf site) t (threads .at) ⌝ }
+{
+    let n = wide(t);
+    let mut o = outlook_of(reach, site, threads, t, false);
+    let mut i = 0;
+    while i < n {
+        o = sweep(reach, site, o, t);
+        if !o.heard {
+            return o.threads;
+        }
+        i += 1;
+    }
+    o.threads
+}
+
+// Document 01, 15: "cycle later than the floor and log plus new pairs above 96; or above 128 for any thread".
+fn is_full(over: bool, count: u8, floor: Bound, c: Cycle) -> bool
+    ensures { λ r. ⌜ r ≡ (over || (isBoundBefore floor (Bound.At c) && ltb earlyPlaces count)) ⌝ }
+{
+    if over {
+        return true;
+    }
+    if clock::is_bound_before(floor, Bound::At(c)) {
+        return 96 < count;
+    }
+    false
+}
+
+// Document 01, "After a grant": deliveries, and the drop before the floor.
+fn granted(reach: &[u64], t: u8, site: Site, threads: Threads, s: u8, c: Cycle) -> After
+    requires { ⌜ t ≤ 32 ⌝ }
+    ensures { λ r. ⌜ r ≡ grantedOn (now (reach .entry)) t site (threads .at) s c ⌝ }
+{
+    let after = settle(reach, site, threads, t);
+    let floor = floor_of(after, t);
+    let kept = notices::drop_before(site, floor);
+    After {
+        answer: Answer::Granted(s, c),
+        site: kept,
+        threads: after,
+    }
+}
+
+// Document 01: "the segment runs whole, its notifications are logged, and its closer is applied at its cycle".
+fn tried(
+    reach: &[u64],
+    t: u8,
+    g: Segment,
+    site: Site,
+    threads: Threads,
+    k: usize,
+    c: Cycle,
+) -> After
+    requires { ⌜ t ≤ 32 ⌝ }
+    requires { ⌜ k < t ⌝ }
+    ensures { λ r. ⌜ r ≡ triedOn (now (reach .entry)) t g site (threads .at) k c ⌝ }
+{
+    let x = threads.at[k];
+    let s = x.segment;
+    let v = site.variables;
+    let ran = machine::effect_in(g, s, c, v);
+    let variables = ran.variables;
+    let events = ran.notified;
+    let thread = ran.thread;
+    let log = site.log;
+    let noted = notices::note(
+        Site {
+            variables,
+            log,
+            count: site.count,
+        },
+        c,
+        events,
+    );
+    let over = noted.over;
+    let after = noted.site;
+    let count = after.count;
+    if is_full(over, count, floor_of(threads, t), c) {
+        return refused(15, site, threads);
+    }
+    let mut closed = threads;
+    closed.at[k] = thread;
+    granted(reach, t, after, closed, s, c)
+}
+
+// Hazards, before anything is run.
+fn clear(
+    n: u8,
+    t: u8,
+    g: Segment,
+    marks: [[bool; 64]; 64],
+    words: &[u64],
+    reach: &[u64],
+    site: Site,
+    threads: Threads,
+    at: Stamp,
+) -> After
+    requires { ⌜ t ≤ 32 ⌝ }
+    requires { ⌜ at .thread .0 < t ⌝ }
+    ensures { λ r. ⌜ r ≡ clearOn n t g marks (now (words .entry)) (now (reach .entry)) site (threads .at) at ⌝ }
+{
+    let o = outlook_of(reach, site, threads, t, false);
+    let crew = o.crew;
+    let limits = o.limits;
+    if lookahead::hazard(marks, words, n, t, crew, limits, at) {
+        return refused(14, site, threads);
+    }
+    let i = wide(at.thread.0);
+    let c = at.cycle;
+    tried(reach, t, g, site, threads, i, c)
+}
+
+// A request on a fit state, by the counts of its model and the segment that the thread is in.
+fn answered(
+    horizon: Time,
+    n: u8,
+    t: u8,
+    g: Segment,
+    marks: [[bool; 64]; 64],
+    words: &[u64],
+    reach: &[u64],
+    site: Site,
+    threads: Threads,
+    k: ThreadNo,
+) -> After
+    requires { ⌜ t ≤ 32 ⌝ }
+    ensures { λ r. ⌜ r ≡ answeredOn horizon n t g marks (now (words .entry)) (now (reach .entry)) site (threads .at) (k .0) ⌝ }
+{
+    if t <= k.0 {
+        return refused(10, site, threads);
+    }
+    let i = wide(k.0);
+    let x = threads.at[i];
+    let s = x.state;
+    let State::Ready(c) = s else {
+        return refused(12, site, threads);
+    };
+    if horizon.0 <= c.time.0 {
+        return refused(13, site, threads);
+    }
+    let at = Stamp {
+        cycle: c,
+        thread: k,
+    };
+    clear(n, t, g, marks, words, reach, site, threads, at)
+}
+
+// The segment that thread k is in, 0 where there is no such thread.
+fn segment_of(threads: Threads, t: u8, k: u8) -> usize
+    requires { ⌜ t ≤ 32 ⌝ }
+    ensures { λ r. ⌜ r ≡ cond (ltb k t) (threadAt (threads .at) k .segment) 0 ⌝ }
+{
+    if t <= k {
+        return 0;
+    }
+    let i = wide(k);
+    let x = threads.at[i];
+    wide(x.segment)
+}
+
+// The variables and the log, all zero.
+fn fresh_site() -> Site
+    ensures { λ r. ⌜ r ≡ freshSite ⌝ }
+{
+    let c = Cycle {
+        time: Time(0),
+        delta: Delta(0),
+    };
+    let x = Notification { event: 0, cycle: c };
+    Site {
+        variables: Variables { at: [0u32; 64] },
+        log: [x; 128],
+        count: 0,
+    }
+}
+
+fn no_threads() -> Threads
+    ensures { λ r. ⌜ r .at ≡ replicate 32 noThread ⌝ }
+{
+    let c = Cycle {
+        time: Time(0),
+        delta: Delta(0),
+    };
+    let x = Thread {
+        segment: 0,
+        state: State::Ended(c),
+    };
+    Threads { at: [x; 32] }
+}
+
+// Document 01: "All threads start ready at (0, 0)".
+fn fresh_threads(m: Model) -> Threads
+    requires { ⌜ m .t ≤ 32 ⌝ }
+    ensures { λ r. ⌜ r .at ≡ freshThreads m ⌝ }
+{
+    let count = m.t;
+    let n = wide(count);
+    let mut ts = no_threads();
+    let mut k = 0;
+    while k < n {
+        let s = m.starts[k];
+        let c = Cycle {
+            time: Time(0),
+            delta: Delta(0),
+        };
+        ts.at[k] = Thread {
+            segment: s.first,
+            state: State::Ready(c),
+        };
+        k += 1;
+    }
+    ts
+}
+
+// The fresh state of a model.
+pub fn fresh(m: Model) -> FreshState
+    ensures { λ r. ⌜ r ≡ freshOf m ⌝ }
+{
+    let site = fresh_site();
+    if rules::model_fault(m) != 0 {
+        let threads = no_threads();
+        return FreshState {
+            number: 11,
+            site,
+            threads,
+        };
+    }
+    let threads = fresh_threads(m);
+    FreshState {
+        number: 0,
+        site,
+        threads,
+    }
+}
+
+// A request: 11, then 10, 12, 13, 14, 15.
+pub fn request(
+    m: Model,
+    marks: [[bool; 64]; 64],
+    words: &[u64],
+    site: Site,
+    threads: Threads,
+    k: ThreadNo,
+) -> After
+    ensures { λ r. ⌜ r ≡ afterOf (requestOf m marks (now (words .entry)) site (threads .at) (k .0)) ⌝ }
+{
+    if fitness::is_unfit(m, words, site, threads) {
+        return refused(11, site, threads);
+    }
+    let mut reach = [0u64; 2048];
+    lookahead::fill_reach(m, words, &mut reach);
+    let t = m.t;
+    let n = m.n;
+    let horizon = m.horizon;
+    let s = segment_of(threads, t, k.0);
+    let g = m.segments[s];
+    answered(horizon, n, t, g, marks, words, &reach, site, threads, k)
+}
+
+// Whether an answer is a grant, as a number.
+fn grants_in(a: Answer) -> u64
+    ensures { λ r. ⌜ r ≡ grantsIn a ⌝ }
+{
+    match a {
+        Answer::Granted(_, _) => 1,
+        Answer::Refused(_) => 0,
+    }
+}
+
+// Four words of an answer, from a place on.
+fn put_words(answers: &mut [u64], at: usize, number: u64, segment: u64, time: u64, delta: u64)
+    requires { ⌜ at + 4 ≤ length (now answers) ⌝ }
+    ensures { λ _. ⌜ now (answers .exit) ≡ sets (now (answers .entry)) at (number ∷ segment ∷ time ∷ delta ∷ []) ⌝ }
+{
+    answers[at] = number;
+    answers[at + 1] = segment;
+    answers[at + 2] = time;
+    answers[at + 3] = delta;
+}
+
+fn put_answer(answers: &mut [u64], at: usize, a: Answer)
+    requires { ⌜ at + 4 ≤ length (now answers) ⌝ }
+    ensures { λ _. ⌜ now (answers .exit) ≡ sets (now (answers .entry)) at (answerWords a) ⌝ }
+{
+    match a {
+        Answer::Granted(s, c) => {
+            put_words(answers, at, 0, s as u64, c.time.0, c.delta.0 as u64);
+        }
+        Answer::Refused(n) => {
+            put_words(answers, at, n as u64, 0, 0, 0);
+        }
+    }
+}
+
+// An unfit state: every answer is 11.
+fn refuse_all(answers: &mut [u64], n: usize)
+    requires { ⌜ 4 * n ≤ length (now answers) ⌝ }
+    ensures { λ _. ⌜ now (answers .exit) ≡ sets (now (answers .entry)) 0 (answersWords (replicate n (Answer.Refused 11))) ⌝ }
+{
+    let mut i = 0;
+    while i < n {
+        put_answer(answers, 4 * i, Answer::Refused(11));
+        i += 1;
+    }
+}
+
+// The requests one after the other, on a fit state.
+fn answer_all(
+    m: Model,
+    marks: [[bool; 64]; 64],
+    words: &[u64],
+    reach: &[u64],
+    site: Site,
+    threads: Threads,
+    ks: &[u8],
+    answers: &mut [u64],
+) -> Outcome
+    requires { ⌜ (isUnfit m (now words) site (threads .at) ≡ false) × ((now reach ≡ reachOf m (now words)) × (4 * length (now ks) ≤ length (now answers))) ⌝ }
+    ensures left { λ r. ⌜ r ≡ leftBy (requestsOf m marks (now (words .entry)) site (threads .at) (now (ks .entry))) ⌝ }
+    ensures written { λ _. ⌜ now (answers .exit) ≡ sets (now (answers .entry)) 0 (answersWords (requestsOf m marks (now (words .entry)) site (threads .at) (now (ks .entry)) .answers)) ⌝ }
+{
+    let t = m.t;
+    let n = m.n;
+    let horizon = m.horizon;
+    let mut s = site;
+    let mut ts = threads;
+    let mut granted: u64 = 0;
+    let mut i = 0;
+    while i < ks.len() {
+        let k = ks[i];
+        let j = segment_of(ts, t, k);
+        let g = m.segments[j];
+        let a = answered(horizon, n, t, g, marks, words, reach, s, ts, ThreadNo(k));
+        let answer = a.answer;
+        put_answer(answers, 4 * i, answer);
+        granted += grants_in(answer);
+        s = a.site;
+        ts = a.threads;
+        i += 1;
+    }
+    Outcome {
+        number: 0,
+        granted,
+        site: s,
+        threads: ts,
+    }
+}
+
+// A list of requests: 11 is asked once, and the answers are written four words each.
+pub fn requests(
+    m: Model,
+    marks: [[bool; 64]; 64],
+    words: &[u64],
+    site: Site,
+    threads: Threads,
+    ks: &[u8],
+    answers: &mut [u64],
+) -> Outcome
+    ensures left { λ r. ⌜ r ≡ outcomeOf m marks (now (words .entry)) site (threads .at) (now (ks .entry)) (now (answers .entry)) ⌝ }
+    ensures written { λ _. ⌜ now (answers .exit) ≡ answersIn m marks (now (words .entry)) site (threads .at) (now (ks .entry)) (now (answers .entry)) ⌝ }
+{
+    if answers.len() / 4 < ks.len() {
+        return Outcome {
+            number: 11,
+            granted: 0,
+            site,
+            threads,
+        };
+    }
+    if fitness::is_unfit(m, words, site, threads) {
+        refuse_all(answers, ks.len());
+        return Outcome {
+            number: 0,
+            granted: 0,
+            site,
+            threads,
+        };
+    }
+    let mut reach = [0u64; 2048];
+    lookahead::fill_reach(m, words, &mut reach);
+    answer_all(m, marks, words, &reach, site, threads, ks, answers)
+}
