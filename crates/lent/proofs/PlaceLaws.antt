@@ -1,0 +1,136 @@
+-- What a request asks of the thread records it asks of the first T alone: where two lists agree on those, every definition of "Early issue"
+-- gives the same for both. "records past those are neither read nor written"
+--     Agree     two lists of records, at least T each, that agree on the first T
+--     earliestOf-same, forecastOf-same, hazard-same, floorOf-same, isFull-same, heardNow-same, effectAt-same, logAfter-same, isUnfitThreads-same
+use Prim.Native.Nat.{ℕ, zero, suc, _+_, _<_, _≤_}
+use mathlib.Core.Path.{_≡_, refl, ap, ap₂, sym, _∙_}
+use mathlib.Core.Bool.{Bool, cond, not, _&&_, _||_}
+use mathlib.Core.List.{List, [], _∷_}
+use native.Mathlib.Omega.{arith}
+use lib.Dec.{eqb, ltb}
+use lib.ListN.{length, getD}
+use borrow.Author.Tests.{le-ltb}
+use Rattle.base.specs.Index.{anyBelow, tabulate}
+use Rattle.clock.specs.declared.Cycle.{Cycle}
+use Rattle.clock.specs.declared.Bound.{Bound}
+use Rattle.clock.specs.declared.Bound.the-variants.{Never, At}
+use Rattle.clock.specs.Advance.{least, leastBelow, _⊕_, oneDelta, isBoundBefore}
+use Rattle.clock.proofs.LeastLaws.{leastBelow-same}
+use Rattle.model.specs.declared.Model.{Model}
+use Rattle.model.specs.declared.Thread.{Thread}
+use Rattle.model.specs.Record.{threadAt, isLive, readyCycle, Awaited, nothing, awaits, awaitedBy}
+use Rattle.model.specs.Effect.{Effect, effectOf}
+use Rattle.plain.specs.Wake.{floorOf}
+use Rattle.early.specs.declared.Notification.{Notification}
+use Rattle.early.specs.declared.Site.{Site}
+use Rattle.early.specs.Log.{places, logOf, withPairs, countedPlaces, leastHeard}
+use Rattle.early.specs.Earliest.{sourceOf, soonestNotify, afterNotify, linkTo, sources, relaxed, withLinks, earliestOf}
+use Rattle.early.specs.Forecast.{forecastOf}
+use Rattle.early.specs.Hazard.{threatens, hazard}
+use Rattle.early.specs.Deliver.{heardNow}
+use Rattle.early.specs.Fit.{isFitThread, isUnfitThreads}
+use Rattle.early.specs.Grant.{effectAt, logAfter}
+use Rattle.early.specs.Request.{earlyPlaces, isFull}
+use Rattle.reach.proofs.PlaceLaws.{anyBelow-same}
+
+-- lists filled by functions that agree
+tabulate-same : {A : Type 0} (n i : ℕ) (f g : ℕ → A) → ((j : ℕ) → j < i + n → f j ≡ g j) → tabulate n i f ≡ tabulate n i g
+unfolding tabulate
+tabulate-same zero i f g h = refl
+tabulate-same (suc n) i f g h = ap₂ _∷_ (h i (omega arith)) (tabulate-same n (i + 1) f g (λ j l. h j (omega arith)))
+
+-- the first T records of two lists
+pub record Agree (m : Model) (ts us : List Thread) : Type 0 where
+  pub left : m .t ≤ length ts
+  pub right : m .t ≤ length us
+  pub same : (k : ℕ) → k < m .t → threadAt ts k ≡ threadAt us k
+
+module _ (m : Model) (ts us : List Thread) (agree : Agree m ts us) where
+  pub isUnfitThreads-same : isUnfitThreads m ts ≡ isUnfitThreads m us
+  unfolding isUnfitThreads
+  isUnfitThreads-same =
+      rw (le-ltb (length ts) (m .t) (agree .left), le-ltb (length us) (m .t) (agree .right))
+      (anyBelow-same (m .t) (λ k. not (isFitThread m (threadAt ts k))) (λ k. not (isFitThread m (threadAt us k))) (λ k h. ap (λ (t : Thread). not (isFitThread m t)) (agree .same k h)))
+
+  pub floorOf-same : floorOf m ts ≡ floorOf m us
+  unfolding floorOf
+  floorOf-same = leastBelow-same (m .t) (λ k. readyCycle (threadAt ts k .state)) (λ k. readyCycle (threadAt us k .state)) (λ k h. ap (λ (t : Thread). readyCycle (t .state)) (agree .same k h))
+
+  module _ (ws : List ℕ) where
+    soonestNotify-same : (k : ℕ) (x : Bound) (e : ℕ) → k < m .t → soonestNotify m ws ts k x e ≡ soonestNotify m ws us k x e
+    unfolding soonestNotify
+    soonestNotify-same k x e h = rw (agree .same k h) refl
+
+    linkTo-same : (j k : ℕ) (x : Bound) → j < m .t → k < m .t → linkTo m ws ts j k x ≡ linkTo m ws us j k x
+    unfolding linkTo afterNotify
+    linkTo-same j k x p h = rw (agree .same k h) (go (awaitedBy (threadAt us k .state)))
+      where
+        go : (a : Awaited) → afterNotify m ws ts j x a ≡ afterNotify m ws us j x a
+        go nothing = refl
+        go (awaits e since) = ap (λ (b : Bound). b ⊕ oneDelta) (soonestNotify-same j x e p)
+
+    module _ (l : List Notification) where
+      sources-same : sources m l ts ≡ sources m l us
+      unfolding sources
+      sources-same = tabulate-same (m .t) 0 (λ k. sourceOf l (threadAt ts k .state)) (λ k. sourceOf l (threadAt us k .state)) (λ k h. ap (λ (t : Thread). sourceOf l (t .state)) (agree .same k (omega arith)))
+
+      relaxed-same : (xs : List Bound) → relaxed m ws ts xs ≡ relaxed m ws us xs
+      unfolding relaxed
+      relaxed-same xs =
+          tabulate-same
+          (m .t)
+          0
+          (λ k. least (getD xs k Never) (leastBelow (m .t) (λ j. linkTo m ws ts j k (getD xs j Never))))
+          (λ k. least (getD xs k Never) (leastBelow (m .t) (λ j. linkTo m ws us j k (getD xs j Never))))
+          (λ k h.
+          ap
+          (least (getD xs k Never))
+          (leastBelow-same (m .t) (λ j. linkTo m ws ts j k (getD xs j Never)) (λ j. linkTo m ws us j k (getD xs j Never)) (λ j p. linkTo-same j k (getD xs j Never) p (omega arith))))
+
+      withLinks-same : (n : ℕ) → withLinks m ws l ts n ≡ withLinks m ws l us n
+      unfolding withLinks
+      withLinks-same zero = sources-same
+      withLinks-same (suc n) = relaxed-same (withLinks m ws l ts n) ∙ ap (relaxed m ws us) (withLinks-same n)
+
+      pub earliestOf-same : earliestOf m ws l ts ≡ earliestOf m ws l us
+      unfolding earliestOf
+      earliestOf-same = withLinks-same (m .t)
+
+      pub forecastOf-same : (e : ℕ) → forecastOf m ws l ts e ≡ forecastOf m ws l us e
+      unfolding forecastOf
+      forecastOf-same e =
+          leastBelow-same
+          (m .t)
+          (λ k. soonestNotify m ws ts k (getD (earliestOf m ws l ts) k Never) e)
+          (λ k. soonestNotify m ws us k (getD (earliestOf m ws l us) k Never) e)
+          (λ k h. soonestNotify-same k (getD (earliestOf m ws l ts) k Never) e h ∙ ap (λ (xs : List Bound). soonestNotify m ws us k (getD xs k Never) e) earliestOf-same)
+
+      pub heardNow-same : (a : Awaited) → heardNow m ws l ts a ≡ heardNow m ws l us a
+      unfolding heardNow
+      heardNow-same nothing = refl
+      heardNow-same (awaits e since) = ap (λ (b : Bound). cond (isBoundBefore b (leastHeard l e since)) Never (leastHeard l e since)) (forecastOf-same e)
+
+      pub hazard-same : (marks : List (List Bool)) (i : ℕ) (c : Cycle) → i < m .t → hazard m marks ws l ts i c ≡ hazard m marks ws l us i c
+      unfolding hazard threatens
+      hazard-same marks i c p =
+          anyBelow-same
+          (m .t)
+          (λ j. (not (eqb j i) && isLive (threadAt ts j .state)) && threatens m marks ws ts i c j (getD (earliestOf m ws l ts) j Never))
+          (λ j. (not (eqb j i) && isLive (threadAt us j .state)) && threatens m marks ws us i c j (getD (earliestOf m ws l us) j Never))
+          (λ j h. ap₂ _&&_ (ap (λ (t : Thread). not (eqb j i) && isLive (t .state)) (agree .same j h)) (threat j h))
+        where
+          threat : (j : ℕ) → j < m .t → threatens m marks ws ts i c j (getD (earliestOf m ws l ts) j Never) ≡ threatens m marks ws us i c j (getD (earliestOf m ws l us) j Never)
+          threat j h = rw (agree .same i p, agree .same j h, earliestOf-same) refl
+
+  module _ (site : Site) (k : ℕ) (c : Cycle) (h : k < m .t) where
+    pub isFull-same : isFull m site ts k c ≡ isFull m site us k c
+    unfolding isFull
+    isFull-same = rw (agree .same k h, floorOf-same) refl
+
+    pub effectAt-same : effectAt m site ts k c ≡ effectAt m site us k c
+    unfolding effectAt
+    effectAt-same = rw (agree .same k h) refl
+
+    pub logAfter-same : logAfter m site ts k c ≡ logAfter m site us k c
+    unfolding logAfter
+    logAfter-same = rw effectAt-same refl

@@ -1,0 +1,24 @@
+use borrow.Author.Needs.{needs}
+use Rattle.lent.proofs.MovedLaws.{lent-short, lent-enough}
+use Rattle.lent.proofs.request_of.Statement.{statement}
+use Rattle.lent.proofs.request_of.Tie as tie
+use Rattle.lent.proofs.request_of.Reads as reads
+use Rattle.lent.proofs.request_of.Lts as lts
+use Rattle.scheduler.proofs.request.Reads as request-reads
+
+cast-if1 : tie.Need-cast-if1
+cast-if1 c = search needs
+
+-- fewer than the threads
+returns : tie.Need-returns
+returns c = lent-short _ _ _ _ _ _ _ (c .if1 .taken)
+
+request-requires : tie.Need-request-requires
+request-requires c κs = search needs
+
+-- the request on the records
+returns-2 : tie.Need-returns-2
+returns-2 c = lent-enough _ _ _ _ _ _ _ _ (c .before .before .before .if1 .left) (c .before .before .request .ensures)
+
+pub request-of-spec : {M : Type 1} → statement M
+request-of-spec = tie.close (tie.spec cast-if1 returns request-requires returns-2)

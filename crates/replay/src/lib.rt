@@ -1,0 +1,78 @@
+// A file's bytes and a list of requests: loaded, and all of the list made on the fresh state.
+use early::Site;
+use model::Threads;
+ghost use Prim.Native.Nat.{_<_};
+ghost use mathlib.Core.Path.{_≡_};
+ghost use Rattle.reader.specs.File.{readFile};
+ghost use Rattle.replay.specs.Replay.{refusedWith, replayedOf, wordsAfter, answersAfter, Keeps};
+
+// What a replay leaves: the number of the refusal or 0, how many requests were granted, the counts of variables and threads, the state
+// and the records.
+pub struct Replayed {
+    pub number: u8,
+    pub granted: u64,
+    pub v: u8,
+    pub t: u8,
+    pub site: Site,
+    pub threads: Threads,
+}
+
+fn wide(x: u8) -> usize
+    ensures { λ r. ⌜ (r ≡ x) × (r < 256) ⌝ }
+{
+    x as usize
+}
+
+// Beside a number all else is zero, as the fresh state of a zero model is.
+fn refused(number: u8) -> Replayed
+    ensures { λ r. ⌜ r ≡ refusedWith number ⌝ }
+{
+    let read = parser::refused(number);
+    let m = read.model;
+    let fresh = scheduler::fresh(m);
+    let site = fresh.site;
+    let threads = fresh.threads;
+    Replayed {
+        number,
+        granted: 0,
+        v: 0,
+        t: 0,
+        site,
+        threads,
+    }
+}
+
+// 11 for a buffer of fewer than 4 words for each request; then the file's numbers. Else every request of the list, the first on the
+// fresh state, each later one on what the last one left. Demand 3 is said of what is left.
+pub fn replay(file: &[u8], words: &mut [u64], ks: &[u8], answers: &mut [u64]) -> Replayed
+    ensures outcome { λ r. ⌜ r ≡ replayedOf (now (file .entry)) (now (words .entry)) (now (ks .entry)) (now (answers .entry)) ⌝ }
+    ensures tables { λ _. ⌜ now (words .exit) ≡ wordsAfter (now (file .entry)) (now (words .entry)) (now (ks .entry)) (now (answers .entry)) ⌝ }
+    ensures written { λ _. ⌜ now (answers .exit) ≡ answersAfter (now (file .entry)) (now (words .entry)) (now (ks .entry)) (now (answers .entry)) ⌝ }
+    ensures keeps { λ r. ⌜ (r .number ≡ 0 → Keeps (readFile (now (file .entry)) .model) (now (ks .entry)) r) ⌝ }
+{
+    if answers.len() / 4 < ks.len() {
+        return refused(11);
+    }
+    let read = loader::load(file, words);
+    if read.number != 0 {
+        return refused(read.number);
+    }
+    let m = read.model;
+    let fresh = scheduler::fresh(m);
+    let site = fresh.site;
+    let threads = fresh.threads;
+    let marks = conflicts::conflict_marks(m);
+    let n = wide(m.n);
+    let size = n * n;
+    let left = scheduler::requests(m, marks, &words[..size], site, threads, ks, answers);
+    let site = left.site;
+    let threads = left.threads;
+    Replayed {
+        number: 0,
+        granted: left.granted,
+        v: m.v,
+        t: m.t,
+        site,
+        threads,
+    }
+}

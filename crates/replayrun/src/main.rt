@@ -1,0 +1,76 @@
+// A list of requests: the model file on standard input, at most its first 65,536 bytes; thread numbers as arguments, at most 1,024.
+// Prints the transcript of the replay, and nothing else.
+use libc::STDIN_FILENO;
+use libc::STDOUT_FILENO;
+ghost use Prim.Native.Nat.{_≤_};
+ghost use mathlib.Core.Path.{_≡_};
+ghost use mathlib.Core.List.{_++_, map};
+ghost use lib.ListN.{length, drop};
+ghost use Rattle.io.specs.Counts.{Counts};
+ghost use Rattle.sheet.specs.Sheet.{sheetIn, bytesIn};
+ghost use Rattle.transcript.specs.Label.{threadOf};
+ghost use Rattle.replayrun.specs.Program.{replayText};
+
+// The threads that labels ask for, at the front of ks.
+fn fill_threads(labels: &[u64], ks: &mut [u8])
+    requires { ⌜ length (now labels) ≤ length (now ks) ⌝ }
+    ensures { λ _. ⌜ now (ks .exit) ≡ map threadOf (now (labels .entry)) ++ drop (length (now (labels .entry))) (now (ks .entry)) ⌝ }
+{
+    let mut i = 0;
+    while i < labels.len() {
+        ks[i] = scribe::thread_of(labels[i]);
+        i += 1;
+    }
+}
+
+// What the program prints of a file and labels, at the front of out; how many bytes. Only reading and writing are outside of this.
+fn answer(file: &[u8], labels: &[u64], out: &mut [u8]) -> usize
+    ensures { λ r. ⌜ (r ≡ bytesIn (replayText (now (file .entry)) (now (labels .entry))) (now (out .entry))) × (now (out .exit) ≡ sheetIn (replayText (now (file .entry)) (now (labels .entry))) (now (out .entry))) ⌝ }
+    ensures { λ r. ⌜ Counts r (now (out .exit)) ⌝ }
+{
+    if 1024 < labels.len() {
+        return printer::refusal(11, out);
+    }
+    let n = labels.len();
+    let mut ks = [0u8; 1024];
+    fill_threads(labels, &mut ks);
+    let mut words = [0u64; 4096];
+    let mut answers = [0u64; 4096];
+    let r = replay::replay(file, &mut words, &ks[..n], &mut answers);
+    if r.number != 0 {
+        return printer::refusal(r.number, out);
+    }
+    let site = r.site;
+    let threads = r.threads;
+    let w = 4 * n;
+    scribe::transcript(labels, &answers[..w], r.v, r.t, site, threads, out)
+}
+
+// The labels of the arguments, as far as there is room; how many.
+fn read_labels(labels: &mut [u64]) -> usize
+    ensures { λ r. ⌜ Counts r (now (labels .exit)) ⌝ }
+{
+    let count = os::arg_count();
+    let mut text = [0u8; 20];
+    let mut n = 0;
+    while n < labels.len() {
+        if count <= n + 1 {
+            return n;
+        }
+        let k = os::arg(n + 1, &mut text);
+        labels[n] = scribe::label_of(&text[..k]);
+        n += 1;
+    }
+    n
+}
+
+// One read of all, one write of all. One label more than 1,024 tells that there are too many.
+fn main() {
+    let mut file = io::large_buffer();
+    let n = io::read_full(STDIN_FILENO, &mut file);
+    let mut labels = [0u64; 1025];
+    let k = read_labels(&mut labels);
+    let mut out = [0u8; 131072];
+    let m = answer(&file[..n], &labels[..k], &mut out);
+    io::write_all(STDOUT_FILENO, &out[..m]);
+}
