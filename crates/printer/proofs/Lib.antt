@@ -2,3 +2,4 @@ pub mod PutLaws
 pub mod DigitsLaws
 pub mod CopyLaws
 pub mod LineLaws
+pub mod Edges

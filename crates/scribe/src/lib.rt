@@ -10,7 +10,7 @@ ghost use Rattle.sheet.specs.Sheet.{restOf, sheetIn, bytesIn};
 ghost use Rattle.printer.specs.Put.{Puts};
 ghost use Rattle.early.specs.Log.{places};
 ghost use Rattle.transcript.specs.Label.{labelOf, threadOf};
-ghost use Rattle.transcript.specs.Transcript.{labelWord, answerWords, rLineAt, rLines, lLine, lLines, closingOf, transcriptOf, mostRequests, longestTranscript};
+ghost use Rattle.transcript.specs.Transcript.{labelWord, printedAnswer, rLineAt, rLines, lLine, lLines, closingOf, transcriptOf, mostRequests, longestTranscript};
 
 // Stands for an argument that is no number.
 const NO_NUMBER: u64 = 18446744073709551615;
@@ -81,7 +81,7 @@ fn put_label(out: &mut [u8], at: usize, label: u64) -> usize
 
 // An answer, to the end of its line.
 fn put_answer(out: &mut [u8], at: usize, number: u64, segment: u64, time: u64, delta: u64) -> usize
-    ensures { λ r. ⌜ Puts (now (out .entry)) at (now (out .exit)) r (restOf (answerWords number segment time delta)) × (r ≤ at + 72) ⌝ }
+    ensures { λ r. ⌜ Puts (now (out .entry)) at (now (out .exit)) r (restOf (printedAnswer number segment time delta)) × (r ≤ at + 72) ⌝ }
 {
     if number == 0 {
         let a = printer::put_word(out, at, b" granted");

@@ -11,20 +11,20 @@ use Rattle.sheet.specs.Sheet.{cycleWords}
 use Rattle.early.specs.declared.Answer.{Answer}
 use Rattle.early.specs.declared.Answer.the-variants.{Granted, Refused}
 use Rattle.early.specs.Answer.{numberOf, valuesOf}
-use Rattle.transcript.specs.Transcript.{answerWords}
+use Rattle.transcript.specs.Transcript.{printedAnswer}
 
 -- of an answer, by its number and its values
-abbrev pub wordsOfAnswer : Answer → List (List ℕ)
-wordsOfAnswer a = answerWords (numberOf a) (getD (valuesOf a) 0 0) (getD (valuesOf a) 1 0) (getD (valuesOf a) 2 0)
+abbrev pub printedOf : Answer → List (List ℕ)
+printedOf a = printedAnswer (numberOf a) (getD (valuesOf a) 0 0) (getD (valuesOf a) 1 0) (getD (valuesOf a) 2 0)
 
-pub answerWords-granted :
+pub printedAnswer-granted :
     (s : ℕ) (c : Cycle) →
-    wordsOfAnswer (Granted s c) ≡ (103 ∷ 114 ∷ 97 ∷ 110 ∷ 116 ∷ 101 ∷ 100 ∷ []) ∷ digitsOf s ∷ cycleWords c
-unfolding answerWords cycleWords
-answerWords-granted s c = refl
+    printedOf (Granted s c) ≡ (103 ∷ 114 ∷ 97 ∷ 110 ∷ 116 ∷ 101 ∷ 100 ∷ []) ∷ digitsOf s ∷ cycleWords c
+unfolding printedAnswer cycleWords
+printedAnswer-granted s c = refl
 
-pub answerWords-refused :
+pub printedAnswer-refused :
     (n : ℕ) → (n ≡ 0 → ⊥) →
-    wordsOfAnswer (Refused n) ≡ (114 ∷ 101 ∷ 102 ∷ 117 ∷ 115 ∷ 101 ∷ 100 ∷ []) ∷ digitsOf n ∷ []
-unfolding answerWords
-answerWords-refused n h = rw (ne-eqb n 0 h) refl
+    printedOf (Refused n) ≡ (114 ∷ 101 ∷ 102 ∷ 117 ∷ 115 ∷ 101 ∷ 100 ∷ []) ∷ digitsOf n ∷ []
+unfolding printedAnswer
+printedAnswer-refused n h = rw (ne-eqb n 0 h) refl

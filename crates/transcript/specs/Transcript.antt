@@ -20,15 +20,15 @@ unfoldable pub labelWord : ℕ → List ℕ
 labelWord x = cond (eqb x noNumber) (63 ∷ []) (digitsOf x)
 
 -- "A request answers either the segment run with its cycle, or one refusal number": `granted SEG TIME DELTA` or `refused N`
-unfoldable pub answerWords : ℕ → ℕ → ℕ → ℕ → List (List ℕ)
-answerWords number segment time delta =
+unfoldable pub printedAnswer : ℕ → ℕ → ℕ → ℕ → List (List ℕ)
+printedAnswer number segment time delta =
     cond (eqb number accepted)
     ((103 ∷ 114 ∷ 97 ∷ 110 ∷ 116 ∷ 101 ∷ 100 ∷ []) ∷ digitsOf segment ∷ digitsOf time ∷ digitsOf delta ∷ [])
     ((114 ∷ 101 ∷ 102 ∷ 117 ∷ 115 ∷ 101 ∷ 100 ∷ []) ∷ digitsOf number ∷ [])
 
 -- `r`, the label, the answer
 unfoldable pub rLine : ℕ → ℕ → ℕ → ℕ → ℕ → List ℕ
-rLine label number segment time delta = lineOf (114 ∷ []) (labelWord label ∷ answerWords number segment time delta)
+rLine label number segment time delta = lineOf (114 ∷ []) (labelWord label ∷ printedAnswer number segment time delta)
 
 -- the answer of request i stands at words 4 i to 4 i + 3: number, segment, time, delta
 unfoldable pub rLineAt : List ℕ → List ℕ → ℕ → List ℕ

@@ -4,7 +4,7 @@ use borrow.Author.Tests.{eq-eqb, ne-eqb}
 use borrow.Author.Needs.{needs}
 use Rattle.sheet.specs.Sheet.{restOf}
 use Rattle.printer.proofs.PutLaws.{puts-then}
-use Rattle.transcript.specs.Transcript.{answerWords}
+use Rattle.transcript.specs.Transcript.{printedAnswer}
 use Rattle.scribe.proofs.put_answer.Statement.{statement}
 use Rattle.scribe.proofs.put_answer.Tie as tie
 
@@ -30,7 +30,7 @@ same-length : tie.Need-same-length
 same-length c = search needs
 
 returns : tie.Need-returns
-unfolding answerWords restOf
+unfolding printedAnswer restOf
 returns c = (rw (eq-eqb _ 0 (c .before .before .before .before .before .before .before .before .before .before .before .before .before .before .before .before .before .before .before .before .before .if1 .taken)) (puts-then (c .before .before .before .before .before .before .before .before .before .before .before .before .before .before .before .before .before .before .put-word .ensures) (puts-then (c .before .before .before .before .before .before .before .before .before .before .before .before .before .before .put-number .ensures .0) (puts-then (c .before .before .before .before .before .before .before .before .before .before .put-number2 .ensures .0) (puts-then (c .before .before .before .before .before .before .put-number3 .ensures .0) (c .before .before .put-byte .ensures))))), omega arith)
 
 slice-aggregate-put-word-2 : tie.Need-slice-aggregate-put-word-2
@@ -49,7 +49,7 @@ same-length-2 : tie.Need-same-length-2
 same-length-2 c = search needs
 
 returns-2 : tie.Need-returns-2
-unfolding answerWords restOf
+unfolding printedAnswer restOf
 returns-2 c = (rw (ne-eqb _ 0 (c .before .before .before .before .before .before .before .before .before .before .before .before .before .if1 .left)) (puts-then (c .before .before .before .before .before .before .before .before .before .before .put-word2 .ensures) (puts-then (c .before .before .before .before .before .before .put-number4 .ensures .0) (c .before .before .put-byte2 .ensures))), omega arith)
 
 pub put-answer-spec : {M : Type 1} → statement M
