@@ -1,16 +1,16 @@
 -- The records that are moved are those of the threads, and the request on them, moved back, is the request on the whole slice.
 --     movedOf-le     no more are moved than are lent, nor than are held by value
---     loaded-at, loaded-length, stored-at, stored-past, stored-length     the records after a move
---     stored-same    moved there and back, a slice is as it was
---     moved-asked, moved-back     the answer, the state and the records of the request on the slice
+--     stored-length     a slice keeps its length
+--     moved-asked, moved-back     the answer and the state, and the records that the slice is left with
+--     lent-short, lent-enough     the exits of `request_of`
 use Prim.Native.Nat.{ℕ, zero, suc, _<_, _≤_}
-use mathlib.Core.Path.{_≡_, refl, ap, sym, _∙_, subst}
+use mathlib.Core.Path.{_≡_, refl, ap, sym, _∙_}
 use mathlib.Core.Bool.{Bool, cond}
 use mathlib.Core.List.{List}
 use native.Mathlib.Omega.{arith}
-use native.Mathlib.Decide.{decLt, decLe, ℕ-discrete}
+use native.Mathlib.Decide.{decLt, ℕ-discrete}
 use lib.Dec.{ltb}
-use lib.ListN.{length, getD, set, length-set, length-replicate, replicate}
+use lib.ListN.{length, getD, set, length-set, length-replicate}
 use lib.Seq.{getD-set-same, getD-set-other, ext-getD}
 use borrow.Author.Tests.{lt-ltb, le-ltb}
 use Rattle.model.specs.declared.Model.{Model}
@@ -25,10 +25,9 @@ use Rattle.early.specs.declared.After.{After}
 use Rattle.early.specs.declared.Answer.the-variants.{Refused}
 use Rattle.early.specs.Request.{Requested, refusedWith, requestOf}
 use Rattle.scheduler.specs.After.{afterOf}
-use Rattle.lent.specs.declared.Asked.{Asked}
 use Rattle.lent.specs.declared.Done.{Done}
 use Rattle.lent.specs.Answered.{askedOf}
-use Rattle.lent.specs.Moved.{placedAt, takenAt, loaded, stored, noThreads, smallerOf, movedOf, requestLent, doneOf}
+use Rattle.lent.specs.Moved.{takenAt, loaded, stored, noThreads, smallerOf, movedOf, requestLent, doneOf}
 use Rattle.lent.proofs.PlaceLaws.{Agree}
 use Rattle.lent.proofs.RequestLaws.{AlikeAfter, requestOf-alike, requestOf-past, requestOf-length, requestOf-short, requestOf-faulty}
 

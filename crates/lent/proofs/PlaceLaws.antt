@@ -3,34 +3,33 @@
 --     Agree     two lists of records, at least T each, that agree on the first T
 --     earliestOf-same, forecastOf-same, hazard-same, floorOf-same, isFull-same, heardNow-same, effectAt-same, logAfter-same, isUnfitThreads-same
 use Prim.Native.Nat.{ℕ, zero, suc, _+_, _<_, _≤_}
-use mathlib.Core.Path.{_≡_, refl, ap, ap₂, sym, _∙_}
-use mathlib.Core.Bool.{Bool, cond, not, _&&_, _||_}
-use mathlib.Core.List.{List, [], _∷_}
+use mathlib.Core.Path.{_≡_, refl, ap, ap₂, _∙_}
+use mathlib.Core.Bool.{Bool, cond, not, _&&_}
+use mathlib.Core.List.{List, _∷_}
 use native.Mathlib.Omega.{arith}
-use lib.Dec.{eqb, ltb}
+use lib.Dec.{eqb}
 use lib.ListN.{length, getD}
 use borrow.Author.Tests.{le-ltb}
-use Rattle.base.specs.Index.{anyBelow, tabulate}
+use Rattle.base.specs.Index.{tabulate}
 use Rattle.clock.specs.declared.Cycle.{Cycle}
 use Rattle.clock.specs.declared.Bound.{Bound}
-use Rattle.clock.specs.declared.Bound.the-variants.{Never, At}
+use Rattle.clock.specs.declared.Bound.the-variants.{Never}
 use Rattle.clock.specs.Advance.{least, leastBelow, _⊕_, oneDelta, isBoundBefore}
 use Rattle.clock.proofs.LeastLaws.{leastBelow-same}
 use Rattle.model.specs.declared.Model.{Model}
 use Rattle.model.specs.declared.Thread.{Thread}
 use Rattle.model.specs.Record.{threadAt, isLive, readyCycle, Awaited, nothing, awaits, awaitedBy}
-use Rattle.model.specs.Effect.{Effect, effectOf}
 use Rattle.plain.specs.Wake.{floorOf}
 use Rattle.early.specs.declared.Notification.{Notification}
 use Rattle.early.specs.declared.Site.{Site}
-use Rattle.early.specs.Log.{places, logOf, withPairs, countedPlaces, leastHeard}
+use Rattle.early.specs.Log.{leastHeard}
 use Rattle.early.specs.Earliest.{sourceOf, soonestNotify, afterNotify, linkTo, sources, relaxed, withLinks, earliestOf}
 use Rattle.early.specs.Forecast.{forecastOf}
 use Rattle.early.specs.Hazard.{threatens, hazard}
 use Rattle.early.specs.Deliver.{heardNow}
 use Rattle.early.specs.Fit.{isFitThread, isUnfitThreads}
 use Rattle.early.specs.Grant.{effectAt, logAfter}
-use Rattle.early.specs.Request.{earlyPlaces, isFull}
+use Rattle.early.specs.Request.{isFull}
 use Rattle.reach.proofs.PlaceLaws.{anyBelow-same}
 
 -- lists filled by functions that agree

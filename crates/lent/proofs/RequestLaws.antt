@@ -1,10 +1,11 @@
 -- A request does the same on lists of records that agree on the first T, and leaves every record from T on: "records past those are neither
--- read nor written". Where fewer than T are lent it is refused with 11.
---     lookedAt-agree, swept-agree, settled-agree, closedThreads-agree, threadsAfter-agree     what stays in agreement
---     settled-past, closedThreads-past, threadsAfter-past     what is left as it was
---     requestOf-answer, requestOf-site, requestOf-agree, requestOf-past, requestOf-length, requestOf-short     a request
+-- read nor written". Where fewer than T are lent, and for a model against the file rules, it is refused with 11.
+--     lookedAt-agree, swept-agree, settled-agree, closedThreads-agree, threadsAfter-agree, siteAfter-same     what stays the same
+--     swept-length, swept-past, settled-past, closedThreads-past, threadsAfter-past     what is left as it was
+--     requestOf-alike     a request: the same answer and state, and records that agree again
+--     requestOf-past, requestOf-length, requestOf-short, requestOf-faulty
 use Prim.Native.Nat.{ℕ, zero, suc, _<_, _≤_}
-use mathlib.Core.Path.{_≡_, refl, ap, ap₂, sym, _∙_, subst}
+use mathlib.Core.Path.{_≡_, refl, ap, sym, _∙_}
 use mathlib.Core.Bool.{Bool, true, false, cond, not, _||_}
 use mathlib.Core.List.{List}
 use native.Mathlib.Omega.{arith}
@@ -22,21 +23,19 @@ use Rattle.model.specs.Refusal.{accepted, wrongThread, unfit, notReady, atHoriz
 use Rattle.model.specs.Limits.{isBeforeHorizon}
 use Rattle.model.specs.Record.{threadAt, readyCycle, awaitedBy}
 use Rattle.model.specs.Rules.{modelFault}
-use Rattle.plain.specs.Wake.{floorOf}
 use Rattle.cycles.proofs.RecordLaws.{threadAt-set, threadAt-other}
 use Rattle.early.specs.declared.Notification.{Notification}
 use Rattle.early.specs.declared.Site.{Site}
-use Rattle.early.specs.declared.Answer.{Answer}
-use Rattle.early.specs.declared.Answer.the-variants.{Granted, Refused}
-use Rattle.early.specs.Log.{logOf, siteOf, dropBefore}
+use Rattle.early.specs.declared.Answer.the-variants.{Granted}
+use Rattle.early.specs.Log.{logOf}
 use Rattle.early.specs.Hazard.{hazard}
 use Rattle.early.specs.Deliver.{heardNow, afterHearing, lookedAt, swept, settledIn, settled}
 use Rattle.early.specs.Fit.{isUnfitThreads, isUnfitLog, isUnfitWords, isUnfit}
 use Rattle.early.specs.Grant.{effectAt, logAfter, closedThreads, threadsAfter, siteAfter}
 use Rattle.early.specs.Request.{isFull, Requested, refusedWith, grantedTo, requestAt, requestFit, requestOf}
 use Rattle.bounds.proofs.LookLaws.{lookedAt-length, lookedAt-other}
-use Rattle.bounds.proofs.SettleLaws.{settled-carries, settled-length}
-use Rattle.bounds.proofs.GrantLaws.{closedThreads-other, closedThreads-length, threadsAfter-length}
+use Rattle.bounds.proofs.SettleLaws.{settled-carries}
+use Rattle.bounds.proofs.GrantLaws.{closedThreads-other, threadsAfter-length}
 use Rattle.bounds.proofs.RequestLaws as asked
 use Rattle.lent.proofs.PlaceLaws.{Agree, isUnfitThreads-same, floorOf-same, heardNow-same, hazard-same, isFull-same, effectAt-same, logAfter-same}
 
@@ -71,6 +70,16 @@ module _ (m : Model) (ws : List ℕ) (l : List Notification) where
   unfolding swept
   swept-agree ts us zero h agree = agree
   swept-agree ts us (suc n) h agree = lookedAt-agree (swept m ws l ts n) (swept m ws l us n) n h (swept-agree ts us n (omega arith) agree)
+
+  pub swept-length : (ts : List Thread) (n : ℕ) → length (swept m ws l ts n) ≡ length ts
+  unfolding swept
+  swept-length ts zero = refl
+  swept-length ts (suc n) = lookedAt-length m ws l (swept m ws l ts n) n ∙ swept-length ts n
+
+  pub swept-past : (ts : List Thread) (n j : ℕ) → n ≤ j → threadAt (swept m ws l ts n) j ≡ threadAt ts j
+  unfolding swept
+  swept-past ts zero j past = refl
+  swept-past ts (suc n) j past = lookedAt-other m ws l (swept m ws l ts n) n j (λ same. omega arith) ∙ swept-past ts n j (omega arith)
 
   settledIn-agree : (n : ℕ) (ts us : List Thread) → Agree m ts us → Agree m (settledIn m ws l n ts) (settledIn m ws l n us)
   unfolding settledIn

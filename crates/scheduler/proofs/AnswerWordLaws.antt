@@ -1,10 +1,10 @@
 -- The words of answers, as the loops of the code write them.
-use Prim.Native.Nat.{ℕ, suc, _+_, _-_, _*_, _<_, _≤_}
-use mathlib.Core.Path.{_≡_, refl, ap, sym, _∙_}
-use mathlib.Core.List.{List, [], _∷_}
+use Prim.Native.Nat.{ℕ, suc, _+_, _*_, _<_, _≤_, _-_}
+use mathlib.Core.Path.{_≡_, refl}
+use mathlib.Core.List.{List, _∷_}
 use native.Mathlib.Omega.{arith}
-use lib.ListN.{length, replicate}
-use lib.Seq.{sets, length-sets}
+use lib.ListN.{replicate}
+use lib.Seq.{sets}
 use Rattle.early.specs.declared.Answer.{Answer}
 use Rattle.early.specs.declared.Answer.the-variants.{Refused}
 use Rattle.scheduler.specs.Answers.{answerWords, answersWords}

@@ -21,7 +21,6 @@ use Rattle.model.specs.declared.Ran.{Ran}
 use Rattle.model.specs.Record.{noThread, threadAt, readyCycle}
 use Rattle.model.specs.Effect.{effectIn, heldEffect}
 use Rattle.early.specs.declared.Site.{Site}
-use Rattle.early.specs.declared.After.{After}
 use Rattle.early.specs.declared.Answer.the-variants.{Granted}
 use Rattle.early.specs.Log.{logOf, siteOf, dropBefore}
 use Rattle.early.specs.Request.{earlyPlaces}

@@ -1,14 +1,10 @@
 -- The crew and the first limits of thread records, as the code fills them; the floor.
-use Prim.Native.Nat.{ℕ, zero, suc, _+_, _<_, _≤_}
-use mathlib.Core.Path.{_≡_, refl, ap, sym, _∙_}
-use mathlib.Core.Bool.{cond}
-use mathlib.Core.List.{List, []}
-use native.Mathlib.Omega.{arith}
+use Prim.Native.Nat.{ℕ, _+_, _<_, _≤_}
+use mathlib.Core.Path.{_≡_, refl}
+use mathlib.Core.List.{List}
 use native.Mathlib.Numerals.{add-one}
-use lib.Dec.{ltb}
 use lib.ListN.{getD, set, replicate}
 use borrow.Author.Tests.{lt-ltb, le-ltb}
-use Rattle.base.specs.Index.{tabulate}
 use Rattle.clock.specs.declared.Bound.{Bound}
 use Rattle.clock.specs.declared.Bound.the-variants.{Never}
 use Rattle.clock.specs.Advance.{least, leastBelow}
@@ -16,7 +12,6 @@ use Rattle.model.specs.declared.Thread.{Thread}
 use Rattle.model.specs.Record.{noThread, threadAt, readyCycle, awaitedBy}
 use Rattle.tables.specs.Word.{allOnes}
 use Rattle.early.specs.declared.Notification.{Notification}
-use Rattle.reach.specs.declared.Crew.{Crew}
 use Rattle.reach.specs.Limit.{top, sumOf}
 use Rattle.reach.specs.Ahead.{eventAwaited, segmentsOf, eventsOf}
 use Rattle.scheduler.specs.Awake.{floorBelow, crewOf, firstLimit, firstLimits}

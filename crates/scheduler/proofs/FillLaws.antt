@@ -2,7 +2,7 @@
 --     fill-none, fill-more     the places below k are filled, the rest is as it was
 --     fill-all     the filled places, and then the rest
 --     tabulate-same     two fillings that agree below a count
-use Prim.Native.Nat.{ℕ, _+_, _-_, _<_, _≤_}
+use Prim.Native.Nat.{ℕ, _+_, _<_, _≤_, _-_}
 use mathlib.Core.Path.{_≡_, refl, ap, sym, _∙_}
 use mathlib.Core.Bool.{cond}
 use mathlib.Core.List.{List, _++_}

@@ -2,9 +2,9 @@
 --     room     15 on the log of 128 places, and what lies past them
 --     tried-is     15, and the grant
 --     answered-is     the whole request
-use Prim.Native.Nat.{ℕ, _<_, _≤_, _^_}
-use mathlib.Core.Path.{_≡_, refl, ap, sym, _∙_, subst}
-use mathlib.Core.Bool.{Bool, true, false, cond, not, _&&_, _||_}
+use Prim.Native.Nat.{ℕ, _<_, _≤_}
+use mathlib.Core.Path.{_≡_, refl, ap, _∙_}
+use mathlib.Core.Bool.{Bool, true, false, cond, _&&_, _||_}
 use mathlib.Core.List.{List, []}
 use native.Mathlib.Omega.{arith}
 use native.Mathlib.Decide.{decLt}
@@ -17,23 +17,20 @@ use Rattle.clock.specs.declared.Cycle.{Cycle}
 use Rattle.clock.specs.declared.Bound.{Bound}
 use Rattle.clock.specs.declared.Bound.the-variants.{Never, At}
 use Rattle.clock.specs.Cycle.{stampAt}
-use Rattle.clock.specs.Advance.{isBoundBefore, leastBelow}
+use Rattle.clock.specs.Advance.{isBoundBefore}
 use Rattle.model.specs.declared.Model.{Model}
 use Rattle.model.specs.declared.Segment.{Segment}
 use Rattle.model.specs.declared.Thread.{Thread}
-use Rattle.model.specs.declared.Ran.{Ran}
-use Rattle.model.specs.declared.Events.{Events}
 use Rattle.model.specs.declared.Closer.the-variants.{End}
 use Rattle.model.specs.Values.{noSegment, segmentAt}
 use Rattle.model.specs.Limits.{isBeforeHorizon}
 use Rattle.model.specs.Record.{threadAt, readyCycle, cycleOf}
-use Rattle.model.specs.Effect.{Effect, effectOf, effectIn, heldEvents, heldThread, heldEffect}
+use Rattle.model.specs.Effect.{effectOf, heldEvents, heldEffect}
 use Rattle.machine.proofs.EffectLaws.{heldThread-small}
 use Rattle.plain.specs.Wake.{floorOf}
 use Rattle.early.specs.declared.Notification.{Notification}
 use Rattle.early.specs.declared.Site.{Site}
-use Rattle.early.specs.declared.After.{After}
-use Rattle.early.specs.Log.{places, logOf, siteOf, withPairs, dropBefore, countedPlaces}
+use Rattle.early.specs.Log.{places, logOf, siteOf}
 use Rattle.early.specs.Deliver.{settled}
 use Rattle.early.specs.Hazard.{hazard}
 use Rattle.early.specs.Grant.{effectAt, logAfter, closedThreads, threadsAfter, siteAfter}
@@ -46,10 +43,9 @@ use Rattle.reach.specs.Ahead.{reachOf}
 use Rattle.reach.proofs.StateLaws.{FitState, isUnfit→FitState, fit-counts, fit-threads, fit-segment, ready-fit}
 use Rattle.reach.proofs.AheadLaws.{hazard-limit}
 use Rattle.reach.proofs.DeliverLaws.{granted-fit}
-use Rattle.notices.specs.declared.Noted.{Noted}
 use Rattle.notices.specs.Noted.{notedOf}
 use Rattle.scheduler.specs.After.{afterOf}
-use Rattle.scheduler.specs.Awake.{floorBelow, aheadOf, settledOn}
+use Rattle.scheduler.specs.Awake.{floorBelow}
 use Rattle.scheduler.specs.Answered.{refusedOn, grantedOn, ranOn, notedOn, triedOn, clearOn, readyOn, answeredOn}
 use Rattle.scheduler.proofs.SettledLaws.{aheadOf-is, settledOn-is}
 

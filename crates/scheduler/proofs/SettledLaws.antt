@@ -2,14 +2,14 @@
 --     firstLimits-is, aheadOf-is     where chains begin, and earliest
 --     heardBy-is, lookedOn-is, sweptOn-is, settledOn-is     what is heard, a look, a sweep, and all of them
 use Prim.Native.Nat.{ℕ, zero, suc, _<_, _≤_, _^_}
-use mathlib.Core.Path.{_≡_, refl, ap, sym, _∙_, subst}
-use mathlib.Core.Bool.{Bool, cond}
+use mathlib.Core.Path.{_≡_, refl, ap, sym, _∙_}
+use mathlib.Core.Bool.{cond}
 use mathlib.Core.List.{List}
 use native.Mathlib.Omega.{arith}
 use native.Mathlib.Decide.{decLt}
 use lib.Dec.{ltb}
 use lib.ListN.{set}
-use borrow.Author.Tests.{lt-ltb, le-ltb}
+use borrow.Author.Tests.{le-ltb}
 use Rattle.clock.specs.declared.Cycle.{Cycle}
 use Rattle.clock.specs.declared.Step.{Step}
 use Rattle.clock.specs.declared.Step.the-variants as step
@@ -33,7 +33,7 @@ use Rattle.bounds.proofs.LogLaws.{leastHeard-at}
 use Rattle.bounds.proofs.LinkLaws.{sourceOf-ready, sourceOf-waiting, sourceOf-idle}
 use Rattle.bounds.proofs.LookLaws.{heardAt, heardNow-at, heardAt-waits}
 use Rattle.bounds.proofs.FitLaws.{FitCycle, isFitThread→}
-use Rattle.reach.specs.Limit.{limitOf, limitOfCycle, sumOf}
+use Rattle.reach.specs.Limit.{limitOf}
 use Rattle.reach.specs.Ahead.{reachOf, earliestLimits, segmentsOf, eventsOf, sourceLimits}
 use Rattle.reach.proofs.LimitLaws.{Limited, limitOf-oneDelta, limitOfCycle-is}
 use Rattle.reach.proofs.StateLaws.{FitState, fit-threads, leastHeard-range}

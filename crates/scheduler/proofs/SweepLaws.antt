@@ -2,8 +2,8 @@
 --     heardBy-..     what a state hears
 --     lookedOn-none, lookedOn-heard     one look
 --     swept-.., settled-..     the loops
-use Prim.Native.Nat.{ℕ, zero, suc, _+_, _-_, _<_, _≤_}
-use mathlib.Core.Path.{_≡_, refl, ap, sym, _∙_, subst}
+use Prim.Native.Nat.{ℕ, zero, suc, _+_, _<_, _≤_, _-_}
+use mathlib.Core.Path.{_≡_, refl, ap, sym, _∙_}
 use mathlib.Core.Bool.{Bool, true, false, cond}
 use mathlib.Core.List.{List}
 use native.Mathlib.Omega.{arith}
@@ -21,7 +21,7 @@ use Rattle.model.specs.declared.State.{State}
 use Rattle.model.specs.declared.State.the-variants.{Waiting}
 use Rattle.model.specs.declared.Thread.{Thread}
 use Rattle.model.specs.declared.Threads.{Threads}
-use Rattle.model.specs.Record.{noThread, threadAt, nothing, awaits, awaitedBy, stateAfter}
+use Rattle.model.specs.Record.{noThread, threadAt, nothing, awaitedBy, stateAfter}
 use Rattle.early.specs.declared.Notification.{Notification}
 use Rattle.early.specs.Log.{leastHeard}
 use Rattle.reach.specs.declared.Crew.{Crew}
@@ -29,7 +29,7 @@ use Rattle.reach.specs.declared.Limits.{Limits}
 use Rattle.reach.specs.Limit.{limitOfCycle}
 use Rattle.reach.specs.Ahead.{forecastAt, earliestLimits, segmentsOf, eventsOf}
 use Rattle.scheduler.specs.declared.Outlook.{Outlook}
-use Rattle.scheduler.specs.Awake.{crewOf, firstLimits, aheadOf, outlookOf, heardBy, wokenBy, lookedOn, sweptOn, settledOn}
+use Rattle.scheduler.specs.Awake.{crewOf, firstLimits, aheadOf, outlookOf, heardBy, lookedOn, sweptOn, settledOn}
 
 true-not-false : true ≡ false → ⊥
 true-not-false e = let z : _≡_ {A = ℕ} 0 1 = cc in omega arith

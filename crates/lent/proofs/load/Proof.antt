@@ -1,7 +1,7 @@
 -- `load` meets its contract: a walk of its MIR. The slice is opened once, before the loop, and closed once, after it; each turn reads one record of
 -- it and places it by `placed`.
 use Prim.Native.Nat.{ℕ, _<_, _≤_, zero-le, _+_, _^_, _*_}
-use mathlib.Core.Path.{_≡_, refl, sym, ap, subst, _∙_}
+use mathlib.Core.Path.{_≡_, refl, sym, ap, _∙_}
 use mathlib.Core.Bool.{Bool, true, false}
 use mathlib.Core.List.{[], _∷_, List}
 use native.Mathlib.Omega.{arith}

@@ -1,5 +1,6 @@
-use mathlib.Core.Path.{_≡_}
+use mathlib.Core.Path.{ap, _∙_}
 use borrow.Author.Needs.{needs}
+use Rattle.lent.specs.Moved.{smallerOf}
 use Rattle.lent.proofs.moved.Statement.{statement}
 use Rattle.lent.proofs.moved.Tie as tie
 use Rattle.lent.proofs.moved.Reads as reads
@@ -14,7 +15,7 @@ smaller-requires-2 c κs = search needs
 
 -- one for each thread, and no more than are lent or held
 returns : tie.Need-returns
-returns c = rw (← c .before .smaller .ensures) (c .smaller2 .ensures)
+returns c = c .smaller2 .ensures ∙ ap (smallerOf _) (c .before .smaller .ensures)
 
 pub moved-spec : {M : Type 1} → statement M
 moved-spec = tie.close (tie.spec smaller-requires smaller-requires-2 returns)

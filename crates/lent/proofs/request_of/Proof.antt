@@ -1,4 +1,5 @@
 use borrow.Author.Needs.{needs}
+use denote.Ref.{now}
 use Rattle.lent.proofs.MovedLaws.{lent-short, lent-enough}
 use Rattle.lent.proofs.request_of.Statement.{statement}
 use Rattle.lent.proofs.request_of.Tie as tie
@@ -11,7 +12,7 @@ cast-if1 c = search needs
 
 -- fewer than the threads
 returns : tie.Need-returns
-returns c = lent-short _ _ _ _ _ _ _ (c .if1 .taken)
+returns c = let a = c .before .before .args in lent-short (a .m) (a .marks) (now (a .words)) (a .site) (a .before) (a .lent) (a .k .0) (c .if1 .taken)
 
 request-requires : tie.Need-request-requires
 request-requires c κs = search needs

@@ -1,5 +1,5 @@
 -- `scheduler::refuse_all` meets its contract. The invariant: the words that are left to write lead to the same buffer.
-use Prim.Native.Nat.{_*_, _-_, _≤_}
+use Prim.Native.Nat.{_*_, _≤_, _-_}
 use mathlib.Core.Path.{_≡_, refl, ap, sym, _∙_}
 use native.Mathlib.Omega.{arith}
 use lib.ListN.{length, replicate}
