@@ -4,6 +4,7 @@ ghost use Rattle.reader.specs.File.{readFile};
 ghost use Rattle.loader.specs.Load.{loadOf, loadBuffer};
 ghost use Rattle.sheet.specs.Sheet.{sheetIn, bytesIn};
 ghost use Rattle.report.specs.Report.{printed};
+ghost use Rattle.steps.specs.Step.{keeps, freshNumber, freshKept, requestNumber, requestKept, requestAnswer, replayNumber, replayKept, replayWords, replayAnswers};
 
 // The reader's number of a model file, 0 where it is accepted.
 #[no_mangle]
@@ -31,4 +32,57 @@ pub extern "C" fn teaselauger_sheet(file: &[u8], budget: u64, out: &mut [u8]) ->
     ensures { λ _. ⌜ now (out .exit) ≡ sheetIn (printed budget (now (file .entry))) (now (out .entry)) ⌝ }
 {
     report::plain_sheet(file, budget, out)
+}
+
+// A file's fresh state in the caller's buffers: the number, 0 where it is there. 11 where a buffer is too short.
+#[no_mangle]
+pub extern "C" fn teaselauger_fresh(
+    file: &[u8],
+    variables: &mut [u32],
+    log: &mut [u64],
+    records: &mut [u64],
+) -> u8
+    ensures number { λ r. ⌜ r ≡ freshNumber (now (file .entry)) (keeps (now (variables .entry)) (now (log .entry)) (now (records .entry))) ⌝ }
+    ensures state { λ _. ⌜ keeps (now (variables .exit)) (now (log .exit)) (now (records .exit)) ≡ freshKept (now (file .entry)) (keeps (now (variables .entry)) (now (log .entry)) (now (records .entry))) ⌝ }
+{
+    steps::fresh_into(file, variables, log, records)
+}
+
+// One request of a thread on the state that the caller keeps, with the file's words: the number, 0 where it is granted, and then segment, time and delta in the answer.
+// 11 where the numbers are not those of a state or the answer has fewer than 3 words. On a refusal every buffer is as it was.
+#[no_mangle]
+pub extern "C" fn teaselauger_request(
+    file: &[u8],
+    words: &[u64],
+    variables: &mut [u32],
+    log: &mut [u64],
+    records: &mut [u64],
+    thread: u8,
+    answer: &mut [u64],
+) -> u8
+    ensures number { λ r. ⌜ r ≡ requestNumber (now (file .entry)) (now (words .entry)) (keeps (now (variables .entry)) (now (log .entry)) (now (records .entry))) thread (now (answer .entry)) ⌝ }
+    ensures state { λ _. ⌜ keeps (now (variables .exit)) (now (log .exit)) (now (records .exit)) ≡ requestKept (now (file .entry)) (now (words .entry)) (keeps (now (variables .entry)) (now (log .entry)) (now (records .entry))) thread (now (answer .entry)) ⌝ }
+    ensures words { λ _. ⌜ now (answer .exit) ≡ requestAnswer (now (file .entry)) (now (words .entry)) (keeps (now (variables .entry)) (now (log .entry)) (now (records .entry))) thread (now (answer .entry)) ⌝ }
+{
+    steps::request_into(file, words, variables, log, records, thread, answer)
+}
+
+// A list of requests from the file's fresh state on, its answers in four words each and its tables in the words, and the state that it leaves in the caller's buffers.
+// The number: 11 where a buffer of the state is too short, then replay's.
+#[no_mangle]
+pub extern "C" fn teaselauger_replay(
+    file: &[u8],
+    words: &mut [u64],
+    threads: &[u8],
+    answers: &mut [u64],
+    variables: &mut [u32],
+    log: &mut [u64],
+    records: &mut [u64],
+) -> u8
+    ensures number { λ r. ⌜ r ≡ replayNumber (now (file .entry)) (now (words .entry)) (now (threads .entry)) (now (answers .entry)) (keeps (now (variables .entry)) (now (log .entry)) (now (records .entry))) ⌝ }
+    ensures state { λ _. ⌜ keeps (now (variables .exit)) (now (log .exit)) (now (records .exit)) ≡ replayKept (now (file .entry)) (now (words .entry)) (now (threads .entry)) (now (answers .entry)) (keeps (now (variables .entry)) (now (log .entry)) (now (records .entry))) ⌝ }
+    ensures tables { λ _. ⌜ now (words .exit) ≡ replayWords (now (file .entry)) (now (words .entry)) (now (threads .entry)) (now (answers .entry)) (keeps (now (variables .entry)) (now (log .entry)) (now (records .entry))) ⌝ }
+    ensures written { λ _. ⌜ now (answers .exit) ≡ replayAnswers (now (file .entry)) (now (words .entry)) (now (threads .entry)) (now (answers .entry)) (keeps (now (variables .entry)) (now (log .entry)) (now (records .entry))) ⌝ }
+{
+    steps::replay_into(file, words, threads, answers, variables, log, records)
 }
