@@ -11,9 +11,9 @@ for x in native requests; do
     ar rcs "$out/lib$x.a" "$out/$x.o"
 done
 link="-L ../target/staticlib -l static=exports"
-rustc -O -o "$out/files" files.rs $link -L "$out" -l static=native
-rustc -O -o "$out/requests" requests.rs $link -L "$out" -l static=requests
-rustc -O -o "$out/plain" plain.rs $link
+rustc --edition 2021 -O -o "$out/files" files.rs $link -L "$out" -l static=native
+rustc --edition 2021 -O -o "$out/requests" requests.rs $link -L "$out" -l static=requests
+rustc --edition 2021 -O -o "$out/plain" plain.rs $link
 echo "## Files"
 "$out/files"
 echo

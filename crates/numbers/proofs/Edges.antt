@@ -1,5 +1,4 @@
 -- Each comparison at, below and above its edge, and where each number stands: closed examples.
--- the count, then event, time, delta of each place
 use Prim.Native.Nat.{_^_}
 use mathlib.Core.Path.{_≡_, refl}
 use mathlib.Core.Bool.{true, false}
@@ -11,6 +10,7 @@ use Rattle.early.proofs.EdgeModels.{note, inState}
 use Rattle.numbers.specs.Numbers.{logWords, recordWords, wordsIn, pairAt, stateFrom, threadFrom, variablesFrom, siteFrom, threadsFrom, isPairHeld, isEventHeld, isRecordHeld, isLogHeld, areRecordsHeld, areHeld}
 use Rattle.numbers.proofs.Computed.{computed}
 
+-- the count, then event, time, delta of each place
 pub logWords-order :
     logWords (record { variables = record { at = [] }; log = note 1 5 2 ∷ note 3 9 4 ∷ []; count = 6 }) ≡ 6 ∷ 1 ∷ 5 ∷ 2 ∷ 3 ∷ 9 ∷ 4 ∷ []
 unfolding computed

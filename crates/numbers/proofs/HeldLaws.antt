@@ -1,5 +1,4 @@
 -- The tests of `are_held`, one law for each exit.
--- a search over not f: some f that fails, or none
 use Prim.Native.Nat.{ℕ, _+_, _*_, _≤_, _<_}
 use mathlib.Core.Path.{_≡_, refl, sym}
 use mathlib.Core.Logic.{_⊎_, inl, inr}
@@ -13,6 +12,7 @@ use Rattle.base.proofs.BoolLaws.{T→true, T-case}
 use Rattle.base.proofs.IndexLaws.{anyBelow-found, anyBelow-some}
 use Rattle.numbers.specs.Numbers.{isPairHeld, isEventHeld, isRecordHeld, isLogHeld, areRecordsHeld, areHeld}
 
+-- a search over not f: some f that fails, or none
 pub all-fails : (n : ℕ) (f : ℕ → Bool) (i : ℕ) → i < n → f i ≡ false → not (anyBelow n (λ j. not (f j))) ≡ false
 all-fails n f i h e =
     let found : T (not (f i)) = rw e tt in

@@ -1,5 +1,4 @@
 -- What is written is read back as it was; numbers that are held are read, and written back as they were.
--- a place that was written
 use Prim.Native.Nat.{ℕ, zero, suc, _+_, _*_, _≤_, _<_, _%_, _^_}
 use mathlib.Core.Path.{_≡_, refl, sym, _∙_}
 use mathlib.Core.Bool.{true, not, _&&_}
@@ -30,6 +29,7 @@ use Rattle.numbers.proofs.IntoLaws.{pairWords-length, logWords-length, 
 use Rattle.numbers.proofs.TurnLaws.{tabulate-same, inTurn-at, inTurn-take, wordsIn-room, wordsIn-same, take-three, take-five}
 use Rattle.numbers.proofs.RangeLaws.{SiteRange, ThreadsRange, site-range, threads-range}
 
+-- a place that was written
 module _ (s : Site) (r : SiteRange s) (rest : List ℕ) where
   log-word : (i j : ℕ) → i < 128 → j < 3 → getD (logWords s ++ rest) (3 * i + (j + 1)) 0 ≡ getD (pairWords (getD (s .log) i (pairOf 0 (cycleAt 0 0)))) j 0
   unfolding logWords

@@ -24,28 +24,33 @@ use Rattle.early.specs.declared.Site.{Site}
 use Rattle.early.specs.declared.Answer.the-variants.{Granted}
 use Rattle.early.specs.Log.{logOf, siteOf, dropBefore}
 use Rattle.early.specs.Request.{earlyPlaces}
+use Rattle.reach.specs.Limit.{atMost}
 use Rattle.reach.specs.Ahead.{hazardAt, segmentsOf}
-use Rattle.scheduler.specs.declared.Outlook.{Outlook}
+use Rattle.reach.proofs.PlaceLaws.{atMost-is}
 use Rattle.notices.specs.declared.Noted.{Noted}
 use Rattle.notices.specs.Noted.{notedOf}
-use Rattle.scheduler.specs.Awake.{floorBelow, crewOf, aheadOf, outlookOf, settledOn}
+use Rattle.deliveries.specs.declared.Outlook.{Outlook}
+use Rattle.deliveries.specs.Awake.{floorBelow, crewOf, aheadOf, outlookOf, settledOn}
 use Rattle.scheduler.specs.Answered.{refusedOn, grantedOn, ranOn, notedOn, triedOn, clearOn, readyOn, answeredOn}
 
 module _ (reach : List ℕ) (t : ℕ) where
-  pub granted-made : (site kept : Site) (ts us : Threads) (s : ℕ) (c : Cycle) (floor : Bound) → us .at ≡ settledOn reach t (logOf site) t (ts .at) → floor ≡ floorBelow t (us .at)
+  pub granted-made : t ≤ 32 → (site kept : Site) (ts us : Threads) (s : ℕ) (c : Cycle) (floor : Bound)
+      → us .at ≡ settledOn reach (atMost 32 t) (logOf site) (atMost 32 t) (ts .at) → floor ≡ floorBelow (atMost 32 t) (us .at)
       → kept ≡ siteOf (site .variables .at) (dropBefore floor (logOf site))
       → record { answer = Granted s c; site = kept; threads = us } ≡ grantedOn reach t site (ts .at) s c
   unfolding grantedOn
-  granted-made site kept ts us s c floor p q r =
-      let e : us ≡ record { at = settledOn reach t (logOf site) t (ts .at) } = ap (λ (xs : List Thread). record { at = xs }) p in
+  granted-made few site kept ts us s c floor p q r =
+      let same = atMost-is 32 t few in
+      let there : us .at ≡ settledOn reach t (logOf site) t (ts .at) = p ∙ ap (λ (n : ℕ). settledOn reach n (logOf site) n (ts .at)) same in
+      let e : us ≡ record { at = settledOn reach t (logOf site) t (ts .at) } = ap (λ (xs : List Thread). record { at = xs }) there in
       let f : kept ≡ siteOf (site .variables .at) (dropBefore (floorBelow t (settledOn reach t (logOf site) t (ts .at))) (logOf site)) =
-      r ∙ ap (λ (b : Bound). siteOf (site .variables .at) (dropBefore b (logOf site))) (q ∙ ap (floorBelow t) p) in
+      r ∙ ap (λ (b : Bound). siteOf (site .variables .at) (dropBefore b (logOf site))) (q ∙ (ap (λ (n : ℕ). floorBelow n (us .at)) same ∙ ap (floorBelow t) there)) in
       rw (e, f) refl
 
-  module _ (g : Segment) (site : Site) (ts : List Thread) (k : ℕ) (c : Cycle) (ran : Ran) (noted : Noted) (floor : Bound)
+  module _ (few : t ≤ 32) (g : Segment) (site : Site) (ts : List Thread) (k : ℕ) (c : Cycle) (ran : Ran) (noted : Noted) (floor : Bound)
       (runs : ran ≡ heldEffect (effectIn g (getD ts k noThread .segment) c (site .variables .at)))
       (notes : noted ≡ notedOf (record { variables = ran .variables; log = site .log; count = site .count }) c (take (ran .notified .n) (ran .notified .at)))
-      (least : floor ≡ floorBelow t ts)
+      (least : floor ≡ floorBelow (atMost 32 t) ts)
     where
       same-ran : ranOn g site ts k c ≡ ran
       unfolding ranOn threadAt
@@ -56,7 +61,7 @@ module _ (reach : List ℕ) (t : ℕ) where
       same-noted = ap (λ (x : Ran). notedOn x site c) same-ran ∙ sym notes
 
       full : (noted .over || (isBoundBefore floor (At c) && ltb earlyPlaces (noted .site .count))) ≡ (notedOn (ranOn g site ts k c) site c .over || (isBoundBefore (floorBelow t ts) (At c) && ltb earlyPlaces (notedOn (ranOn g site ts k c) site c .site .count)))
-      full = rw (same-noted, least) refl
+      full = rw (same-noted, least, atMost-is 32 t few) refl
 
       pub tried-full : (noted .over || (isBoundBefore floor (At c) && ltb earlyPlaces (noted .site .count))) ≡ true → refusedOn 15 site ts ≡ triedOn reach t g site ts k c
       unfolding triedOn
@@ -68,10 +73,13 @@ module _ (reach : List ℕ) (t : ℕ) where
       tried-granted e = rw (sym full ∙ e, same-noted, same-ran) refl
 
   module _ (n : ℕ) (g : Segment) (marks : List (List Bool)) (ws : List ℕ) (site : Site) (ts : List Thread) where
-    module _ (x : Stamp) (o : Outlook) (heard : Bool) (seen : o ≡ outlookOf reach t (logOf site) ts heard) where
+    module _ (x : Stamp) (few : t ≤ 32) (o : Outlook) (heard : Bool) (seen : o ≡ outlookOf reach (atMost 32 t) (logOf site) ts heard) where
       same-hazard : hazardAt marks ws n t (o .crew .segments) (o .limits .at) x ≡ hazardAt marks ws n t (segmentsOf t ts) (aheadOf reach t (logOf site) ts) x
       unfolding outlookOf crewOf
-      same-hazard = ap (λ (p : Outlook). hazardAt marks ws n t (p .crew .segments) (p .limits .at) x) seen
+      same-hazard =
+          ap
+          (λ (p : Outlook). hazardAt marks ws n t (p .crew .segments) (p .limits .at) x)
+          (seen ∙ ap (λ (i : ℕ). outlookOf reach i (logOf site) ts heard) (atMost-is 32 t few))
 
       pub clear-hazard : hazardAt marks ws n t (o .crew .segments) (o .limits .at) x ≡ true → refusedOn 14 site ts ≡ clearOn n t g marks ws reach site ts x
       unfolding clearOn

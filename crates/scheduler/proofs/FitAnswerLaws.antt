@@ -44,10 +44,10 @@ use Rattle.reach.proofs.StateLaws.{FitState, isUnfit→FitState, fit-counts, fi
 use Rattle.reach.proofs.AheadLaws.{hazard-limit}
 use Rattle.reach.proofs.DeliverLaws.{granted-fit}
 use Rattle.notices.specs.Noted.{notedOf}
+use Rattle.deliveries.specs.Awake.{floorBelow}
+use Rattle.deliveries.proofs.SettledLaws.{aheadOf-is, settledOn-is}
 use Rattle.scheduler.specs.After.{afterOf}
-use Rattle.scheduler.specs.Awake.{floorBelow}
 use Rattle.scheduler.specs.Answered.{refusedOn, grantedOn, ranOn, notedOn, triedOn, clearOn, readyOn, answeredOn}
-use Rattle.scheduler.proofs.SettledLaws.{aheadOf-is, settledOn-is}
 
 -- 128 places hold all, or there is one more
 room : (b : Bool) (l : List Notification) → (ltb places (length l) || (b && ltb earlyPlaces (length (take places l)))) ≡ ((b && ltb earlyPlaces (length l)) || ltb places (length l))

@@ -17,8 +17,8 @@ use Rattle.plain.specs.Start.{started, freshThreads}
 use Rattle.early.specs.declared.Site.{Site}
 use Rattle.early.specs.Log.{pairOf, siteOf}
 use Rattle.early.specs.Request.{freshSite}
+use Rattle.deliveries.proofs.FillLaws.{filledTo, fill-none, fill-more, fill-all}
 use Rattle.scheduler.specs.Fresh.{freshOf}
-use Rattle.scheduler.proofs.FillLaws.{filledTo, fill-none, fill-more, fill-all}
 
 pub freshSite-made : record { variables = record { at = replicate 64 0 }; log = replicate 128 (pairOf 0 (cycleAt 0 0)); count = 0 } ≡ freshSite
 unfolding freshSite siteOf

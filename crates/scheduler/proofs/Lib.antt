@@ -1,9 +1,4 @@
-pub mod FillLaws
-pub mod CrewLaws
-pub mod VariantLaws
-pub mod SweepLaws
 pub mod AnsweredLaws
-pub mod SettledLaws
 pub mod FitAnswerLaws
 pub mod FreshLaws
 pub mod AnswerWordLaws

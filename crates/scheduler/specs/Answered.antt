@@ -25,7 +25,7 @@ use Rattle.early.specs.Request.{earlyPlaces}
 use Rattle.reach.specs.Ahead.{hazardAt, segmentsOf}
 use Rattle.notices.specs.declared.Noted.{Noted}
 use Rattle.notices.specs.Noted.{notedOf}
-use Rattle.scheduler.specs.Awake.{floorBelow, aheadOf, settledOn}
+use Rattle.deliveries.specs.Awake.{floorBelow, aheadOf, settledOn}
 
 abbrev pub refusedOn : ℕ → Site → List Thread → After
 refusedOn n site ts = record { answer = Refused n; site = site; threads = record { at = ts } }

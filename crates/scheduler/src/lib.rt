@@ -3,10 +3,8 @@ use clock::Bound;
 use clock::Cycle;
 use clock::Delta;
 use clock::Stamp;
-use clock::Step;
 use clock::ThreadNo;
 use clock::Time;
-use clock::Wait;
 use early::After;
 use early::Answer;
 use early::Notification;
@@ -17,8 +15,6 @@ use model::State;
 use model::Thread;
 use model::Threads;
 use model::Variables;
-use reach::Crew;
-use reach::Limits;
 ghost use Prim.Native.Nat.{_+_, _*_, _<_, _≤_};
 ghost use mathlib.Core.Path.{_≡_};
 ghost use mathlib.Core.Bool.{false, cond, _&&_, _||_};
@@ -26,25 +22,16 @@ ghost use mathlib.Core.List.{[], _∷_};
 ghost use lib.Dec.{ltb};
 ghost use lib.ListN.{length, replicate};
 ghost use lib.Seq.{sets};
-ghost use Rattle.clock.specs.Wait.{waitEnds, heldStep};
 ghost use Rattle.clock.specs.Advance.{isBoundBefore};
-ghost use Rattle.model.specs.Record.{noThread, threadAt, awaitedBy, stateAfter};
+ghost use Rattle.model.specs.Record.{noThread, threadAt};
 ghost use Rattle.plain.specs.Start.{freshThreads};
-ghost use Rattle.early.specs.Log.{logOf};
 ghost use Rattle.early.specs.Fit.{isUnfit};
 ghost use Rattle.early.specs.Request.{earlyPlaces, freshSite, requestOf, requestsOf};
-ghost use Rattle.reach.specs.Limit.{sumOf};
-ghost use Rattle.reach.specs.Ahead.{reachOf, eventAwaited};
-ghost use Rattle.scheduler.specs.Awake.{floorBelow, crewOf, boundLimit, firstLimit, firstLimits, outlookOf, heardBy, lookedOn, sweptOn, settledOn};
+ghost use Rattle.reach.specs.Ahead.{reachOf};
 ghost use Rattle.scheduler.specs.Answered.{refusedOn, grantedOn, triedOn, clearOn, answeredOn};
 ghost use Rattle.scheduler.specs.After.{afterOf};
 ghost use Rattle.scheduler.specs.Fresh.{freshOf};
 ghost use Rattle.scheduler.specs.Answers.{answerWords, answersWords, grantsIn, leftBy, outcomeOf, answersIn};
-
-// A limit that stands for never, and the least that does so in a sum.
-const NEVER: u64 = 18446744073709551615;
-
-const TOP: u64 = 4611686018427387904;
 
 // The number, 0 where the model is accepted; then the fresh state and the fresh records, all zero beside a number.
 pub struct FreshState {
@@ -61,14 +48,6 @@ pub struct Outcome {
     pub threads: Threads,
 }
 
-// The records with what is known of them: the crew, the earliest limits, and whether a thread has heard.
-struct Outlook {
-    threads: Threads,
-    crew: Crew,
-    limits: Limits,
-    heard: bool,
-}
-
 fn wide(x: u8) -> usize
     ensures { λ r. ⌜ r ≡ x ⌝ }
 {
@@ -83,206 +62,6 @@ fn refused(number: u8, site: Site, threads: Threads) -> After
         site,
         threads,
     }
-}
-
-// The event that a thread waits on, or 255.
-fn event_awaited(s: State) -> u8
-    ensures { λ r. ⌜ r ≡ eventAwaited (awaitedBy s) ⌝ }
-{
-    let State::Waiting(e, _) = s else {
-        return 255;
-    };
-    e
-}
-
-fn crew_of(threads: Threads, t: u8) -> Crew
-    requires { ⌜ t ≤ 32 ⌝ }
-    ensures { λ r. ⌜ r ≡ crewOf t (threads .at) ⌝ }
-{
-    let n = wide(t);
-    let mut segments = [0u8; 32];
-    let mut events = [255u8; 32];
-    let mut k = 0;
-    while k < n {
-        let x = threads.at[k];
-        let s = x.state;
-        segments[k] = x.segment;
-        events[k] = event_awaited(s);
-        k += 1;
-    }
-    Crew { segments, events }
-}
-
-// One delta later.
-fn one_later(x: u64) -> u64
-    ensures { λ r. ⌜ r ≡ sumOf x 1 ⌝ }
-{
-    if x < TOP {
-        return x + 1;
-    }
-    NEVER
-}
-
-fn bound_limit(b: Bound) -> u64
-    ensures { λ r. ⌜ r ≡ boundLimit b ⌝ }
-{
-    match b {
-        Bound::Never => NEVER,
-        Bound::At(c) => lookahead::limit_of(c),
-    }
-}
-
-// Document 01: chains "begin at a ready thread or a logged notification".
-fn first_limit(site: Site, s: State) -> u64
-    ensures { λ r. ⌜ r ≡ firstLimit (logOf site) s ⌝ }
-{
-    match s {
-        State::Ended(_) => NEVER,
-        State::Overrun(_) => NEVER,
-        State::Ready(c) => lookahead::limit_of(c),
-        State::Waiting(e, since) => one_later(bound_limit(notices::least_heard(site, e, since))),
-    }
-}
-
-fn first_limits(site: Site, threads: Threads, t: u8) -> Limits
-    requires { ⌜ t ≤ 32 ⌝ }
-    ensures { λ r. ⌜ r .at ≡ firstLimits t (logOf site) (threads .at) ⌝ }
-{
-    let n = wide(t);
-    let mut at = [NEVER; 32];
-    let mut k = 0;
-    while k < n {
-        let x = threads.at[k];
-        let s = x.state;
-        at[k] = first_limit(site, s);
-        k += 1;
-    }
-    Limits { at }
-}
-
-fn outlook_of(reach: &[u64], site: Site, threads: Threads, t: u8, heard: bool) -> Outlook
-    requires { ⌜ t ≤ 32 ⌝ }
-    ensures { λ r. ⌜ r ≡ outlookOf (now (reach .entry)) t (logOf site) (threads .at) heard ⌝ }
-{
-    let crew = crew_of(threads, t);
-    let first = first_limits(site, threads, t);
-    let limits = lookahead::earliest(reach, crew, first, t);
-    Outlook {
-        threads,
-        crew,
-        limits,
-        heard,
-    }
-}
-
-// Document 01: "The floor (least cycle of a ready thread)".
-fn floor_of(threads: Threads, t: u8) -> Bound
-    requires { ⌜ t ≤ 32 ⌝ }
-    ensures { λ r. ⌜ r ≡ floorBelow t (threads .at) ⌝ }
-{
-    let n = wide(t);
-    let mut least = Bound::Never;
-    let mut k = 0;
-    while k < n {
-        let x = threads.at[k];
-        let s = x.state;
-        least = clock::least_of(least, machine::ready_cycle(s));
-        k += 1;
-    }
-    least
-}
-
-// Document 01: "A delivery is looked for only if the thread waits".
-fn heard_by(reach: &[u64], site: Site, crew: Crew, xs: Limits, t: u8, s: State) -> Bound
-    ensures { λ r. ⌜ r ≡ heardBy (now (reach .entry)) t (logOf site) (crew .segments) (xs .at) (awaitedBy s) ⌝ }
-{
-    let State::Waiting(e, since) = s else {
-        return Bound::Never;
-    };
-    let Bound::At(c) = notices::least_heard(site, e, since) else {
-        return Bound::Never;
-    };
-    if lookahead::forecast(reach, crew, xs, t, e) < lookahead::limit_of(c) {
-        return Bound::Never;
-    }
-    Bound::At(c)
-}
-
-// Document 01: "It then becomes ready or overrun as in the plain run".
-fn woken_at(c: Cycle) -> State
-    ensures { λ r. ⌜ r ≡ stateAfter (heldStep (waitEnds Wait.Event c)) ⌝ }
-{
-    match clock::wait_ends(Wait::Event, c) {
-        Step::Ready(d) => State::Ready(d),
-        Step::Overrun(d) => State::Overrun(d),
-    }
-}
-
-// One look at thread k.
-fn look(reach: &[u64], site: Site, o: Outlook, t: u8, k: usize) -> Outlook
-    requires { ⌜ t ≤ 32 ⌝ }
-    requires { ⌜ k < t ⌝ }
-    requires { ⌜ o ≡ outlookOf (now reach) t (logOf site) (o .threads .at) (o .heard) ⌝ }
-    ensures seen { λ r. ⌜ r ≡ outlookOf (now (reach .entry)) t (logOf site) (lookedOn (now (reach .entry)) t (logOf site) (o .threads .at) k) (r .heard) ⌝ }
-    ensures still { λ r. ⌜ (r .heard ≡ false → (o .heard ≡ false) × (r .threads .at ≡ o .threads .at)) ⌝ }
-{
-    let mut threads = o.threads;
-    let crew = o.crew;
-    let limits = o.limits;
-    let x = threads.at[k];
-    let s = x.state;
-    let Bound::At(c) = heard_by(reach, site, crew, limits, t, s) else {
-        return o;
-    };
-    let state = woken_at(c);
-    threads.at[k] = Thread {
-        segment: x.segment,
-        state,
-    };
-    outlook_of(reach, site, threads, t, true)
-}
-
-// Document 01: "every thread is looked at".
-fn sweep(reach: &[u64], site: Site, o: Outlook, t: u8) -> Outlook
-    requires { ⌜ t ≤ 32 ⌝ }
-    requires { ⌜ o ≡ outlookOf (now reach) t (logOf site) (o .threads .at) (o .heard) ⌝ }
-    ensures seen { λ r. ⌜ r ≡ outlookOf (now (reach .entry)) t (logOf site) (sweptOn (now (reach .entry)) t (logOf site) (o .threads .at) t) (r .heard) ⌝ }
-    ensures still { λ r. ⌜ (r .heard ≡ false → r .threads .at ≡ o .threads .at) ⌝ }
-{
-    let n = wide(t);
-    let threads = o.threads;
-    let crew = o.crew;
-    let limits = o.limits;
-    let mut w = Outlook {
-        threads,
-        crew,
-        limits,
-        heard: false,
-    };
-    let mut k = 0;
-    while k < n {
-        w = look(reach, site, w, t, k);
-        k += 1;
-    }
-    w
-}
-
-// Document 01: "again and again until none hears anything".
-fn settle(reach: &[u64], site: Site, threads: Threads, t: u8) -> Threads
-    requires { ⌜ t ≤ 32 ⌝ }
-    ensures { λ r. ⌜ r .at ≡ settledOn (now (reach .entry)) t (logOf site) t (threads .at) ⌝ }
-{
-    let n = wide(t);
-    let mut o = outlook_of(reach, site, threads, t, false);
-    let mut i = 0;
-    while i < n {
-        o = sweep(reach, site, o, t);
-        if !o.heard {
-            return o.threads;
-        }
-        i += 1;
-    }
-    o.threads
 }
 
 // Document 01, 15: "cycle later than the floor and log plus new pairs above 96; or above 128 for any thread".
@@ -303,8 +82,8 @@ fn granted(reach: &[u64], t: u8, site: Site, threads: Threads, s: u8, c: Cycle) 
     requires { ⌜ t ≤ 32 ⌝ }
     ensures { λ r. ⌜ r ≡ grantedOn (now (reach .entry)) t site (threads .at) s c ⌝ }
 {
-    let after = settle(reach, site, threads, t);
-    let floor = floor_of(after, t);
+    let after = deliveries::settle(reach, site, threads, t);
+    let floor = deliveries::floor_of(after, t);
     let kept = notices::drop_before(site, floor);
     After {
         answer: Answer::Granted(s, c),
@@ -347,7 +126,7 @@ fn tried(
     let over = noted.over;
     let after = noted.site;
     let count = after.count;
-    if is_full(over, count, floor_of(threads, t), c) {
+    if is_full(over, count, deliveries::floor_of(threads, t), c) {
         return refused(15, site, threads);
     }
     let mut closed = threads;
@@ -371,7 +150,7 @@ fn clear(
     requires { ⌜ at .thread .0 < t ⌝ }
     ensures { λ r. ⌜ r ≡ clearOn n t g marks (now (words .entry)) (now (reach .entry)) site (threads .at) at ⌝ }
 {
-    let o = outlook_of(reach, site, threads, t, false);
+    let o = deliveries::outlook_of(reach, site, threads, t);
     let crew = o.crew;
     let limits = o.limits;
     if lookahead::hazard(marks, words, n, t, crew, limits, at) {

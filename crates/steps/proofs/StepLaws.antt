@@ -1,5 +1,4 @@
 -- The calls of a caller who keeps a state as numbers, one law for each exit.
--- three buffers, tested in turn
 use Prim.Native.Nat.{ℕ, _≤_, _<_}
 use mathlib.Core.Path.{_≡_, refl, sym, _∙_}
 use mathlib.Core.Bool.{Bool, true, false}
@@ -29,6 +28,7 @@ use Rattle.replay.specs.Replay.{replayedOf, wordsAfter, answersAfter}
 use Rattle.numbers.specs.Numbers.{logWords, recordWords, wordsIn, siteFrom, threadsFrom, areHeld}
 use Rattle.steps.specs.Step.{Kept, keeps, hasRoom, holding, freshNumber, freshKept, askedNumber, requestBy, requestNumber, keptBy, requestKept, requestAnswer, replayNumber, replayKept, replayWords, replayAnswers}
 
+-- three buffers, tested in turn
 module _ (vs ws rs : List ℕ) where
   pub hasRoom-variables : length vs < 64 → false ≡ hasRoom (keeps vs ws rs)
   unfolding hasRoom

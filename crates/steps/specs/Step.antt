@@ -1,5 +1,4 @@
 -- A state that the caller keeps as numbers, from call to call: what each call answers, and what it leaves of the lent buffers.
--- the buffers of a state
 use Prim.Native.Nat.{ℕ}
 use mathlib.Core.Bool.{Bool, cond, _&&_}
 use mathlib.Core.List.{List}
@@ -20,6 +19,7 @@ use Rattle.early.specs.Request.{Requested, requestOf, freshSite}
 use Rattle.replay.specs.Replay.{replayedOf, wordsAfter, answersAfter}
 use Rattle.numbers.specs.Numbers.{logWords, recordWords, wordsIn, siteFrom, threadsFrom, areHeld}
 
+-- the buffers of a state
 pub record Kept : Type 0 where
   pub variables : List ℕ
   pub log : List ℕ

@@ -1,5 +1,6 @@
 -- `scheduler::clear` meets its contract. 14, or what comes after it.
 use mathlib.Core.Path.{ap, sym, _∙_}
+use native.Mathlib.Omega.{arith}
 use borrow.Author.Needs.{needs}
 use Rattle.scheduler.specs.Answered.{triedOn}
 use Rattle.scheduler.proofs.AnsweredLaws.{clear-hazard, clear-tried}
@@ -18,7 +19,7 @@ refused-requires c κs = search needs
 returns : tie.Need-returns
 returns c =
     let x = c .before .before .before .before .before .before .before .before .args in
-    c .refused .ensures ∙ clear-hazard (x .reach .now) (x .t) (x .n) (x .g) (x .marks) (x .words .now) (x .site) (x .threads .at) (x .at) _ _ (c .before .before .before .before .before .outlook-of .ensures)
+    c .refused .ensures ∙ clear-hazard (x .reach .now) (x .t) (x .n) (x .g) (x .marks) (x .words .now) (x .site) (x .threads .at) (x .at) (omega arith) _ _ (c .before .before .before .before .before .outlook-of .ensures)
     (sym (c .before .before .hazard .ensures) ∙ c .before .if1 .taken)
 
 wide-requires : tie.Need-wide-requires
@@ -31,7 +32,7 @@ returns-2 : tie.Need-returns-2
 returns-2 c =
     let x = c .before .before .before .before .before .before .before .before .before .before .args in
     (c .tried .ensures ∙ ap (λ i. triedOn (x .reach .now) (x .t) (x .g) (x .site) (x .threads .at) i (x .at .cycle)) (c .before .before .wide .ensures))
-    ∙ clear-tried (x .reach .now) (x .t) (x .n) (x .g) (x .marks) (x .words .now) (x .site) (x .threads .at) (x .at) _ _ (c .before .before .before .before .before .before .before .outlook-of .ensures)
+    ∙ clear-tried (x .reach .now) (x .t) (x .n) (x .g) (x .marks) (x .words .now) (x .site) (x .threads .at) (x .at) (omega arith) _ _ (c .before .before .before .before .before .before .before .outlook-of .ensures)
     (sym (c .before .before .before .before .hazard .ensures) ∙ c .before .before .before .if1 .left)
 
 pub clear-spec : {M : Type 1} → statement M

@@ -1,4 +1,5 @@
 -- `scheduler::granted` meets its contract.
+use native.Mathlib.Omega.{arith}
 use borrow.Author.Needs.{needs}
 use Rattle.scheduler.proofs.AnsweredLaws.{granted-made}
 use Rattle.scheduler.proofs.granted.Statement.{statement}
@@ -16,7 +17,7 @@ drop-before-requires c κs = search needs
 returns : tie.Need-returns
 returns c =
     let start = c .before .before .before .before in
-    granted-made (start .args .reach .now) (start .args .t) (start .args .site) (c .drop-before .result) (start .args .threads) _ (start .args .s) (start .args .c) (c .before .floor-of .result)
+    granted-made (start .args .reach .now) (start .args .t) (omega arith) (start .args .site) (c .drop-before .result) (start .args .threads) _ (start .args .s) (start .args .c) (c .before .floor-of .result)
     (c .before .before .settle .ensures) (c .before .floor-of .ensures) (c .drop-before .ensures)
 
 pub granted-spec : {M : Type 1} → statement M

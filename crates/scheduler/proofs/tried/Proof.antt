@@ -1,5 +1,6 @@
 -- `scheduler::tried` meets its contract. 15, or the grant.
 use mathlib.Core.Path.{sym, _∙_}
+use native.Mathlib.Omega.{arith}
 use borrow.Author.Needs.{needs}
 use Rattle.scheduler.proofs.AnsweredLaws.{tried-full, tried-granted}
 use Rattle.scheduler.proofs.tried.Statement.{statement}
@@ -30,7 +31,7 @@ returns : tie.Need-returns
 returns c =
     let start = c .before .before .before .before .before .before .before .before .before .before .before .before .before .before in
     let x = start .args in
-    c .refused .ensures ∙ tried-full (x .reach .now) (x .t) (x .g) (x .site) (x .t5 .at) (x .k) (x .c) _ _ _
+    c .refused .ensures ∙ tried-full (x .reach .now) (x .t) (omega arith) (x .g) (x .site) (x .t5 .at) (x .k) (x .c) _ _ _
     (c .before .before .before .before .before .before .before .before .before .before .effect-in .ensures) (c .before .before .before .before .before .note .ensures) (c .before .before .before .floor-of .ensures) (sym (c .before .before .is-full .ensures) ∙ c .before .if1 .taken)
 
 mul-thread : tie.Need-mul-thread
@@ -46,7 +47,7 @@ returns-2 : tie.Need-returns-2
 returns-2 c =
     let start = c .before .before .before .before .before .before .before .before .before .before .before .before .before .before in
     let x = start .args in
-    c .granted .ensures ∙ tried-granted (x .reach .now) (x .t) (x .g) (x .site) (x .t5 .at) (x .k) (x .c) _ _ _
+    c .granted .ensures ∙ tried-granted (x .reach .now) (x .t) (omega arith) (x .g) (x .site) (x .t5 .at) (x .k) (x .c) _ _ _
     (c .before .before .before .before .before .before .before .before .before .before .effect-in .ensures) (c .before .before .before .before .before .note .ensures) (c .before .before .before .floor-of .ensures) (sym (c .before .before .is-full .ensures) ∙ c .before .if1 .left)
 
 pub tried-spec : {M : Type 1} → statement M
