@@ -50,8 +50,8 @@ loop-less c = omega arith
 loop-again : tie.Need-loop-again Inv-loop μ-loop
 loop-again c = tt
 
-differing-requires-2 : tie.Need-differing-requires-2 Inv-loop μ-loop
-differing-requires-2 c κs = search needs
+nothing-requires : tie.Need-nothing-requires Inv-loop μ-loop
+nothing-requires c κs = search needs
 
 returns-2 : tie.Need-returns-2 Inv-loop μ-loop
 returns-2 c = tt
@@ -75,5 +75,5 @@ between-records-spec =
     add-k
     loop-less
     loop-again
-    differing-requires-2
+    nothing-requires
     returns-2)

@@ -1,0 +1,47 @@
+-- `versus::graph::clear` is safe and ends.
+use Prim.Native.Nat.{_-_}
+use native.Mathlib.Omega.{arith}
+use borrow.Author.Needs.{needs}
+use Rattle.versus.proofs.graph.clear.Statement.{statement}
+use Rattle.versus.proofs.graph.clear.Tie as tie
+
+abbrev Inv-loop : tie.InvT-loop
+Inv-loop g₀ i n j₀ g j = Unit {0}
+
+abbrev μ-loop : tie.MeasureT-loop
+μ-loop g₀ i n j₀ g j = n - j
+
+loop-holds : tie.Need-loop-holds Inv-loop μ-loop
+loop-holds c = tt
+
+sum-requires : tie.Need-sum-requires Inv-loop μ-loop
+sum-requires c κs = search needs
+
+set-requires : tie.Need-set-requires Inv-loop μ-loop
+set-requires c κs = search needs
+
+add-j : tie.Need-add-j Inv-loop μ-loop
+add-j c = omega arith
+
+loop-less : tie.Need-loop-less Inv-loop μ-loop
+loop-less c = omega arith
+
+loop-again : tie.Need-loop-again Inv-loop μ-loop
+loop-again c = tt
+
+returns : tie.Need-returns Inv-loop μ-loop
+returns c = tt
+
+pub clear-spec : {M : Type 1} → statement M
+clear-spec =
+    tie.close
+    (tie.spec
+    Inv-loop
+    μ-loop
+    loop-holds
+    sum-requires
+    set-requires
+    add-j
+    loop-less
+    loop-again
+    returns)

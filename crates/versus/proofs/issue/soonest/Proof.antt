@@ -1,0 +1,51 @@
+-- `versus::issue::soonest` is safe and ends.
+use Prim.Native.Nat.{_-_}
+use native.Mathlib.Omega.{arith}
+use borrow.Author.Needs.{needs}
+use Rattle.versus.proofs.issue.soonest.Statement.{statement}
+use Rattle.versus.proofs.issue.soonest.Tie as tie
+
+abbrev Inv-loop : tie.InvT-loop
+Inv-loop bounds best₀ least₀ k₀ best least k = Unit {0}
+
+abbrev μ-loop : tie.MeasureT-loop
+μ-loop bounds best₀ least₀ k₀ best least k = 32 - k
+
+loop-holds : tie.Need-loop-holds Inv-loop μ-loop
+loop-holds c = tt
+
+add-x : tie.Need-add-x Inv-loop μ-loop
+add-x c = omega arith
+
+mul-x : tie.Need-mul-x Inv-loop μ-loop
+mul-x c = omega arith
+
+element-copy-out-x : tie.Need-element-copy-out-x Inv-loop μ-loop
+element-copy-out-x c = search needs
+
+add-k : tie.Need-add-k Inv-loop μ-loop
+add-k c = omega arith
+
+loop-less : tie.Need-loop-less Inv-loop μ-loop
+loop-less c = omega arith
+
+loop-again : tie.Need-loop-again Inv-loop μ-loop
+loop-again c = tt
+
+returns : tie.Need-returns Inv-loop μ-loop
+returns c = tt
+
+pub soonest-spec : {M : Type 1} → statement M
+soonest-spec =
+    tie.close
+    (tie.spec
+    Inv-loop
+    μ-loop
+    loop-holds
+    add-x
+    mul-x
+    element-copy-out-x
+    add-k
+    loop-less
+    loop-again
+    returns)
