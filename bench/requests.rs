@@ -6,6 +6,10 @@ extern "C" {
     fn teaselauger_replay(
         file: *const u8, n: usize, words: *mut u64, w: usize, threads: *const u8, t: usize, answers: *mut u64, a: usize, variables: *mut u32, v: usize, log: *mut u64, l: usize, records: *mut u64, r: usize,
     ) -> u8;
+    fn teaselauger_fresh(file: *const u8, n: usize, variables: *mut u32, v: usize, log: *mut u64, l: usize, records: *mut u64, r: usize) -> u8;
+    fn teaselauger_request(
+        file: *const u8, n: usize, words: *const u64, w: usize, variables: *mut u32, v: usize, log: *mut u64, l: usize, records: *mut u64, r: usize, thread: u8, answer: *mut u64, a: usize,
+    ) -> u8;
     fn native_replay(file: *const u8, n: usize, threads: *const u8, t: usize, answers: *mut u64, granted: *mut u64, ahead: *mut u64) -> u8;
 }
 
@@ -40,8 +44,8 @@ fn site(t: u8, shared: bool) -> Vec<u8> {
 }
 
 fn main() {
-    println!("| site | threads, segments | requests | granted | later than the floor | proved, ns a request | native, ns a request | proved / native |");
-    println!("|---|---|---|---|---|---|---|---|");
+    println!("| site | threads, segments | requests | granted | later than the floor | proved, ns a request | native, ns a request | proved / native | one at a time, ns a request |");
+    println!("|---|---|---|---|---|---|---|---|---|");
     for (name, t, shared) in [("small, own variables", 2u8, false), ("small, shared", 2, true), ("medium, own", 8, false), ("medium, shared", 8, true), ("full, own", 32, false), ("full, shared", 32, true)] {
         let b = site(t, shared);
         let n = 2000usize;
@@ -68,7 +72,16 @@ fn main() {
             least[3] = least[3].min(native(n, &mut y));
         }
         assert!(x == y, "the answers of {name} differ");
+        let (start, mut answer) = (Instant::now(), [0u64; 3]);
+        unsafe {
+            assert_eq!(teaselauger_fresh(b.as_ptr(), b.len(), vs.as_mut_ptr(), 64, log.as_mut_ptr(), 385, records.as_mut_ptr(), 160), 0);
+            for (i, &k) in ks.iter().enumerate() {
+                let number = teaselauger_request(b.as_ptr(), b.len(), words.as_ptr(), 4096, vs.as_mut_ptr(), 64, log.as_mut_ptr(), 385, records.as_mut_ptr(), 160, k, answer.as_mut_ptr(), 3);
+                assert_eq!(number as u64, x[4 * i]);
+            }
+        }
+        let one = start.elapsed().as_nanos() as f64 / n as f64;
         let (p, q) = ((least[2] - least[0]) / n as f64, (least[3] - least[1]) / n as f64);
-        println!("| {name} | {t}, {} | {n} | {granted} | {:.0} % | {p:.0} | {q:.0} | {:.2} |", 2 * t, 100.0 * ahead as f64 / granted as f64, p / q);
+        println!("| {name} | {t}, {} | {n} | {granted} | {:.0} % | {p:.0} | {q:.0} | {:.2} | {one:.0} |", 2 * t, 100.0 * ahead as f64 / granted as f64, p / q);
     }
 }

@@ -15,7 +15,6 @@ use crate::second;
 use crate::start;
 use clock::ThreadNo;
 use early::After;
-use model::Model;
 use plain::PlainRun;
 use scheduler::Outcome;
 
@@ -102,7 +101,10 @@ fn next(g: &[u64; 16643], records: &[u64; 32], seed: u64, list: u64, last: u64) 
     }
 }
 
-fn ask(m: Model, marks: [[bool; 64]; 64], words: &[u64], a: After, k: u64) -> After {
+// A request of thread k in the library. The model is read again: whoever hands it on is dear to prove.
+fn ask(file: &[u8], size: usize, words: &[u64], a: After, k: u64) -> After {
+    let m = crate::model_in(file, size);
+    let marks = conflicts::conflict_marks(m);
     let site = a.site;
     let threads = a.threads;
     scheduler::request(m, marks, words, site, threads, ThreadNo((k % 256) as u8))
@@ -155,7 +157,7 @@ fn length(seed: u64, list: u64) -> u64 {
     if seed % 240 == 23 && 0 < list && list < 3 {
         return 3500;
     }
-    if list % 3 == 0 { 24 } else { 64 }
+    if list % 3 == 0 { 24 } else { 48 }
 }
 
 // Demand 3 at the end of a list that started fresh. Where no thread is ready before the horizon, variables and records are the plain
@@ -188,14 +190,16 @@ fn asked(trace: &[u64; 8192]) -> [u8; 4096] {
 }
 
 fn ask_all(
-    m: Model,
-    marks: [[bool; 64]; 64],
+    file: &[u8],
+    size: usize,
     words: &[u64],
     a: After,
     ks: &[u8],
     n: usize,
     answers: &mut [u64],
 ) -> Outcome {
+    let m = crate::model_in(file, size);
+    let marks = conflicts::conflict_marks(m);
     let site = a.site;
     let threads = a.threads;
     let k = crate::smaller(n, ks.len());
@@ -204,8 +208,8 @@ fn ask_all(
 
 // The same list in one call: every answer again, and the state at its end.
 fn whole(
-    m: Model,
-    marks: [[bool; 64]; 64],
+    file: &[u8],
+    size: usize,
     words: &[u64],
     a: After,
     trace: &[u64; 8192],
@@ -214,7 +218,7 @@ fn whole(
 ) -> Difference {
     let ks = asked(trace);
     let mut answers = [0u64; 16384];
-    let o = ask_all(m, marks, words, a, &ks, number::place(n), &mut answers);
+    let o = ask_all(file, size, words, a, &ks, number::place(n), &mut answers);
     compare::listed(o, &answers, trace, n, desk)
 }
 
@@ -241,9 +245,8 @@ fn turn(
     seed: u64,
     list: u64,
     file: &[u8],
+    size: usize,
     g: &[u64; 16643],
-    m: Model,
-    marks: [[bool; 64]; 64],
     words: &[u64],
     p: Standing,
 ) -> Standing {
@@ -257,7 +260,7 @@ fn turn(
         return p;
     }
     let a = issue::request(file, g, desk, word % 256);
-    let after = ask(m, marks, words, before, word);
+    let after = ask(file, size, words, before, word);
     let difference = compare::requested(after, a);
     let left = a.desk;
     let others = left.records;
@@ -282,9 +285,8 @@ fn one_by_one(
     seed: u64,
     list: u64,
     file: &[u8],
+    size: usize,
     g: &[u64; 16643],
-    m: Model,
-    marks: [[bool; 64]; 64],
     words: &[u64],
 ) -> Standing {
     let desk = start::desk(file, g, seed, list);
@@ -300,7 +302,7 @@ fn one_by_one(
     };
     let mut left = length(seed, list);
     while 0 < left {
-        p = turn(totals, trace, seed, list, file, g, m, marks, words, p);
+        p = turn(totals, trace, seed, list, file, size, g, words, p);
         left -= 1;
     }
     p
@@ -311,13 +313,12 @@ fn hold_list(
     seed: u64,
     list: u64,
     file: &[u8; 16384],
+    size: usize,
     g: &[u64; 16643],
-    m: Model,
-    marks: [[bool; 64]; 64],
     words: &[u64; 4096],
 ) {
     let mut trace = [0u64; 8192];
-    let l = one_by_one(totals, &mut trace, seed, list, file, g, m, marks, words);
+    let l = one_by_one(totals, &mut trace, seed, list, file, size, g, words);
     let desk = l.desk;
     let after = l.after;
     differ(totals, seed, list, l.n, l.difference);
@@ -327,7 +328,7 @@ fn hold_list(
         seed,
         list,
         l.n,
-        whole(m, marks, words, a, &trace, l.n, desk),
+        whole(file, size, words, a, &trace, l.n, desk),
     );
     crate::add(totals, LISTS, 1);
     if 3 <= list {
@@ -335,7 +336,7 @@ fn hold_list(
     }
     let records = desk.records;
     let least = least_from(g, &records, 0);
-    let next = ask(m, marks, words, after, least);
+    let next = ask(file, size, words, after, least);
     differ(
         totals,
         seed,
@@ -351,19 +352,20 @@ fn hold_unfit(
     totals: &mut [u64; 16],
     seed: u64,
     file: &[u8; 16384],
+    size: usize,
     g: &[u64; 16643],
-    m: Model,
-    marks: [[bool; 64]; 64],
     words: &[u64; 4096],
 ) {
     let desk = start::desk(file, g, seed, 3);
     let a = start::after(desk);
     let far = [1024000000000u64; 4096];
+    let n = (graph::at(g, graph::SEGMENTS) % 256) as u8;
+    let e = (second::byte(file, 9) % 256) as u8;
     let k = any_thread(seed, graph::at(g, graph::THREADS));
     let b = if seed % 4 == 0 {
-        ask(m, marks, &far, a, k)
+        ask(file, size, &far, a, k)
     } else {
-        ask(m, marks, words, start::spoilt(a, seed / 4, m.n, m.e), k)
+        ask(file, size, words, start::spoilt(a, seed / 4, n, e), k)
     };
     let records = desk.records;
     tally(totals, &records, &records, k, 11);
@@ -376,32 +378,30 @@ fn hold_unfit(
     );
 }
 
-fn fill_words(m: Model, words: &mut [u64; 4096]) {
-    distances::distances(m, words);
+fn fill_words(file: &[u8], size: usize, words: &mut [u64; 4096]) {
+    distances::distances(crate::model_in(file, size), words);
+}
+
+// The fresh state.
+fn start_of(file: &[u8], size: usize, desk: Desk) -> Difference {
+    let f = scheduler::fresh(crate::model_in(file, size));
+    let site = f.site;
+    let threads = f.threads;
+    compare::between_states(site, threads, desk)
 }
 
 // All lists of a model.
 pub fn hold_lists(totals: &mut [u64; 16], seed: u64, file: &[u8; 16384], size: usize) {
-    let m = crate::model_in(file, size);
     let mut g = [0u64; 16643];
     graph::fill(file, &mut g);
     let mut words = [0u64; 4096];
-    fill_words(m, &mut words);
-    let marks = conflicts::conflict_marks(m);
-    let f = scheduler::fresh(m);
-    let site = f.site;
-    let threads = f.threads;
-    differ(
-        totals,
-        seed,
-        0,
-        0,
-        compare::between_states(site, threads, start::desk(file, &g, seed, 0)),
-    );
-    hold_unfit(totals, seed, file, &g, m, marks, &words);
+    fill_words(file, size, &mut words);
+    let desk = start::desk(file, &g, seed, 0);
+    differ(totals, seed, 0, 0, start_of(file, size, desk));
+    hold_unfit(totals, seed, file, size, &g, &words);
     let mut list: u64 = 0;
     while list < 6 {
-        hold_list(totals, seed, list, file, &g, m, marks, &words);
+        hold_list(totals, seed, list, file, size, &g, &words);
         list += 1;
     }
     crate::add(totals, MODELS, 1);

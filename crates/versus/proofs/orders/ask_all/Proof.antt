@@ -7,6 +7,12 @@ use Rattle.versus.proofs.orders.ask_all.Statement.{statement}
 use Rattle.versus.proofs.orders.ask_all.Tie as tie
 use lib.Seq.{length-take-le}
 
+model-in-requires : tie.Need-model-in-requires
+model-in-requires c κs = search needs
+
+conflict-marks-requires : tie.Need-conflict-marks-requires
+conflict-marks-requires c κs = search needs
+
 smaller-requires : tie.Need-smaller-requires
 smaller-requires c κs = search needs
 
@@ -25,4 +31,11 @@ returns c = search needs
 pub ask-all-spec : {M : Type 1} → statement M
 ask-all-spec =
     tie.close
-    (tie.spec smaller-requires slice-aggregate-requests requests-requires same-length returns)
+    (tie.spec
+    model-in-requires
+    conflict-marks-requires
+    smaller-requires
+    slice-aggregate-requests
+    requests-requires
+    same-length
+    returns)

@@ -6,13 +6,10 @@ use Rattle.versus.proofs.orders.hold_lists.Statement.{statement}
 use Rattle.versus.proofs.orders.hold_lists.Tie as tie
 
 abbrev Inv-loop : tie.InvT-loop
-Inv-loop totals₀ seed file size m g words marks list₀ totals list = Unit {0}
+Inv-loop totals₀ seed file size g words list₀ totals list = Unit {0}
 
 abbrev μ-loop : tie.MeasureT-loop
-μ-loop totals₀ seed file size m g words marks list₀ totals list = 6 - list
-
-model-in-requires : tie.Need-model-in-requires Inv-loop μ-loop
-model-in-requires c κs = search needs
+μ-loop totals₀ seed file size g words list₀ totals list = 6 - list
 
 fill-requires : tie.Need-fill-requires Inv-loop μ-loop
 fill-requires c κs = search needs
@@ -20,17 +17,11 @@ fill-requires c κs = search needs
 fill-words-requires : tie.Need-fill-words-requires Inv-loop μ-loop
 fill-words-requires c κs = search needs
 
-conflict-marks-requires : tie.Need-conflict-marks-requires Inv-loop μ-loop
-conflict-marks-requires c κs = search needs
-
-fresh-requires : tie.Need-fresh-requires Inv-loop μ-loop
-fresh-requires c κs = search needs
-
 desk-requires : tie.Need-desk-requires Inv-loop μ-loop
 desk-requires c κs = search needs
 
-between-states-requires : tie.Need-between-states-requires Inv-loop μ-loop
-between-states-requires c κs = search needs
+start-of-requires : tie.Need-start-of-requires Inv-loop μ-loop
+start-of-requires c κs = search needs
 
 differ-requires : tie.Need-differ-requires Inv-loop μ-loop
 differ-requires c κs = search needs
@@ -65,13 +56,10 @@ hold-lists-spec =
     (tie.spec
     Inv-loop
     μ-loop
-    model-in-requires
     fill-requires
     fill-words-requires
-    conflict-marks-requires
-    fresh-requires
     desk-requires
-    between-states-requires
+    start-of-requires
     differ-requires
     hold-unfit-requires
     loop-holds

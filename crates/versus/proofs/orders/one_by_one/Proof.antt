@@ -5,10 +5,10 @@ use Rattle.versus.proofs.orders.one_by_one.Statement.{statement}
 use Rattle.versus.proofs.orders.one_by_one.Tie as tie
 
 abbrev Inv-loop : tie.InvT-loop
-Inv-loop totals₀ trace₀ seed list file g m marks words p₀ left₀ totals trace p left = Unit {0}
+Inv-loop totals₀ trace₀ seed list file size g words p₀ left₀ totals trace p left = Unit {0}
 
 abbrev μ-loop : tie.MeasureT-loop
-μ-loop totals₀ trace₀ seed list file g m marks words p₀ left₀ totals trace p left = left
+μ-loop totals₀ trace₀ seed list file size g words p₀ left₀ totals trace p left = left
 
 desk-requires : tie.Need-desk-requires Inv-loop μ-loop
 desk-requires c κs = search needs
