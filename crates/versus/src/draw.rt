@@ -307,7 +307,7 @@ struct Shape {
 }
 
 // A number from 0 to 2,147,483,646, one for each seed and place.
-pub fn mixed(seed: u64, place: u64) -> u64 {
+fn mixed(seed: u64, place: u64) -> u64 {
     let x = (seed % 2147483647) * 48271 + (place % 65536) * 69621 + 12345;
     let y = (x % 2147483647) * 16807 + 1;
     ((y % 2147483647) * 48271) % 2147483647

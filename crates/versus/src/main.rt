@@ -2,14 +2,9 @@
 // are written, and generated ones. The counts follow; every difference is a line of its own, with the seed and what differs first.
 mod compare;
 mod draw;
-mod graph;
-mod issue;
-mod log;
 mod number;
-mod orders;
 mod print;
 mod second;
-mod start;
 
 use libc::STDIN_FILENO;
 use model::Model;
@@ -38,13 +33,13 @@ const RECORDS: usize = 6;
 
 const DIFFERENCES: usize = 10;
 
-pub fn add(totals: &mut [u64; 16], i: usize, x: u64) {
-    if i < 16 {
+fn add(totals: &mut [u64; 11], i: usize, x: u64) {
+    if i < 11 {
         totals[i] = number::sum(totals[i], x);
     }
 }
 
-fn count(totals: &mut [u64; 16], o: Outcome) {
+fn count(totals: &mut [u64; 11], o: Outcome) {
     add(totals, RUNS, 1);
     add(totals, SEGMENTS, o.n);
     add(totals, if o.spent { SPENT } else { DONE }, 1);
@@ -60,32 +55,26 @@ fn count(totals: &mut [u64; 16], o: Outcome) {
     }
 }
 
-pub fn smaller(a: usize, b: usize) -> usize
+fn smaller(a: usize, b: usize) -> usize
     ensures { λ r. ⌜ r ≤ b ⌝ }
 {
     if a < b { a } else { b }
 }
 
 // The model in the first n bytes.
-pub fn model_in(file: &[u8], n: usize) -> Model {
+fn model_in(file: &[u8], n: usize) -> Model {
     let k = smaller(n, file.len());
     let x = parser::read_file(&file[..k]);
     x.model
 }
 
 // One run of both.
-fn hold(totals: &mut [u64; 16], seed: u64, file: &[u8], size: usize, budget: u64) {
+fn hold(totals: &mut [u64; 11], seed: u64, file: &[u8], size: usize, budget: u64) {
     let o = second::simulate(file, budget);
     let d = compare::compared(0, runner::plain_run(model_in(file, size), budget), o);
     count(totals, o);
     if d.kind != compare::NOTHING {
-        print::difference(
-            b"seed, horizon, budget",
-            seed,
-            second::field(file, 4, 4),
-            budget,
-            d,
-        );
+        print::difference(seed, second::field(file, 4, 4), budget, d);
         add(totals, DIFFERENCES, 1);
     }
 }
@@ -123,7 +112,7 @@ fn horizon(i: u64, own: u64, time: u64) -> u64 {
 }
 
 // A model at its horizons and budgets.
-fn hold_all(totals: &mut [u64; 16], seed: u64, file: &mut [u8; 16384], size: usize, most: u64) {
+fn hold_all(totals: &mut [u64; 11], seed: u64, file: &mut [u8; 16384], size: usize, most: u64) {
     let o = second::simulate(file, most);
     let own = second::field(file, 4, 4);
     let k = number::place(draw::pick(seed, 8, o.t) % 32);
@@ -138,7 +127,7 @@ fn hold_all(totals: &mut [u64; 16], seed: u64, file: &mut [u8; 16384], size: usi
 }
 
 // A model against the file rules, by its counts: 11, and nothing run.
-fn refuse(totals: &mut [u64; 16], seed: u64, file: &[u8; 16384], size: usize) {
+fn refuse(totals: &mut [u64; 11], seed: u64, file: &[u8; 16384], size: usize) {
     let mut x = model_in(file, size);
     match seed % 5 {
         0 => x.t = 0,
@@ -159,11 +148,11 @@ fn refuse(totals: &mut [u64; 16], seed: u64, file: &[u8; 16384], size: usize) {
         add(totals, REFUSALS, 1);
         return;
     }
-    print::difference(b"seed, horizon, budget", seed, 0, 300, d);
+    print::difference(seed, 0, 300, d);
     add(totals, DIFFERENCES, 1);
 }
 
-fn hold_drawn(totals: &mut [u64; 16], seed: u64) {
+fn hold_drawn(totals: &mut [u64; 11], seed: u64) {
     let mut file = [0u8; 16384];
     let size = number::place(draw::model_of(seed, &mut file));
     let most = if draw::is_long(seed) { 3300 } else { 300 };
@@ -172,30 +161,13 @@ fn hold_drawn(totals: &mut [u64; 16], seed: u64) {
 }
 
 fn all_drawn() {
-    let mut totals = [0u64; 16];
+    let mut totals = [0u64; 11];
     let mut i: u64 = 0;
     while i < MODELS {
         hold_drawn(&mut totals, SEED + i);
         i += 1;
     }
-    print::run_counts(&totals);
-}
-
-// Lists of requests.
-fn hold_orders(totals: &mut [u64; 16], seed: u64) {
-    let mut file = [0u8; 16384];
-    let size = number::place(draw::model_of(seed, &mut file));
-    orders::hold_lists(totals, seed, &file, size);
-}
-
-fn all_orders() {
-    let mut totals = [0u64; 16];
-    let mut i: u64 = 0;
-    while i < MODELS {
-        hold_orders(&mut totals, SEED + i);
-        i += 1;
-    }
-    print::list_counts(&totals);
+    print::counts(&totals);
 }
 
 // Reads n bytes to the front of the buffer, and answers how many came.
@@ -230,7 +202,7 @@ fn write_sheet(file: &[u8], n: usize) {
 }
 
 // A name and a model; whether there was one.
-fn hold_next(totals: &mut [u64; 16]) -> bool {
+fn hold_next(totals: &mut [u64; 11]) -> bool {
     let mut file = [0u8; 16384];
     let n = next_part(&mut file);
     if n == 0 {
@@ -244,16 +216,15 @@ fn hold_next(totals: &mut [u64; 16]) -> bool {
 }
 
 fn all_stored() {
-    let mut totals = [0u64; 16];
+    let mut totals = [0u64; 11];
     let mut turns: u64 = 1000;
     while 0 < turns && hold_next(&mut totals) {
         turns -= 1;
     }
-    print::run_counts(&totals);
+    print::counts(&totals);
 }
 
 fn main() {
     all_stored();
     all_drawn();
-    all_orders();
 }

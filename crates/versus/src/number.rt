@@ -27,7 +27,3 @@ pub fn sum(x: u64, y: u64) -> u64 {
 pub fn less(x: u64) -> u64 {
     if 0 < x { x - 1 } else { 0 }
 }
-
-pub fn less_by(x: u64, y: u64) -> u64 {
-    if y < x { x - y } else { 0 }
-}

@@ -42,53 +42,31 @@ fn name(kind: u64) {
     if kind == compare::RECORD {
         text(b", thread");
     }
-    if kind == compare::ANSWER {
-        text(b", answer");
-    }
-    if kind == compare::LOGGED {
-        text(b", log");
-    }
 }
 
-// Where both differ, by a heading and three numbers, and what differs first.
-pub fn difference(heading: &[u8], a: u64, b: u64, c: u64, d: Difference) {
-    text(heading);
-    spaced(a);
-    spaced(b);
-    spaced(c);
+// The seed, horizon and budget of a run, and what differs first in it.
+pub fn difference(seed: u64, horizon: u64, budget: u64, d: Difference) {
+    text(b"seed, horizon, budget");
+    spaced(seed);
+    spaced(horizon);
+    spaced(budget);
     name(d.kind);
     spaced(d.place);
-    text(b": library");
-    side(d.kind, d.first);
+    text(b": plain");
+    side(d.kind, d.plain);
     text(b", second");
     side(d.kind, d.second);
     text(b"\n");
 }
 
-fn counts(heading: &[u8], totals: &[u64; 16], n: usize) {
-    text(heading);
+pub fn counts(totals: &[u64; 11]) {
+    text(
+        b"models, refusals, runs, segments; runs done, spent; records ended, overrun, ready, waiting; differences:",
+    );
     let mut i: usize = 0;
-    while i < 16 {
-        if i < n {
-            spaced(totals[i]);
-        }
+    while i < 11 {
+        spaced(totals[i]);
         i += 1;
     }
     text(b"\n");
-}
-
-pub fn run_counts(totals: &[u64; 16]) {
-    counts(
-        b"models, refusals, runs, segments; runs done, spent; records ended, overrun, ready, waiting; differences:",
-        totals,
-        11,
-    );
-}
-
-pub fn list_counts(totals: &[u64; 16]) {
-    counts(
-        b"models, lists, requests, grants, later than the floor; refused 10, 11, 12, 13, 14, 15; lists ended, gone on; overrun on hearing, refused by a full log; differences:",
-        totals,
-        16,
-    );
 }

@@ -30,7 +30,7 @@ pub fn record(kind: u64, segment: u64, event: u64, key: u64) -> u64 {
     kind % 4 + segment % 256 * 4 + event % 256 * 1024 + key % 4398046511104 * 262144
 }
 
-pub fn byte(file: &[u8], i: u64) -> u64 {
+fn byte(file: &[u8], i: u64) -> u64 {
     let k = number::place(i);
     if k < file.len() {
         return number::wide(file[k]);
@@ -49,7 +49,7 @@ pub fn field(file: &[u8], i: u64, size: u64) -> u64 {
     x
 }
 
-pub fn cell(cells: &[u64; 96], i: u64) -> u64 {
+fn cell(cells: &[u64; 96], i: u64) -> u64 {
     if i < 96 {
         return cells[number::place(i)];
     }
@@ -109,7 +109,7 @@ fn chosen(file: &[u8], closer: u64, cells: &[u64; 96]) -> u64 {
 }
 
 // The record of a thread that goes on after so many units; overrun where its next delta would be 1,024.
-pub fn resumed(segment: u64, now: u64, units: u64) -> u64 {
+fn resumed(segment: u64, now: u64, units: u64) -> u64 {
     if 0 < units {
         return record(
             READY,
@@ -198,7 +198,7 @@ fn woken(agenda: [u64; 32], records: &mut [u64; 32], cells: &[u64; 96], now: u64
 }
 
 // The place of each segment's closer, and from 64 on that of each thread's first segment; the number of threads.
-pub fn survey(file: &[u8], places: &mut [u64; 96]) -> u64 {
+fn survey(file: &[u8], places: &mut [u64; 96]) -> u64 {
     let mut i = 10;
     let mut n = 0;
     let mut t = 0;
@@ -222,7 +222,7 @@ pub fn survey(file: &[u8], places: &mut [u64; 96]) -> u64 {
 }
 
 // "All threads start ready at (0, 0)."
-pub fn start(file: &[u8], places: &[u64; 96], t: u64, records: &mut [u64; 32]) -> [u64; 32] {
+fn start(file: &[u8], places: &[u64; 96], t: u64, records: &mut [u64; 32]) -> [u64; 32] {
     let mut agenda = [NEVER; 32];
     let mut k: u64 = 0;
     while k < t {
@@ -237,24 +237,6 @@ pub fn start(file: &[u8], places: &[u64; 96], t: u64, records: &mut [u64; 32]) -
     agenda
 }
 
-// How many statements stand behind a closer.
-pub fn statements(file: &[u8], closer: u64) -> u64 {
-    let size = field(file, std::num::wrapping_sub_u64(closer, 4), 2);
-    number::less(number::less(size / 6))
-}
-
-// Segment s whole, whose closer stands at a place of the file; the record after it.
-pub fn run(file: &[u8], closer: u64, s: u64, now: u64, cells: &mut [u64; 96]) -> u64 {
-    execute_all(
-        file,
-        number::sum(closer, 13),
-        statements(file, closer),
-        now,
-        cells,
-    );
-    closed(file, closer, s, chosen(file, closer, cells), now)
-}
-
 // The soonest activation: its thread runs its segment whole, and is put on the agenda again.
 fn step(
     file: &[u8],
@@ -266,7 +248,11 @@ fn step(
 ) {
     let k = agenda[0] % 32;
     let s = records[number::place(k)] / 4 % 256;
-    let r = run(file, cell(places, s), s, now, cells);
+    let closer = cell(places, s);
+    let size = field(file, std::num::wrapping_sub_u64(closer, 4), 2);
+    let n = number::less(number::less(size / 6));
+    execute_all(file, number::sum(closer, 13), n, now, cells);
+    let r = closed(file, closer, s, chosen(file, closer, cells), now);
     records[number::place(k)] = r;
     drop_first(agenda);
     insert(agenda, activation(r, k));

@@ -50,8 +50,8 @@ loop-less c = omega arith
 loop-again : tie.Need-loop-again Inv-loop μ-loop
 loop-again c = tt
 
-nothing-requires : tie.Need-nothing-requires Inv-loop μ-loop
-nothing-requires c κs = search needs
+differing-requires-2 : tie.Need-differing-requires-2 Inv-loop μ-loop
+differing-requires-2 c κs = search needs
 
 returns-2 : tie.Need-returns-2 Inv-loop μ-loop
 returns-2 c = tt
@@ -75,5 +75,5 @@ between-variables-spec =
     add-i
     loop-less
     loop-again
-    nothing-requires
+    differing-requires-2
     returns-2)

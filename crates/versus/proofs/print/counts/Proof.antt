@@ -6,10 +6,13 @@ use Rattle.versus.proofs.print.counts.Statement.{statement}
 use Rattle.versus.proofs.print.counts.Tie as tie
 
 abbrev Inv-loop : tie.InvT-loop
-Inv-loop heading totals n i₀ t5 i = Unit {0}
+Inv-loop totals i₀ t4 i = Unit {0}
 
 abbrev μ-loop : tie.MeasureT-loop
-μ-loop heading totals n i₀ t5 i = 16 - i
+μ-loop totals i₀ t4 i = 11 - i
+
+slice-aggregate-text : tie.Need-slice-aggregate-text Inv-loop μ-loop
+slice-aggregate-text c = search needs
 
 text-requires : tie.Need-text-requires Inv-loop μ-loop
 text-requires c κs = search needs
@@ -35,8 +38,8 @@ loop-less c = omega arith
 loop-again : tie.Need-loop-again Inv-loop μ-loop
 loop-again c = tt
 
-slice-aggregate-text : tie.Need-slice-aggregate-text Inv-loop μ-loop
-slice-aggregate-text c = omega arith
+slice-aggregate-text-2 : tie.Need-slice-aggregate-text-2 Inv-loop μ-loop
+slice-aggregate-text-2 c = search needs
 
 text-requires-2 : tie.Need-text-requires-2 Inv-loop μ-loop
 text-requires-2 c κs = search needs
@@ -50,6 +53,7 @@ counts-spec =
     (tie.spec
     Inv-loop
     μ-loop
+    slice-aggregate-text
     text-requires
     loop-holds
     mul-spaced
@@ -58,6 +62,6 @@ counts-spec =
     add-i
     loop-less
     loop-again
-    slice-aggregate-text
+    slice-aggregate-text-2
     text-requires-2
     returns)
