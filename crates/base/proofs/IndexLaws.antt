@@ -1,6 +1,6 @@
 -- What a search over an index finds, and what a list filled by an index holds.
 use Prim.Native.Nat.{ℕ, zero, suc, _+_, _<_, _≤_}
-use mathlib.Core.Path.{_≡_, refl, ap, sym, _∙_}
+use mathlib.Core.Path.{_≡_, refl, ap, ap₂, sym, _∙_}
 use mathlib.Core.Logic.{_⊎_, inl, inr}
 use mathlib.Core.Bool.{Bool, true, false, not, _||_}
 use mathlib.Core.List.{List, [], _∷_}
@@ -37,6 +37,11 @@ anyBelow-none (suc n) f t i h = go (λ k l. anyBelow-none n f k i l) (not-or→b
     go : (T (not (anyBelow n f)) → i < n → T (not (f i))) → T (not (anyBelow n f)) × T (not (f n)) → Dec (i ≡ n) → T (not (f i))
     go ih (s, u) (yes e) = rw e u
     go ih (s, u) (no e) = ih s (omega arith)
+
+pub anyBelow-same : (n : ℕ) (f g : ℕ → Bool) → ((i : ℕ) → i < n → f i ≡ g i) → anyBelow n f ≡ anyBelow n g
+unfolding anyBelow
+anyBelow-same zero f g h = refl
+anyBelow-same (suc n) f g h = ap₂ _||_ (anyBelow-same n f g (λ i k. h i (omega arith))) (h n (omega arith))
 
 pub orElse-none : (a b : ℕ) → a ≡ 0 → orElse a b ≡ b
 unfolding orElse

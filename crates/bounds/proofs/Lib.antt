@@ -16,3 +16,4 @@ pub mod FitLaws
 pub mod RangeLaws
 pub mod GrantLaws
 pub mod RequestLaws
+pub mod FreeLaws

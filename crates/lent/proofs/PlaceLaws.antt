@@ -30,7 +30,7 @@ use Rattle.early.specs.Deliver.{heardNow}
 use Rattle.early.specs.Fit.{isFitThread, isUnfitThreads}
 use Rattle.early.specs.Grant.{effectAt, logAfter}
 use Rattle.early.specs.Request.{isFull}
-use Rattle.reach.proofs.PlaceLaws.{anyBelow-same}
+use Rattle.base.proofs.IndexLaws.{anyBelow-same}
 
 -- lists filled by functions that agree
 tabulate-same : {A : Type 0} (n i : ℕ) (f g : ℕ → A) → ((j : ℕ) → j < i + n → f j ≡ g j) → tabulate n i f ≡ tabulate n i g

@@ -8,7 +8,7 @@ use lib.Dec.{T, ltb, eqb, not-T}
 use lib.ListN.{getD}
 use Rattle.base.specs.Index.{anyBelow}
 use Rattle.base.proofs.BoolLaws.{T→false, and→both}
-use Rattle.base.proofs.IndexLaws.{anyBelow-some}
+use Rattle.base.proofs.IndexLaws.{anyBelow-some, anyBelow-same}
 use Rattle.clock.specs.declared.Cycle.{Cycle}
 use Rattle.clock.specs.declared.Bound.the-variants.{Never, At}
 use Rattle.clock.specs.Cycle.{stampAt}
@@ -31,7 +31,7 @@ use Rattle.bounds.proofs.RangeLaws.{within-leastBelow, within-distance, within-
 use Rattle.reach.specs.Limit.{limitOf, limitOfCycle, limitOfWord, sumOf, isSoonerLimit}
 use Rattle.reach.specs.Ahead.{reachOf, forecastAt, threatensLimit, hazardAt, segmentsOf}
 use Rattle.reach.proofs.LimitLaws.{Limited, within-limited, limitOf-before, limitOf-⊕, limitOf-sooner, limitOfCycle-is}
-use Rattle.reach.proofs.PlaceLaws.{anyBelow-same, atMost-is, segmentsOf-at}
+use Rattle.reach.proofs.PlaceLaws.{atMost-is, segmentsOf-at}
 use Rattle.reach.proofs.StateLaws.{FitState, fit-counts, fit-threads, fit-words, fit-segment, leastHeard-range}
 use Rattle.reach.proofs.NearestLaws.{distance-limit, forecastAt-is}
 use Rattle.reach.proofs.RoundLaws.{limitsOf, earliestLimits-is, earliest-range}

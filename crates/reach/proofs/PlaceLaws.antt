@@ -1,7 +1,7 @@
--- What stands at each place of the lists of `specs/Ahead.antt`, by its index; and searches and least bounds that agree index by index.
+-- What stands at each place of the lists of `specs/Ahead.antt`, by its index; and sums with least bounds.
 use Prim.Native.Nat.{ℕ, zero, suc, _+_, _*_, _<_, _≤_, _/_, _%_}
-use mathlib.Core.Path.{_≡_, refl, ap, ap₂, _∙_}
-use mathlib.Core.Bool.{Bool, cond, _||_}
+use mathlib.Core.Path.{_≡_, refl, ap, _∙_}
+use mathlib.Core.Bool.{cond}
 use mathlib.Core.List.{List, [], append-nil}
 use native.Mathlib.Nat.{zero-add}
 use native.Mathlib.Omega.{arith}
@@ -9,7 +9,7 @@ use native.Mathlib.Decide.{decLt}
 use lib.Dec.{ltb}
 use lib.ListN.{getD, length, drop, drop-of-length-le, List·getD-eq-default, List·getD-append}
 use borrow.Author.Tests.{lt-ltb, le-ltb}
-use Rattle.base.specs.Index.{anyBelow, tabulate}
+use Rattle.base.specs.Index.{tabulate}
 use Rattle.base.proofs.IndexLaws.{tabulate-length, tabulate-at}
 use Rattle.clock.specs.declared.Bound.{Bound}
 use Rattle.clock.specs.Advance.{leastBelow, _⊕_}
@@ -23,12 +23,7 @@ use Rattle.early.specs.Earliest.{sourceOf}
 use Rattle.reach.specs.Limit.{limitOf, atMost}
 use Rattle.reach.specs.Ahead.{nearest, reachOf, reachIn, relaxedAt, relaxedLimits, eventAwaited, segmentsOf, eventsOf, sourceLimits}
 
--- searches and least bounds
-
-pub anyBelow-same : (n : ℕ) (f g : ℕ → Bool) → ((i : ℕ) → i < n → f i ≡ g i) → anyBelow n f ≡ anyBelow n g
-unfolding anyBelow
-anyBelow-same zero f g h = refl
-anyBelow-same (suc n) f g h = ap₂ _||_ (anyBelow-same n f g (λ i k. h i (omega arith))) (h n (omega arith))
+-- least bounds
 
 -- a sum with the least is the least of the sums, on either side
 pub leastBelow-⊕ : (n : ℕ) (f : ℕ → Bound) (d : Bound) → leastBelow n f ⊕ d ≡ leastBelow n (λ i. f i ⊕ d)
