@@ -1,12 +1,9 @@
-#!/usr/bin/env python3
-"""Makes the stored files of this crate, and what the program must write of them.
-
-    python3 files.py        writes data/files and stdout, beside this script
+"""The stored model files of this crate, and the number of each.
 
 The second reader here is written otherwise than the reader: it collects every fault of every record with the place that
 document 01's order gives it, and takes the least.
 """
-import os, random, struct
+import random, struct
 
 # ---- the second reader
 def word(b, i): return b[i] + b[i + 1] * 256
@@ -118,14 +115,3 @@ def stored():
             out.append(b"".join(rs[:i] + [rs[i]] + rs[i:]))
             if i: out.append(b"".join(rs[:i - 1] + [rs[i], rs[i - 1]] + rs[i + 1:]))
     return out
-
-def main():
-    here = os.path.dirname(os.path.abspath(__file__))
-    for n, f in TABLE: assert judge(f) == (n,), n
-    fs = stored()
-    with open(here + "/data/files", "wb") as o:
-        for f in fs: o.write(struct.pack("<H", len(f)) + f)
-    with open(here + "/stdout", "w") as o:
-        for f in fs: o.write(" ".join(str(x) for x in judge(f)) + "\n")
-
-main()

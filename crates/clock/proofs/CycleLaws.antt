@@ -24,14 +24,6 @@ module _ (a b : Cycle) where
   unfolding isBefore
   isBefore-other h = rw (ne-eqb (a .time .0) (b .time .0) h) refl
 
-  pub isSame-same : a .time .0 ≡ b .time .0 → eqb (a .delta .0) (b .delta .0) ≡ isSame a b
-  unfolding isSame
-  isSame-same h = rw (eq-eqb (a .time .0) (b .time .0) h) refl
-
-  pub isSame-other : (a .time .0 ≡ b .time .0 → ⊥) → false ≡ isSame a b
-  unfolding isSame
-  isSame-other h = rw (ne-eqb (a .time .0) (b .time .0) h) refl
-
 module _ (a b : Stamp) where
   pub isStampBefore-same : isSame (a .cycle) (b .cycle) ≡ true → ltb (a .thread .0) (b .thread .0) ≡ isStampBefore a b
   unfolding isStampBefore

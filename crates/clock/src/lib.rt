@@ -57,10 +57,7 @@ pub fn is_before(a: Cycle, b: Cycle) -> bool
 pub fn is_same(a: Cycle, b: Cycle) -> bool
     ensures { λ r. ⌜ r ≡ isSame a b ⌝ }
 {
-    if a.time.0 == b.time.0 {
-        return a.delta.0 == b.delta.0;
-    }
-    false
+    (a.time.0 == b.time.0) & (a.delta.0 == b.delta.0)
 }
 
 // Whether stamp a is before b: the cycle first, then the thread number.
@@ -154,15 +151,12 @@ pub fn plus(a: Bound, d: Bound) -> Bound
     })
 }
 
-// How far a wait advances: the distance over it.
+// How far a wait advances: the distance over it. An event wait counts as one of no units.
 pub fn advance_of(w: Wait) -> Bound
     ensures { λ r. ⌜ r ≡ advanceOf w ⌝ }
 {
     match w {
-        Wait::Event => Bound::At(Cycle {
-            time: Time(0),
-            delta: Delta(1),
-        }),
+        Wait::Event => advance_of_units(Delay(0)),
         Wait::Time(k) => advance_of_units(k),
     }
 }

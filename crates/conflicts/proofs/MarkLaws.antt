@@ -5,7 +5,7 @@ use mathlib.Core.Bool.{Bool, false, _&&_, _||_}
 use mathlib.Core.List.{List, []}
 use native.Mathlib.Omega.{arith}
 use native.Mathlib.Nat.{zero-add}
-use native.Mathlib.Decide.{decLt}
+use native.Mathlib.Decide.{decLt, ℕ-discrete}
 use lib.Dec.{T}
 use lib.ListN.{length, getD, replicate, length-replicate, getD-replicate}
 use lib.Seq.{ext-getD}
@@ -19,10 +19,12 @@ use Rattle.model.specs.Footprint.{writesOf, usesOf}
 use Rattle.model.specs.Rules.{modelFault}
 use Rattle.rules.proofs.RuleLaws.{modelFault-counts, modelFault-segment, segmentFault-uses}
 use Rattle.tables.specs.Conflict.{conflict, mark, marksOf, noMarks}
+use Rattle.tables.specs.Outcome.{ifHeld, conflictMarks}
+use Rattle.tables.proofs.OutcomeLaws.{ifHeld-yes, ifHeld-no, conflict-unfit, conflict-held}
 use Rattle.paths.proofs.ConflictLaws.{T-same}
 use Rattle.conflicts.specs.declared.Masks.{Masks}
 use Rattle.conflicts.specs.Mask.{masks, masksOf, clash, masksFor, rowTo, rowsTo}
-use Rattle.conflicts.proofs.MaskLaws.{masksOf-bits, masksOf-lt, clash-bits, fillTo-length, fillTo-past, fillTo-at}
+use Rattle.conflicts.proofs.MaskLaws.{masksOf-bits, masksOf-lt, clash-bits, fillTo-length, fillTo-past, fillTo-at, rowsTo-none}
 
 -- a row filled by an index, from its elements
 row-of : (xs : List Bool) (f : ℕ → Bool) → length xs ≡ 64 → ((s : ℕ) → s < 64 → getD xs s false ≡ f s) → xs ≡ tabulate 64 0 f
@@ -116,8 +118,33 @@ module _ (m : Model) (fit : modelFault m ≡ 0) (placed : Placed m (m .n)) where
           ∙ (getD-replicate 64 r (replicate 64 false) [] h
           ∙ (row-of (replicate 64 false) (λ s. mark m r s) refl (λ s l. getD-replicate 64 s false false l ∙ sym (mark-past-row r s k′)) ∙ sym (row r h)))
 
--- for the code
-pub rowsTo-made :
-    (m : Model) (fit : modelFault m ≡ 0) (n : ℕ) (ms : List Masks) (out : List (List Bool)) → n ≡ m .n → ms ≡ masksFor m n → Placed m n → out ≡ rowsTo ms n n →
-    out ≡ marksOf m
-rowsTo-made m fit n ms out d e placed f = ((rw d at (rw e at f)) ∙ rowsTo-marksOf m fit (rw d at placed))
+-- for the code: n is N where the model keeps the file rules, else 0
+module _ (m : Model) (n : ℕ) (count : n ≡ ifHeld m (m .n) 0) where
+  held-none : (modelFault m ≡ 0 → ⊥) → n ≡ 0
+  held-none other = count ∙ ifHeld-no m (m .n) 0 other
+
+  held-all : modelFault m ≡ 0 → n ≡ m .n
+  held-all fit = count ∙ ifHeld-yes m (m .n) 0 fit
+
+  pub conflictMarks-made : (ms : List Masks) (out : List (List Bool)) → ms ≡ masksFor m n → Placed m n → out ≡ rowsTo ms n n → out ≡ conflictMarks m
+  conflictMarks-made ms out e placed f = go (ℕ-discrete (modelFault m) 0)
+    where
+      go : Dec (modelFault m ≡ 0) → out ≡ conflictMarks m
+      go (yes fit) =
+          let d = held-all fit in
+          (rw d at (rw e at f)) ∙ (rowsTo-marksOf m fit (rw d at placed) ∙ conflict-held m fit .1)
+      go (no other) = (rw (held-none other) at f) ∙ (sym (rowsTo-none ms 0) ∙ conflict-unfit m other .1)
+
+pub held-below : (m : Model) (n i : ℕ) → n ≡ ifHeld m (m .n) 0 → i < n → (modelFault m ≡ 0) × (n ≡ m .n)
+held-below m n i count l = go (ℕ-discrete (modelFault m) 0)
+  where
+    go : Dec (modelFault m ≡ 0) → (modelFault m ≡ 0) × (n ≡ m .n)
+    go (yes fit) = (fit, held-all m n count fit)
+    go (no other) = let none = held-none m n count other in absurd (omega arith)
+
+pub held-few : (m : Model) (n : ℕ) → n ≡ ifHeld m (m .n) 0 → n ≤ 64
+held-few m n count = go (ℕ-discrete (modelFault m) 0)
+  where
+    go : Dec (modelFault m ≡ 0) → n ≤ 64
+    go (yes fit) = let all = held-all m n count fit in omega (arith, modelFault-counts m fit .segments)
+    go (no other) = let none = held-none m n count other in omega arith

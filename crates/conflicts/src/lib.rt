@@ -8,21 +8,13 @@ ghost use Prim.Native.Nat.{ℕ, _≤_, _<_};
 ghost use lib.Bits.{bitOr};
 ghost use lib.ListN.{length};
 ghost use Rattle.model.specs.Values.{segmentAt};
-ghost use Rattle.model.specs.Rules.{modelFault};
-ghost use Rattle.tables.specs.Conflict.{marksOf};
-ghost use Rattle.tables.specs.Outcome.{conflictNumber, conflictMarks};
+ghost use Rattle.tables.specs.Outcome.{ifHeld, conflictNumber, conflictMarks};
 ghost use Rattle.conflicts.specs.Mask.{masks, bitOf, opMasks, testMask, joinMasks, masksOf, clash, masksFor, rowTo, rowsTo};
 
 // The variables that a segment writes, and those that it writes, reads or tests: variable v is bit v.
 struct Masks {
     writes: u64,
     uses: u64,
-}
-
-fn wide(x: u8) -> usize
-    ensures { λ r. ⌜ r ≡ x ⌝ }
-{
-    x as usize
 }
 
 // Variable x as a bit; none for 255.
@@ -35,17 +27,11 @@ fn bit(x: u32) -> u64
     1 << x
 }
 
-fn bit_of(x: u8) -> u64
-    ensures { λ r. ⌜ r ≡ bitOf x ⌝ }
-{
-    bit(x as u32)
-}
-
 // One variable, written.
 fn one_mask(a: u8) -> Masks
     ensures { λ r. ⌜ r ≡ masks (bitOf a) (bitOf a) ⌝ }
 {
-    let w = bit_of(a);
+    let w = bit(a as u32);
     Masks { writes: w, uses: w }
 }
 
@@ -53,7 +39,7 @@ fn one_mask(a: u8) -> Masks
 fn two_masks(a: u8, b: u32) -> Masks
     ensures { λ r. ⌜ r ≡ masks (bitOf a) (bitOr (bitOf a) (bitOf b)) ⌝ }
 {
-    let w = bit_of(a);
+    let w = bit(a as u32);
     Masks {
         writes: w,
         uses: w | bit(b),
@@ -64,11 +50,8 @@ fn op_masks(op: Op) -> Masks
     ensures { λ r. ⌜ r ≡ opMasks op ⌝ }
 {
     match op {
-        Op::Set(a, _) => one_mask(a),
-        Op::Add(a, _) => one_mask(a),
-        Op::Copy(a, b) => two_masks(a, b),
-        Op::AddVariable(a, b) => two_masks(a, b),
-        Op::SubVariable(a, b) => two_masks(a, b),
+        Op::Set(a, _) | Op::Add(a, _) => one_mask(a),
+        Op::Copy(a, b) | Op::AddVariable(a, b) | Op::SubVariable(a, b) => two_masks(a, b),
         Op::Notify(_) => Masks { writes: 0, uses: 0 },
     }
 }
@@ -79,8 +62,7 @@ fn test_mask(closer: Closer) -> u64
 {
     match closer {
         Closer::End => 0,
-        Closer::Time(_, x) => bit_of(x.test),
-        Closer::Event(_, x) => bit_of(x.test),
+        Closer::Time(_, x) | Closer::Event(_, x) => bit(x.test as u32),
     }
 }
 
@@ -98,7 +80,7 @@ fn masks_of(g: Segment) -> Masks
     ensures value { λ r. ⌜ r ≡ masksOf g ⌝ }
     ensures placed { λ _. ⌜ g .n ≤ length (g .statements) ⌝ }
 {
-    let n = wide(g.n);
+    let n = g.n as usize;
     let mut a = Masks { writes: 0, uses: 0 };
     let mut j = 0;
     while j < n {
@@ -122,7 +104,7 @@ fn clashes(a: Masks, b: Masks) -> bool
 }
 
 fn masks_for(m: Model, n: usize) -> [Masks; 64]
-    requires { ⌜ (modelFault m ≡ 0) × (n ≡ m .n) ⌝ }
+    requires { ⌜ n ≡ ifHeld m (m .n) 0 ⌝ }
     ensures value { λ r. ⌜ r ≡ masksFor m n ⌝ }
     ensures placed { λ _. ⌜ ((i : ℕ) → i < n → segmentAt m i .n ≤ length (segmentAt m i .statements)) ⌝ }
 {
@@ -164,15 +146,6 @@ fn all_marks(all: [Masks; 64], n: usize) -> [[bool; 64]; 64]
     out
 }
 
-// The marks of a model that keeps the file rules.
-fn marks_of(m: Model) -> [[bool; 64]; 64]
-    requires { ⌜ modelFault m ≡ 0 ⌝ }
-    ensures { λ r. ⌜ r ≡ marksOf m ⌝ }
-{
-    let n = wide(m.n);
-    all_marks(masks_for(m, n), n)
-}
-
 // The number beside a held model's marks: 11 if it breaks the file rules.
 pub fn conflict_number(m: Model) -> u8
     ensures { λ r. ⌜ r ≡ conflictNumber m ⌝ }
@@ -183,12 +156,20 @@ pub fn conflict_number(m: Model) -> u8
     0
 }
 
+// How many segments have marks: none where the number is not 0.
+fn marked_segments(m: Model) -> usize
+    ensures { λ r. ⌜ r ≡ ifHeld m (m .n) 0 ⌝ }
+{
+    if rules::model_fault(m) != 0 {
+        return 0;
+    }
+    m.n as usize
+}
+
 // Document 01: "a table of 64 rows of 64 marks, handed on by value". All unset where the number is not 0.
 pub fn conflict_marks(m: Model) -> [[bool; 64]; 64]
     ensures { λ r. ⌜ r ≡ conflictMarks m ⌝ }
 {
-    if rules::model_fault(m) != 0 {
-        return [[false; 64]; 64];
-    }
-    marks_of(m)
+    let n = marked_segments(m);
+    all_marks(masks_for(m, n), n)
 }

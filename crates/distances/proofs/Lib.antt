@@ -1,3 +1,4 @@
 pub mod StoreLaws
 pub mod HeldLaws
 pub mod FilledLaws
+pub mod RefusalLaws

@@ -4,12 +4,15 @@ use clock::Wait;
 use model::Closer;
 use model::Model;
 ghost use mathlib.Core.Path.{_≡_};
+ghost use mathlib.Core.Bool.{cond};
 ghost use Prim.Native.Nat.{_+_, _*_, _≤_, _<_};
+ghost use lib.Dec.{ltb};
 ghost use lib.ListN.{length};
 ghost use Rattle.clock.specs.Advance.{advanceOf};
+ghost use Rattle.model.specs.Refusal.{accepted, unfit, shortTable};
 ghost use Rattle.model.specs.Rules.{modelFault};
 ghost use Rattle.tables.specs.Word.{stored};
-ghost use Rattle.tables.specs.Outcome.{distancesNumber, distancesBuffer};
+ghost use Rattle.tables.specs.Outcome.{ifHeld, distancesNumber, distancesBuffer};
 ghost use Rattle.distances.specs.Store.{heldWord, sumWord, stepsOf, directWord, directTo, directRows, relaxedTo, roundTo, roundsTo, cutTo};
 
 // Document 01: "'never' as all ones".
@@ -23,12 +26,6 @@ struct Steps {
     a: u8,
     b: u8,
     word: u64,
-}
-
-fn wide(x: u8) -> usize
-    ensures { λ r. ⌜ r ≡ x ⌝ }
-{
-    x as usize
 }
 
 // Document 01: "A step over a time wait counts as the clock says".
@@ -75,10 +72,10 @@ fn direct_word(g: Steps, r: usize, s: usize) -> u64
     if r == s {
         return 0;
     }
-    if wide(g.a) == s {
+    if g.a as usize == s {
         return g.word;
     }
-    if wide(g.b) == s {
+    if g.b as usize == s {
         return g.word;
     }
     FAR
@@ -186,28 +183,38 @@ fn direct_rows(m: Model, words: &mut [u64], n: usize)
 }
 
 // All N × N words; those past them are not touched.
-fn fill(m: Model, words: &mut [u64], n: usize)
-    requires { ⌜ (modelFault m ≡ 0) × (n ≡ m .n) × (n * n ≤ length (now words)) ⌝ }
+fn fill(m: Model, words: &mut [u64])
+    requires { ⌜ (modelFault m ≡ 0) × (m .n * m .n ≤ length (now words)) ⌝ }
     ensures { λ _. ⌜ now (words .exit) ≡ stored m (now (words .entry)) ⌝ }
 {
+    let n = m.n as usize;
     direct_rows(m, words, n);
     all_rounds(words, n);
     cut_words(words, n * n);
 }
 
-// The distances of a held model, N × N words: 11 if it breaks the file rules, then 16 for a short buffer.
-// On a refusal no word is written.
-pub fn distances(m: Model, words: &mut [u64]) -> u8
-    ensures number { λ r. ⌜ r ≡ distancesNumber m (now (words .entry)) ⌝ }
-    ensures buffer { λ _. ⌜ now (words .exit) ≡ distancesBuffer m (now (words .entry)) ⌝ }
+// 11 if the model breaks the file rules, then 16 for a buffer of fewer than N × N words.
+fn refusal(m: Model, size: usize) -> u8
+    ensures { λ r. ⌜ r ≡ ifHeld m (cond (ltb size (m .n * m .n)) shortTable accepted) unfit ⌝ }
 {
     if rules::model_fault(m) != 0 {
         return 11;
     }
-    let n = wide(m.n);
-    if words.len() < n * n {
+    let n = m.n as usize;
+    if size < n * n {
         return 16;
     }
-    fill(m, words, n);
     0
+}
+
+// The distances of a held model, N × N words. On a refusal no word is written.
+pub fn distances(m: Model, words: &mut [u64]) -> u8
+    ensures number { λ r. ⌜ r ≡ distancesNumber m (now (words .entry)) ⌝ }
+    ensures buffer { λ _. ⌜ now (words .exit) ≡ distancesBuffer m (now (words .entry)) ⌝ }
+{
+    let number = refusal(m, words.len());
+    if number == 0 {
+        fill(m, words);
+    }
+    number
 }

@@ -4,15 +4,14 @@ ghost use Rattle.reader.specs.File.{readFile};
 ghost use Rattle.loader.specs.Load.{loadOf, loadBuffer};
 ghost use Rattle.sheet.specs.Sheet.{sheetIn, bytesIn};
 ghost use Rattle.report.specs.Report.{printed};
-ghost use Rattle.steps.specs.Step.{keeps, freshNumber, freshKept, requestNumber, requestKept, requestAnswer, replayNumber, replayKept, replayWords, replayAnswers};
+ghost use Rattle.steps.specs.Step.{keeps, Freshens, Requests, Replays};
 
 // The reader's number of a model file, 0 where it is accepted.
 #[no_mangle]
 pub extern "C" fn teaselauger_read(file: &[u8]) -> u8
     ensures { λ r. ⌜ r ≡ readFile (now (file .entry)) .number ⌝ }
 {
-    let read = parser::read_file(file);
-    read.number
+    parser::file_number(file)
 }
 
 // A model file's distance table in a buffer of words, N × N of them: the number, 0 where it is accepted.
@@ -42,8 +41,7 @@ pub extern "C" fn teaselauger_fresh(
     log: &mut [u64],
     records: &mut [u64],
 ) -> u8
-    ensures number { λ r. ⌜ r ≡ freshNumber (now (file .entry)) (keeps (now (variables .entry)) (now (log .entry)) (now (records .entry))) ⌝ }
-    ensures state { λ _. ⌜ keeps (now (variables .exit)) (now (log .exit)) (now (records .exit)) ≡ freshKept (now (file .entry)) (keeps (now (variables .entry)) (now (log .entry)) (now (records .entry))) ⌝ }
+    ensures { λ r. ⌜ Freshens (now (file .entry)) (keeps (now (variables .entry)) (now (log .entry)) (now (records .entry))) r (keeps (now (variables .exit)) (now (log .exit)) (now (records .exit))) ⌝ }
 {
     steps::fresh_into(file, variables, log, records)
 }
@@ -60,9 +58,7 @@ pub extern "C" fn teaselauger_request(
     thread: u8,
     answer: &mut [u64],
 ) -> u8
-    ensures number { λ r. ⌜ r ≡ requestNumber (now (file .entry)) (now (words .entry)) (keeps (now (variables .entry)) (now (log .entry)) (now (records .entry))) thread (now (answer .entry)) ⌝ }
-    ensures state { λ _. ⌜ keeps (now (variables .exit)) (now (log .exit)) (now (records .exit)) ≡ requestKept (now (file .entry)) (now (words .entry)) (keeps (now (variables .entry)) (now (log .entry)) (now (records .entry))) thread (now (answer .entry)) ⌝ }
-    ensures words { λ _. ⌜ now (answer .exit) ≡ requestAnswer (now (file .entry)) (now (words .entry)) (keeps (now (variables .entry)) (now (log .entry)) (now (records .entry))) thread (now (answer .entry)) ⌝ }
+    ensures { λ r. ⌜ Requests (now (file .entry)) (now (words .entry)) (keeps (now (variables .entry)) (now (log .entry)) (now (records .entry))) thread (now (answer .entry)) r (keeps (now (variables .exit)) (now (log .exit)) (now (records .exit))) (now (answer .exit)) ⌝ }
 {
     steps::request_into(file, words, variables, log, records, thread, answer)
 }
@@ -79,10 +75,7 @@ pub extern "C" fn teaselauger_replay(
     log: &mut [u64],
     records: &mut [u64],
 ) -> u8
-    ensures number { λ r. ⌜ r ≡ replayNumber (now (file .entry)) (now (words .entry)) (now (threads .entry)) (now (answers .entry)) (keeps (now (variables .entry)) (now (log .entry)) (now (records .entry))) ⌝ }
-    ensures state { λ _. ⌜ keeps (now (variables .exit)) (now (log .exit)) (now (records .exit)) ≡ replayKept (now (file .entry)) (now (words .entry)) (now (threads .entry)) (now (answers .entry)) (keeps (now (variables .entry)) (now (log .entry)) (now (records .entry))) ⌝ }
-    ensures tables { λ _. ⌜ now (words .exit) ≡ replayWords (now (file .entry)) (now (words .entry)) (now (threads .entry)) (now (answers .entry)) (keeps (now (variables .entry)) (now (log .entry)) (now (records .entry))) ⌝ }
-    ensures written { λ _. ⌜ now (answers .exit) ≡ replayAnswers (now (file .entry)) (now (words .entry)) (now (threads .entry)) (now (answers .entry)) (keeps (now (variables .entry)) (now (log .entry)) (now (records .entry))) ⌝ }
+    ensures { λ r. ⌜ Replays (now (file .entry)) (now (words .entry)) (now (threads .entry)) (now (answers .entry)) (keeps (now (variables .entry)) (now (log .entry)) (now (records .entry))) r (keeps (now (variables .exit)) (now (log .exit)) (now (records .exit))) (now (words .exit)) (now (answers .exit)) ⌝ }
 {
     steps::replay_into(file, words, threads, answers, variables, log, records)
 }

@@ -131,6 +131,7 @@ fn request_of(
 }
 
 // Document 01: "A request answers either the segment run with its cycle, or one refusal number."
+// What document 01 leaves free is as in `scheduler::request`; records of the slice past the threads are neither read nor written.
 pub fn request(
     m: Model,
     marks: [[bool; 64]; 64],

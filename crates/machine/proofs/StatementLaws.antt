@@ -4,12 +4,13 @@
 --     execute-append, notifiedBy-append     two lists of statements
 --     execute-length     the variables keep their number
 --     notifiedBy-length     each statement notifies at most one event
-use Prim.Native.Nat.{ℕ, suc, _≤_, _<_}
-use mathlib.Core.Path.{_≡_, refl, _∙_}
+--     bodyOf-length, bodyOf-at     the statements of a segment
+use Prim.Native.Nat.{ℕ, suc, min, _≤_, _<_}
+use mathlib.Core.Path.{_≡_, refl, sym, _∙_}
 use mathlib.Core.List.{List, [], _∷_, _++_}
 use native.Mathlib.Omega.{arith}
 use lib.ListN.{length, getD, take, length-set, length-take}
-use lib.Seq.{take-suc, take-all}
+use lib.Seq.{take-suc, getD-take}
 use Rattle.model.specs.declared.Op.{Op}
 use Rattle.model.specs.declared.Op.the-variants.{Set, Add, Copy, AddVariable, SubVariable, Notify}
 use Rattle.model.specs.declared.Statement.{Statement}
@@ -82,11 +83,11 @@ notifiedBy-length (x ∷ xs) = omega (arith, notifiedBy-length xs, notifiedByOp-
 pub notifiedBy-first : (xs : List Statement) (j : ℕ) → length (notifiedBy (take j xs)) ≤ j
 notifiedBy-first xs j = omega (arith, notifiedBy-length (take j xs), length-take j xs)
 
--- the body of a segment, once j statements are done: all that it counts, or all that there are
-pub bodyOf-whole : (g : Segment) (j : ℕ) → j ≡ g .n → take j (g .statements) ≡ bodyOf g
+-- the body of a segment: as many statements as it counts, or all that there are
+pub bodyOf-length : (g : Segment) → length (bodyOf g) ≡ min (g .n) (length (g .statements))
 unfolding bodyOf
-bodyOf-whole g j h = rw h refl
+bodyOf-length g = length-take (g .n) (g .statements)
 
-pub bodyOf-past : (g : Segment) (j : ℕ) → length (g .statements) ≤ j → length (g .statements) ≤ g .n → take j (g .statements) ≡ bodyOf g
+pub bodyOf-at : (g : Segment) (j : ℕ) (d : Statement) → j < length (bodyOf g) → getD (g .statements) j d ≡ getD (bodyOf g) j d
 unfolding bodyOf
-bodyOf-past g j h k = rw (take-all j (g .statements) h, take-all (g .n) (g .statements) k) refl
+bodyOf-at g j d h = sym (getD-take (g .n) (g .statements) j d (omega (arith, length-take (g .n) (g .statements))))

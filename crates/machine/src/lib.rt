@@ -1,8 +1,8 @@
 // Document 01, "Model file": what a thread does in a segment; what its state says.
 use clock::Bound;
 use clock::Cycle;
+use clock::Delay;
 use clock::Step;
-use clock::Time;
 use clock::Wait;
 use model::Closer;
 use model::Events;
@@ -14,30 +14,19 @@ use model::State;
 use model::Thread;
 use model::Variables;
 ghost use mathlib.Core.Path.{_≡_};
-ghost use Prim.Native.Nat.{_<_};
-ghost use lib.ListN.{getD, set};
-ghost use Rattle.model.specs.Values.{bodyOf};
+ghost use Prim.Native.Nat.{_<_, _+_, _-_, _%_, _^_};
+ghost use lib.ListN.{length, getD, set};
+ghost use Rattle.clock.specs.Wait.{waitEnds, heldStep};
+ghost use Rattle.model.specs.Values.{noStatement, bodyOf};
 ghost use Rattle.model.specs.Statement.{executeOp, execute, notifiedBy};
 ghost use Rattle.model.specs.Record.{isLive, readyCycle, stateAfter};
 ghost use Rattle.model.specs.Effect.{nextOf, closedAt, effectIn, withOp, heldThread, heldEvents, heldEffect};
-
-fn wide(x: u8) -> usize
-    ensures { λ r. ⌜ r ≡ x ⌝ }
-{
-    x as usize
-}
-
-fn wide_word(x: u32) -> usize
-    ensures { λ r. ⌜ r ≡ x ⌝ }
-{
-    x as usize
-}
 
 // The value of variable a; 0 past the places.
 fn value(v: Variables, a: u32) -> u32
     ensures { λ r. ⌜ r ≡ getD (v .at) a 0 ⌝ }
 {
-    let i = wide_word(a);
+    let i = a as usize;
     if i < 64 {
         return v.at[i];
     }
@@ -48,7 +37,7 @@ fn value(v: Variables, a: u32) -> u32
 fn with_value(v: Variables, a: u8, x: u32) -> Variables
     ensures { λ r. ⌜ r .at ≡ set (v .at) a x ⌝ }
 {
-    let i = wide(a);
+    let i = a as usize;
     let mut w = v;
     if i < 64 {
         w.at[i] = x;
@@ -58,46 +47,59 @@ fn with_value(v: Variables, a: u8, x: u32) -> Variables
 }
 
 // Document 01: "Sums and differences are taken modulo 4,294,967,296".
+fn added(v: Variables, a: u8, x: u32) -> Variables
+    ensures { λ r. ⌜ r .at ≡ set (v .at) a ((getD (v .at) a 0 + x) % 2 ^ 32) ⌝ }
+{
+    with_value(v, a, std::num::wrapping_add_u32(value(v, a as u32), x))
+}
+
+fn subtracted(v: Variables, a: u8, x: u32) -> Variables
+    ensures { λ r. ⌜ r .at ≡ set (v .at) a ((getD (v .at) a 0 + 2 ^ 32 - x) % 2 ^ 32) ⌝ }
+{
+    with_value(v, a, std::num::wrapping_sub_u32(value(v, a as u32), x))
+}
+
 fn execute_op(op: Op, v: Variables) -> Variables
     ensures { λ r. ⌜ r .at ≡ executeOp op (v .at) ⌝ }
 {
     match op {
         Op::Set(a, b) => with_value(v, a, b),
-        Op::Add(a, b) => with_value(v, a, std::num::wrapping_add_u32(value(v, a as u32), b)),
+        Op::Add(a, b) => added(v, a, b),
         Op::Copy(a, b) => with_value(v, a, value(v, b)),
-        Op::AddVariable(a, b) => {
-            with_value(
-                v,
-                a,
-                std::num::wrapping_add_u32(value(v, a as u32), value(v, b)),
-            )
-        }
-        Op::SubVariable(a, b) => {
-            with_value(
-                v,
-                a,
-                std::num::wrapping_sub_u32(value(v, a as u32), value(v, b)),
-            )
-        }
+        Op::AddVariable(a, b) => added(v, a, value(v, b)),
+        Op::SubVariable(a, b) => subtracted(v, a, value(v, b)),
         Op::Notify(_) => v,
     }
+}
+
+// How many statements a segment has; no more than its places.
+fn body_length(g: Segment) -> usize
+    ensures { λ r. ⌜ r ≡ length (bodyOf g) ⌝ }
+{
+    let n = g.n as usize;
+    if n < 32 {
+        return n;
+    }
+    32
+}
+
+fn op_at(g: Segment, j: usize) -> Op
+    requires { ⌜ j < length (bodyOf g) ⌝ }
+    ensures { λ r. ⌜ r ≡ getD (bodyOf g) j noStatement .op ⌝ }
+{
+    let x = g.statements[j];
+    x.op
 }
 
 // The statements of a segment, one after the other.
 fn execute_all(g: Segment, v: Variables) -> Variables
     ensures { λ r. ⌜ r .at ≡ execute (bodyOf g) (v .at) ⌝ }
 {
-    let count = g.n;
-    let n = wide(count);
+    let n = body_length(g);
     let mut w = v;
     let mut j = 0;
     while j < n {
-        if 32 <= j {
-            return w;
-        }
-        let x = g.statements[j];
-        let op = x.op;
-        w = execute_op(op, w);
+        w = execute_op(op_at(g, j), w);
         j += 1;
     }
     w
@@ -112,7 +114,7 @@ fn with_op(es: Events, op: Op) -> Events
         return es;
     };
     let count = es.n;
-    let i = wide(count);
+    let i = count as usize;
     let mut at = es.at;
     at[i] = w;
     Events { n: count + 1, at }
@@ -122,20 +124,14 @@ fn with_op(es: Events, op: Op) -> Events
 fn notified_by(g: Segment) -> Events
     ensures { λ r. ⌜ r ≡ heldEvents (notifiedBy (bodyOf g)) ⌝ }
 {
-    let count = g.n;
-    let n = wide(count);
+    let n = body_length(g);
     let mut es = Events {
         n: 0,
         at: [0u8; 32],
     };
     let mut j = 0;
     while j < n {
-        if 32 <= j {
-            return es;
-        }
-        let x = g.statements[j];
-        let op = x.op;
-        es = with_op(es, op);
+        es = with_op(es, op_at(g, j));
         j += 1;
     }
     es
@@ -154,12 +150,13 @@ fn next_of(x: Next, v: Variables) -> u8
     x.b
 }
 
-fn state_after(at: Step) -> State
-    ensures { λ r. ⌜ r ≡ stateAfter at ⌝ }
+// The state at the end of a time wait begun at c.
+fn waited(k: Delay, c: Cycle) -> State
+    ensures { λ r. ⌜ r ≡ stateAfter (heldStep (waitEnds (Wait.Time k) c)) ⌝ }
 {
-    match at {
-        Step::Ready(c) => State::Ready(c),
-        Step::Overrun(c) => State::Overrun(c),
+    match clock::wait_ends(Wait::Time(k), c) {
+        Step::Ready(d) => State::Ready(d),
+        Step::Overrun(d) => State::Overrun(d),
     }
 }
 
@@ -172,21 +169,14 @@ fn closed_at(s: u8, closer: Closer, c: Cycle, v: Variables) -> Thread
             segment: s,
             state: State::Ended(c),
         },
-        Closer::Time(k, x) => {
-            let next = next_of(x, v);
-            let state = state_after(clock::wait_ends(Wait::Time(k), c));
-            Thread {
-                segment: next,
-                state,
-            }
-        }
-        Closer::Event(e, x) => {
-            let next = next_of(x, v);
-            Thread {
-                segment: next,
-                state: State::Waiting(e, c),
-            }
-        }
+        Closer::Time(k, x) => Thread {
+            segment: next_of(x, v),
+            state: waited(k, c),
+        },
+        Closer::Event(e, x) => Thread {
+            segment: next_of(x, v),
+            state: State::Waiting(e, c),
+        },
     }
 }
 
@@ -210,10 +200,8 @@ pub fn is_live(s: State) -> bool
     ensures { λ r. ⌜ r ≡ isLive s ⌝ }
 {
     match s {
-        State::Ended(_) => false,
-        State::Overrun(_) => false,
-        State::Ready(_) => true,
-        State::Waiting(_, _) => true,
+        State::Ended(_) | State::Overrun(_) => false,
+        State::Ready(_) | State::Waiting(_, _) => true,
     }
 }
 

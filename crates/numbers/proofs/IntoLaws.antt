@@ -31,12 +31,11 @@ records-short x out h k = wordsIn-short (recordWords x) out (omega (arith, recor
 
 -- the count, then each place
 pub log-stored :
-    (s : Site) (out end : List ℕ) (k i : ℕ) → length (s .log) ≡ 128 → 385 ≤ length out → k ≡ s .count → 128 ≤ i →
-    end ≡ sets (set out 0 k) 1 (inTurn pairWords (take i (s .log))) → end ≡ wordsIn (logWords s) out
+    (s : Site) (out end : List ℕ) (k : ℕ) → length (s .log) ≡ 128 → 385 ≤ length out → k ≡ s .count →
+    end ≡ sets (set out 0 k) 1 (inTurn pairWords (s .log)) → end ≡ wordsIn (logWords s) out
 unfolding logWords
-log-stored s out end k i h room p full e =
-    let t : take i (s .log) ≡ s .log = take-all i (s .log) (omega arith) in
-    (rw (t, p) at e) ∙ wordsIn-stored (s .count ∷ inTurn pairWords (s .log)) out (omega (arith, logWords-length s h))
+log-stored s out end k h room p e =
+    (rw p at e) ∙ wordsIn-stored (s .count ∷ inTurn pairWords (s .log)) out (omega (arith, logWords-length s h))
 
 pub records-stored :
     (x : Threads) (out end : List ℕ) (k : ℕ) → length (x .at) ≡ 32 → 160 ≤ length out → 32 ≤ k →

@@ -26,18 +26,6 @@ module _ {A : Type 0} where
   pub sets-more : (xs ys l out : List A) (i n : ℕ) → out ≡ sets l i xs → i + length xs ≡ n → sets out n ys ≡ sets l i (xs ++ ys)
   sets-more xs ys l out i n e h = rw (e, ← h) (sets-append xs ys l i)
 
-  -- three stores, and five
-  pub sets-three : (l : List A) (n : ℕ) (a b c : A) → set (set (set l n a) (n + 1) b) (n + 2) c ≡ sets l n (a ∷ b ∷ c ∷ [])
-  sets-three l n a b c = let e : n + 2 ≡ suc (suc n) = omega arith in rw (e, add-one n) refl
-
-  pub sets-five :
-      (l : List A) (n : ℕ) (a b c d e : A) → set (set (set (set (set l n a) (n + 1) b) (n + 2) c) (n + 3) d) (n + 4) e ≡ sets l n (a ∷ b ∷ c ∷ d ∷ e ∷ [])
-  sets-five l n a b c d e =
-      let h : n + 3 ≡ suc (suc n) + 1 = omega arith in
-      let k : n + 4 ≡ suc (suc n) + 2 = omega arith in
-      let m : n + 2 ≡ suc (suc n) = omega arith in
-      rw (h, k, m, add-one n) (sets-three (set (set l n a) (suc n) b) (suc (suc n)) c d e)
-
   -- one store for each index: f i goes to place i
   pub tabulate-more : (n i : ℕ) (f : ℕ → A) → tabulate (suc n) i f ≡ tabulate n i f ++ (f (i + n) ∷ [])
   unfolding tabulate
@@ -67,10 +55,11 @@ module _ {A : Type 0} where
       (rw p at e) ∙ sets-eq t l 0 (omega arith) ∙ ap (λ (r : List A). t ++ r) z ∙ append-nil t
 
   -- one store for each element of a list
-  pub take-stored : (xs l out : List A) (i : ℕ) (d : A) → i < length xs → out ≡ sets l 0 (take i xs) → set out i (getD xs i d) ≡ sets l 0 (take (i + 1) xs)
-  take-stored xs l out i d h e =
-      let n : 0 + length (take i xs) ≡ i = omega (arith, length-take-le i xs (omega arith)) in
-      rw (add-one, take-suc xs i d h) (sets-more (take i xs) (getD xs i d ∷ []) l out 0 i e n)
+  pub take-stored :
+      (xs l out : List A) (s i : ℕ) (d : A) → i < length xs → out ≡ sets l s (take i xs) → set out (s + i) (getD xs i d) ≡ sets l s (take (i + 1) xs)
+  take-stored xs l out s i d h e =
+      let n : s + length (take i xs) ≡ s + i = omega (arith, length-take-le i xs (omega arith)) in
+      rw (add-one, take-suc xs i d h) (sets-more (take i xs) (getD xs i d ∷ []) l out s (s + i) e n)
 
 module _ {A : Type 0} where
   -- a run of w stores for each element of a list

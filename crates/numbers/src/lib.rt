@@ -2,6 +2,7 @@
 use clock::Cycle;
 use clock::Delta;
 use clock::Time;
+use early::Answer;
 use early::Notification;
 use early::Site;
 use model::State;
@@ -13,7 +14,11 @@ ghost use mathlib.Core.Path.{_≡_};
 ghost use mathlib.Core.List.{[], _∷_};
 ghost use lib.ListN.{length, getD};
 ghost use lib.Seq.{sets};
-ghost use Rattle.numbers.specs.Numbers.{pairWords, threadWords, logWords, recordWords, wordsIn, pairAt, stateFrom, threadFrom, variablesFrom, siteFrom, threadsFrom, isPairHeld, isEventHeld, isRecordHeld, isLogHeld, areRecordsHeld, areHeld};
+ghost use Rattle.base.specs.Index.{tabulate};
+ghost use Rattle.clock.specs.Cycle.{cycleAt};
+ghost use Rattle.model.specs.Record.{cycleOf};
+ghost use Rattle.early.specs.Answer.{valuesOf};
+ghost use Rattle.numbers.specs.Numbers.{pairWords, recordOf, threadWords, inTurn, logWords, recordWords, wordsIn, pairAt, stateFrom, threadFrom, variablesFrom, siteFrom, threadsFrom, isPairHeld, isEventHeld, isRecordHeld, isLogHeld, areRecordsHeld, areHeld};
 
 fn long_byte(x: u8) -> u64
     ensures { λ r. ⌜ r ≡ x ⌝ }
@@ -25,18 +30,6 @@ fn long_word(x: u32) -> u64
     ensures { λ r. ⌜ r ≡ x ⌝ }
 {
     x as u64
-}
-
-fn byte_of(x: u64) -> u8
-    ensures { λ r. ⌜ r ≡ x % 2 ^ 8 ⌝ }
-{
-    (x % 256) as u8
-}
-
-fn delta_of(x: u64) -> u32
-    ensures { λ r. ⌜ r ≡ x % 2 ^ 32 ⌝ }
-{
-    (x % 4294967296) as u32
 }
 
 // A word, 0 past the end.
@@ -58,21 +51,37 @@ fn value_at(values: &[u32], i: usize) -> u32
     0
 }
 
+fn byte_at(words: &[u64], i: usize) -> u8
+    ensures { λ r. ⌜ r ≡ getD (now (words .entry)) i 0 % 2 ^ 8 ⌝ }
+{
+    (word_at(words, i) % 256) as u8
+}
+
+fn delta_at(words: &[u64], i: usize) -> u32
+    ensures { λ r. ⌜ r ≡ getD (now (words .entry)) i 0 % 2 ^ 32 ⌝ }
+{
+    (word_at(words, i) % 4294967296) as u32
+}
+
+// A time and a delta.
+fn cycle_at(words: &[u64], time: usize, delta: usize) -> Cycle
+    ensures { λ r. ⌜ r ≡ cycleAt (getD (now (words .entry)) time 0) (getD (now (words .entry)) delta 0 % 2 ^ 32) ⌝ }
+{
+    Cycle {
+        time: Time(word_at(words, time)),
+        delta: Delta(delta_at(words, delta)),
+    }
+}
+
 // The place numbered i of a log.
 fn pair_at(log: &[u64], i: usize) -> Notification
     requires { ⌜ i < 128 ⌝ }
     ensures { λ r. ⌜ r ≡ pairAt (now (log .entry)) i ⌝ }
 {
     let p = 3 * i;
-    let event = byte_of(word_at(log, p + 1));
-    let time = word_at(log, p + 2);
-    let delta = delta_of(word_at(log, p + 3));
     Notification {
-        event,
-        cycle: Cycle {
-            time: Time(time),
-            delta: Delta(delta),
-        },
+        event: byte_at(log, p + 1),
+        cycle: cycle_at(log, p + 2, p + 3),
     }
 }
 
@@ -98,17 +107,12 @@ fn thread_from(records: &[u64], k: usize) -> Thread
     ensures { λ r. ⌜ r ≡ threadFrom (now (records .entry)) k ⌝ }
 {
     let p = 5 * k;
-    let segment = byte_of(word_at(records, p));
-    let number = word_at(records, p + 1);
-    let event = byte_of(word_at(records, p + 2));
-    let time = word_at(records, p + 3);
-    let delta = delta_of(word_at(records, p + 4));
-    let c = Cycle {
-        time: Time(time),
-        delta: Delta(delta),
-    };
-    let state = state_from(number, event, c);
-    Thread { segment, state }
+    let event = byte_at(records, p + 2);
+    let c = cycle_at(records, p + 3, p + 4);
+    Thread {
+        segment: byte_at(records, p),
+        state: state_from(word_at(records, p + 1), event, c),
+    }
 }
 
 fn variables_from(values: &[u32]) -> Variables
@@ -123,21 +127,25 @@ fn variables_from(values: &[u32]) -> Variables
     Variables { at }
 }
 
-pub fn site_from(variables: &[u32], log: &[u64]) -> Site
-    ensures { λ r. ⌜ r ≡ siteFrom (now (variables .entry)) (now (log .entry)) ⌝ }
+fn places_from(log: &[u64]) -> [Notification; 128]
+    ensures { λ r. ⌜ r ≡ tabulate 128 0 (pairAt (now (log .entry))) ⌝ }
 {
-    let values = variables_from(variables);
-    let count = byte_of(word_at(log, 0));
     let mut places = [pair_at(log, 0); 128];
     let mut i = 0;
     while i < 128 {
         places[i] = pair_at(log, i);
         i += 1;
     }
+    places
+}
+
+pub fn site_from(variables: &[u32], log: &[u64]) -> Site
+    ensures { λ r. ⌜ r ≡ siteFrom (now (variables .entry)) (now (log .entry)) ⌝ }
+{
     Site {
-        variables: values,
-        log: places,
-        count,
+        variables: variables_from(variables),
+        log: places_from(log),
+        count: byte_at(log, 0),
     }
 }
 
@@ -153,38 +161,35 @@ pub fn threads_from(records: &[u64]) -> Threads
     Threads { at }
 }
 
-// Three words from place `at` on.
-fn put_pair(out: &mut [u64], at: usize, x: Notification)
-    requires { ⌜ at + 3 ≤ length (now out) ⌝ }
-    ensures { λ _. ⌜ now (out .exit) ≡ sets (now (out .entry)) at (pairWords x) ⌝ }
+// An event or a segment, and a cycle.
+fn cycle_words(x: u8, c: Cycle) -> [u64; 3]
+    ensures { λ r. ⌜ r ≡ x ∷ c .time .0 ∷ c .delta .0 ∷ [] ⌝ }
 {
-    out[at] = long_byte(x.event);
-    out[at + 1] = x.cycle.time.0;
-    out[at + 2] = long_word(x.cycle.delta.0);
+    [long_byte(x), c.time.0, long_word(c.delta.0)]
 }
 
-// Five words from place `at` on.
-fn put_record(out: &mut [u64], at: usize, segment: u8, number: u64, event: u8, c: Cycle)
-    requires { ⌜ at + 5 ≤ length (now out) ⌝ }
-    ensures { λ _. ⌜ now (out .exit) ≡ sets (now (out .entry)) at (segment ∷ number ∷ event ∷ c .time .0 ∷ c .delta .0 ∷ []) ⌝ }
+fn thread_words(x: Thread) -> [u64; 5]
+    ensures { λ r. ⌜ r ≡ threadWords x ⌝ }
 {
-    out[at] = long_byte(segment);
-    out[at + 1] = number;
-    out[at + 2] = long_byte(event);
-    out[at + 3] = c.time.0;
-    out[at + 4] = long_word(c.delta.0);
-}
-
-fn put_thread(out: &mut [u64], at: usize, x: Thread)
-    requires { ⌜ at + 5 ≤ length (now out) ⌝ }
-    ensures { λ _. ⌜ now (out .exit) ≡ sets (now (out .entry)) at (threadWords x) ⌝ }
-{
+    let first = long_byte(x.segment);
     let s = x.state;
     match s {
-        State::Ended(c) => put_record(out, at, x.segment, 0, 0, c),
-        State::Overrun(c) => put_record(out, at, x.segment, 1, 0, c),
-        State::Ready(c) => put_record(out, at, x.segment, 2, 0, c),
-        State::Waiting(e, c) => put_record(out, at, x.segment, 3, e, c),
+        State::Ended(c) => [first, 0, 0, c.time.0, long_word(c.delta.0)],
+        State::Overrun(c) => [first, 1, 0, c.time.0, long_word(c.delta.0)],
+        State::Ready(c) => [first, 2, 0, c.time.0, long_word(c.delta.0)],
+        State::Waiting(e, c) => [first, 3, long_byte(e), c.time.0, long_word(c.delta.0)],
+    }
+}
+
+// Words from place `at` on.
+fn put_words(out: &mut [u64], at: usize, words: &[u64])
+    requires { ⌜ at + length (now words) ≤ length (now out) ⌝ }
+    ensures { λ _. ⌜ now (out .exit) ≡ sets (now (out .entry)) at (now (words .entry)) ⌝ }
+{
+    let mut i = 0;
+    while i < words.len() {
+        out[at + i] = words[i];
+        i += 1;
     }
 }
 
@@ -201,27 +206,36 @@ fn variables_into(values: Variables, out: &mut [u32])
     }
 }
 
+// The places of a log, after its count.
+fn put_places(places: [Notification; 128], out: &mut [u64])
+    requires { ⌜ (length places ≡ 128) × (385 ≤ length (now out)) ⌝ }
+    ensures { λ _. ⌜ now (out .exit) ≡ sets (now (out .entry)) 1 (inTurn pairWords places) ⌝ }
+{
+    let mut i = 0;
+    while i < 128 {
+        let x = places[i];
+        let words = cycle_words(x.event, x.cycle);
+        put_words(out, 3 * i + 1, &words);
+        i += 1;
+    }
+}
+
 fn log_into(site: Site, out: &mut [u64])
     ensures { λ _. ⌜ now (out .exit) ≡ wordsIn (logWords site) (now (out .entry)) ⌝ }
 {
     if out.len() < 385 {
         return;
     }
+    let places = site.log;
     out[0] = long_byte(site.count);
-    let mut i = 0;
-    while i < 128 {
-        let x = site.log[i];
-        put_pair(out, 3 * i + 1, x);
-        i += 1;
-    }
+    put_places(places, out);
 }
 
 pub fn site_into(site: Site, variables: &mut [u32], log: &mut [u64])
     ensures values { λ _. ⌜ now (variables .exit) ≡ wordsIn (site .variables .at) (now (variables .entry)) ⌝ }
     ensures words { λ _. ⌜ now (log .exit) ≡ wordsIn (logWords site) (now (log .entry)) ⌝ }
 {
-    let values = site.variables;
-    variables_into(values, variables);
+    variables_into(site.variables, variables);
     log_into(site, log);
 }
 
@@ -233,10 +247,21 @@ pub fn threads_into(threads: Threads, records: &mut [u64])
     }
     let mut k = 0;
     while k < 32 {
-        let x = threads.at[k];
-        put_thread(records, 5 * k, x);
+        let words = thread_words(threads.at[k]);
+        put_words(records, 5 * k, &words);
         k += 1;
     }
+}
+
+// Segment, time and delta of a grant.
+pub fn grant_into(s: u8, c: Cycle, answer: &mut [u64])
+    ensures { λ _. ⌜ now (answer .exit) ≡ wordsIn (valuesOf (Answer.Granted s c)) (now (answer .entry)) ⌝ }
+{
+    if answer.len() < 3 {
+        return;
+    }
+    let words = cycle_words(s, c);
+    put_words(answer, 0, &words);
 }
 
 fn is_pair_held(log: &[u64], i: usize) -> bool

@@ -1,6 +1,7 @@
 pub mod PackLaws
 pub mod ExitLaws
 pub mod MarkLaws
+pub mod ReachLaws
 pub mod CodeLaws
 pub mod Computed
 pub mod Edges

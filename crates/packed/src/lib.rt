@@ -11,6 +11,7 @@ ghost use Rattle.model.specs.Values.{noStatement};
 ghost use Rattle.model.specs.Statement.{executeOp};
 ghost use Rattle.packed.specs.Pack.{Held, packEnd, packNext, packChoice, IsCode};
 ghost use Rattle.packed.specs.Unpack.{opOf, markedOp, endBy, sizeBy, executeTo, executeBy, markedTo, markedBy, nextBy, followBy};
+ghost use Rattle.packed.specs.Reach.{lesserOf, greaterOf, widened, reachedOp, reachedBy};
 
 // A statement: its operation, a and b.
 fn packed(code: u64, a: u8, b: u32) -> u64
@@ -105,10 +106,40 @@ fn difference(a: u32, b: u32) -> u32
     std::num::wrapping_sub_u32(a, b)
 }
 
+pub fn lesser(a: usize, b: usize) -> usize
+    ensures { λ r. ⌜ r ≡ lesserOf a b ⌝ }
+{
+    if a < b {
+        return a;
+    }
+    b
+}
+
+pub fn greater(a: usize, b: usize) -> usize
+    ensures { λ r. ⌜ r ≡ greaterOf a b ⌝ }
+{
+    if a < b {
+        return b;
+    }
+    a
+}
+
+// A range of threads is made to hold those from first on and before past too.
+pub fn widen(ranges: &mut [usize; 66], i: usize, first: usize, past: usize)
+    ensures { λ _. ⌜ now (ranges .exit) ≡ widened (i % 33) first past (now (ranges .entry)) ⌝ }
+{
+    let j = i % 33;
+    let a = ranges[j];
+    let b = ranges[33 + j];
+    ranges[j] = lesser(first, a);
+    ranges[33 + j] = greater(past, b);
+}
+
 // One statement.
-fn execute_word(w: u64, v: &mut [u32; 64], told: &mut [bool; 32])
+fn execute_word(w: u64, v: &mut [u32; 64], told: &mut [bool; 32], ranges: &mut [usize; 66])
     ensures value { λ _. ⌜ now (v .exit) ≡ executeOp (opOf w) (now (v .entry)) ⌝ }
     ensures mark { λ _. ⌜ now (told .exit) ≡ markedOp (opOf w) (now (told .entry)) ⌝ }
+    ensures reach { λ _. ⌜ now (ranges .exit) ≡ reachedOp (opOf w) (now (ranges .entry)) ⌝ }
 {
     let code = w % 8;
     let a = ((w / 8) % 64) as usize;
@@ -135,6 +166,9 @@ fn execute_word(w: u64, v: &mut [u32; 64], told: &mut [bool; 32])
     }
     let e = ((w / 8) % 32) as usize;
     told[e] = true;
+    let first = ranges[e];
+    let past = ranges[33 + e];
+    widen(ranges, 32, first, past);
 }
 
 fn wide(x: u8) -> usize
@@ -162,10 +196,17 @@ fn size_of(end: u64) -> usize
     32
 }
 
-// The statements of segment s, and marks for the events that they notify.
-pub fn execute(code: &[u64; 2176], s: u8, v: &mut [u32; 64], told: &mut [bool; 32])
+// The statements of segment s, marks for the events that they notify, and the range of the threads that these reach.
+pub fn execute(
+    code: &[u64; 2176],
+    s: u8,
+    v: &mut [u32; 64],
+    told: &mut [bool; 32],
+    ranges: &mut [usize; 66],
+)
     ensures value { λ _. ⌜ now (v .exit) ≡ executeBy (now (code .entry)) s (now (v .entry)) ⌝ }
     ensures mark { λ _. ⌜ now (told .exit) ≡ markedBy (now (code .entry)) s (now (told .entry)) ⌝ }
+    ensures reach { λ _. ⌜ now (ranges .exit) ≡ reachedBy (now (code .entry)) s (now (ranges .entry)) ⌝ }
 {
     let i = wide(s);
     let base = 34 * (i % 64);
@@ -173,7 +214,7 @@ pub fn execute(code: &[u64; 2176], s: u8, v: &mut [u32; 64], told: &mut [bool; 3
     let mut j = 0;
     while j < n {
         let w = code[base + 2 + j];
-        execute_word(w, v, told);
+        execute_word(w, v, told, ranges);
         j += 1;
     }
 }

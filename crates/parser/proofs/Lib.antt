@@ -1,6 +1,4 @@
-pub mod CloserLaws
-pub mod StatementLaws
 pub mod RecordLaws
-pub mod SegmentLaws
 pub mod BodyLaws
+pub mod TargetLaws
 pub mod FileLaws

@@ -3,20 +3,18 @@
 --     opened-..     what no fault says of the length and the kind
 use Prim.Native.Nat.{ℕ, _≤_, _<_}
 use mathlib.Core.Path.{_∙_, _≡_, refl}
-use mathlib.Core.Bool.{Bool, true, false, cond, _&&_}
+use mathlib.Core.Bool.{true, false}
 use mathlib.Core.List.{List}
 use native.Mathlib.Omega.{arith}
-use lib.Dec.{leb, eqb}
+use lib.Dec.{leb}
 use lib.ListN.{length, take}
 use lib.Seq.{length-take-le}
-use borrow.Author.Tests.{leb-true, eqb-true, le-leb, lt-leb, ne-eqb}
+use borrow.Author.Tests.{eqb-true, le-leb, lt-leb}
 use Rattle.base.specs.Index.{orElse}
-use Rattle.base.proofs.BoolLaws.{true→T, T→true, and→both}
-use Rattle.base.proofs.IndexLaws.{orElse-zero}
-use Rattle.model.specs.Rules.{unless}
 use Rattle.reader.specs.Word.{wordAt}
 use Rattle.reader.specs.Record.{follows, lengthFits, framingFault}
-use Rattle.files.proofs.FrameLaws.{Whole, whole→, framed, head-length, segment-length, thread-length, follows-end}
+use Rattle.files.proofs.FrameLaws.{Whole, whole→, framed, head-length, thread-length, follows-end}
+use Rattle.decoder.specs.Parts.{fits}
 use Rattle.parser.specs.Parts.{isWhole}
 
 module _ (b : List ℕ) where
@@ -73,17 +71,24 @@ module _ {last s k : ℕ} {b : List ℕ} (o : Opened last b s k) where
   pub opened-length : length (take s b) ≡ s
   opened-length = length-take-le s b opened-left
 
-  opened-fits : lengthFits k s ≡ true
-  opened-fits = rw (o .is-size, o .is-kind) (framed last b (o .none) .fits)
+  pub opened-after : follows last k ≡ true
+  opened-after = rw (o .is-kind) (framed last b (o .none) .after)
+
+  pub opened-size : lengthFits k s ≡ true
+  opened-size = rw (o .is-size, o .is-kind) (framed last b (o .none) .fits)
+
+  pub opened-fits : k ≡ 2 → fits (take s b) ≡ true
+  opened-fits e = rw (opened-length, ← e) opened-size
 
   pub opened-head : k ≡ 1 → length (take s b) ≡ 10
-  opened-head e = opened-length ∙ head-length s k opened-fits e
-
-  pub opened-segment : k ≡ 2 → (17 ≤ length (take s b)) × (length (take s b) ≤ 209)
-  opened-segment e = rw opened-length (segment-length s k opened-fits e)
+  opened-head e = opened-length ∙ head-length s k opened-size e
 
   pub opened-thread : k ≡ 3 → length (take s b) ≡ 5
-  opened-thread e = opened-length ∙ thread-length s k opened-fits e
+  opened-thread e = opened-length ∙ thread-length s k opened-size e
+
+  pub opened-last : k ≡ 4 → s ≡ 4
+  unfolding lengthFits
+  opened-last e = eqb-true s 4 (rw e at opened-size)
 
   pub opened-end : (k ≡ 1 → ⊥) → (k ≡ 2 → ⊥) → (k ≡ 3 → ⊥) → k ≡ 4
-  opened-end = follows-end last k (rw (o .is-kind) (framed last b (o .none) .after))
+  opened-end = follows-end last k opened-after

@@ -1,9 +1,7 @@
 // Document 01, "Model file": bytes to a model, or the first number that applies.
-use clock::Delay;
 use clock::Time;
 use model::Closer;
 use model::Model;
-use model::Next;
 use model::Op;
 use model::Segment;
 use model::Start;
@@ -12,39 +10,21 @@ use reader::Read;
 ghost use mathlib.Core.Path.{_≡_};
 ghost use Prim.Native.Nat.{_+_, _≤_, _<_};
 ghost use lib.ListN.{length};
-ghost use Rattle.base.specs.Index.{orElse};
 ghost use Rattle.model.specs.Values.{noSegment, noModel};
 ghost use Rattle.model.specs.Rules.{unless};
 ghost use Rattle.reader.specs.Word.{wordAt, longAt};
-ghost use Rattle.reader.specs.Closer.{nextFrom, closerFrom, restIsZero, closerShapeFault, closerBytesFault};
 ghost use Rattle.reader.specs.Record.{follows, lengthFits, framingFault};
-ghost use Rattle.reader.specs.File.{readEnd, readFile};
-ghost use Rattle.parser.specs.Parts.{decodedFrom, IsBody, IsBuilt, isWhole, segmentLengthFits, countFault, IsRecord, refusedWith};
+ghost use Rattle.reader.specs.File.{readFile};
+ghost use Rattle.decoder.specs.Parts.{mostOf};
+ghost use Rattle.parser.specs.Parts.{isWhole, countFault, recordFault, Room, countsAfter, endFault, refusedWith};
 
-// A statement's operation, or its 6.
-enum Decoded {
-    Refused,
-    Is(Op),
-}
-
-// A segment's statements, or the first fault among them.
-struct Body {
-    fault: u8,
-    statements: [Statement; 32],
-}
-
-// A segment, or its first fault.
-struct Built {
-    fault: u8,
-    segment: Segment,
-}
-
-// A record's first fault of 1 to 7; without one its length and kind, and a segment's segment.
-struct Record {
-    fault: u8,
-    size: usize,
-    kind: u32,
-    segment: Segment,
+// What is counted as a file is judged: variables, events, segments, threads, and the least N that every target is below.
+struct Counts {
+    v: u8,
+    e: u8,
+    n: u8,
+    t: u8,
+    bound: u32,
 }
 
 fn wide(x: u8) -> u32
@@ -86,47 +66,6 @@ fn long_at(s: &[u8], at: usize) -> u32
     word_at(s, at) + word_at(s, at + 2) * 65536
 }
 
-// Document 01: "Bytes 6 and 7 are next segments A and B. Byte 8 is a test variable, or 255 for none. Bytes 9 to 12 are a limit."
-fn next_from(s: &[u8]) -> Next
-    requires { ⌜ 13 ≤ length (now s) ⌝ }
-    ensures { λ r. ⌜ r ≡ nextFrom (now (s .entry)) ⌝ }
-{
-    Next {
-        a: s[6],
-        b: s[7],
-        test: s[8],
-        limit: long_at(s, 9),
-    }
-}
-
-// Document 01: "Byte 0 is 0 end, 1 wait for time, 2 wait for event."
-fn closer_from(s: &[u8]) -> Closer
-    requires { ⌜ 13 ≤ length (now s) ⌝ }
-    ensures { λ r. ⌜ r ≡ closerFrom (now (s .entry)) ⌝ }
-{
-    let kind = s[0];
-    match kind {
-        1 => Closer::Time(Delay(long_at(s, 2)), next_from(s)),
-        2 => Closer::Event(s[1], next_from(s)),
-        0 | 3..=255 => Closer::End,
-    }
-}
-
-// Document 01: "With kind 0 the other twelve bytes are 0".
-fn rest_is_zero(s: &[u8]) -> bool
-    requires { ⌜ 13 ≤ length (now s) ⌝ }
-    ensures { λ r. ⌜ r ≡ restIsZero (now (s .entry)) ⌝ }
-{
-    let mut i = 0;
-    while i < 12 {
-        if s[i + 1] != 0 {
-            return false;
-        }
-        i += 1;
-    }
-    true
-}
-
 fn unless_kept(kept: bool, number: u8) -> u8
     ensures { λ r. ⌜ r ≡ unless kept number ⌝ }
 {
@@ -136,61 +75,6 @@ fn unless_kept(kept: bool, number: u8) -> u8
     number
 }
 
-// The first of two faults.
-fn first_of(a: u8, b: u8) -> u8
-    ensures { λ r. ⌜ r ≡ orElse a b ⌝ }
-{
-    if a != 0 {
-        return a;
-    }
-    b
-}
-
-// 5 where the bytes break a rule that a declared closer cannot.
-fn closer_shape_fault(s: &[u8]) -> u8
-    requires { ⌜ 13 ≤ length (now s) ⌝ }
-    ensures { λ r. ⌜ r ≡ closerShapeFault (now (s .entry)) ⌝ }
-{
-    let kind = s[0];
-    match kind {
-        0 => unless_kept(rest_is_zero(s), 5),
-        1 => unless_kept(s[1] == 0, 5),
-        2 => unless_kept(long_at(s, 2) == 0, 5),
-        3..=255 => 5,
-    }
-}
-
-// Document 01: "An operation byte outside 1 to 6 is refused."
-fn decode(s: &[u8]) -> Decoded
-    requires { ⌜ 6 ≤ length (now s) ⌝ }
-    ensures { λ r. ⌜ r ≡ decodedFrom (now (s .entry)) ⌝ }
-{
-    let op = s[0];
-    let a = s[1];
-    let b = long_at(s, 2);
-    match op {
-        1 => Decoded::Is(Op::Set(a, b)),
-        2 => Decoded::Is(Op::Add(a, b)),
-        3 => Decoded::Is(Op::Copy(a, b)),
-        4 => Decoded::Is(Op::AddVariable(a, b)),
-        5 => Decoded::Is(Op::SubVariable(a, b)),
-        6 => {
-            if b != 0 {
-                return Decoded::Refused;
-            }
-            Decoded::Is(Op::Notify(a))
-        }
-        0 | 7..=255 => Decoded::Refused,
-    }
-}
-
-fn small(x: usize) -> u8
-    requires { ⌜ x < 256 ⌝ }
-    ensures { λ r. ⌜ r ≡ x ⌝ }
-{
-    x as u8
-}
-
 fn no_segment() -> Segment
     ensures { λ r. ⌜ r ≡ noSegment ⌝ }
 {
@@ -198,64 +82,6 @@ fn no_segment() -> Segment
         closer: Closer::End,
         n: 0,
         statements: [Statement { op: Op::Set(0, 0) }; 32],
-    }
-}
-
-// Document 01: "then n statements of 6 bytes"; "6 and 7 of each statement".
-fn statements_from(v: u8, e: u8, r: &[u8]) -> Body
-    requires { ⌜ (17 ≤ length (now r)) × (length (now r) ≤ 209) ⌝ }
-    ensures { λ x. ⌜ IsBody v e (now (r .entry)) x ⌝ }
-{
-    let n = (r.len() - 17) / 6;
-    let mut statements = [Statement { op: Op::Set(0, 0) }; 32];
-    let mut j = 0;
-    while j < n {
-        let at = 17 + 6 * j;
-        let Decoded::Is(op) = decode(&r[at..]) else {
-            return Body {
-                fault: 6,
-                statements,
-            };
-        };
-        let fault = rules::op_fault(v, e, op);
-        if fault != 0 {
-            return Body { fault, statements };
-        }
-        statements[j] = Statement { op };
-        j += 1;
-    }
-    Body {
-        fault: 0,
-        statements,
-    }
-}
-
-// Document 01: "the closer's 5 and 7".
-fn closer_bytes_fault(v: u8, e: u8, s: &[u8], closer: Closer) -> u8
-    requires { ⌜ (13 ≤ length (now s)) × (closer ≡ closerFrom (now s)) ⌝ }
-    ensures { λ r. ⌜ r ≡ closerBytesFault v e (now (s .entry)) ⌝ }
-{
-    let shape = closer_shape_fault(s);
-    let fault = rules::closer_fault(v, e, closer);
-    first_of(shape, fault)
-}
-
-// Document 01: "in a segment: 1 to 4, the closer's 5 and 7, then 6 and 7 of each statement".
-fn segment_from(v: u8, e: u8, r: &[u8]) -> Built
-    requires { ⌜ (17 ≤ length (now r)) × (length (now r) ≤ 209) ⌝ }
-    ensures { λ x. ⌜ IsBuilt v e (now (r .entry)) x ⌝ }
-{
-    let s = &r[4..];
-    let closer = closer_from(s);
-    let body = statements_from(v, e, r);
-    let statements = body.statements;
-    Built {
-        fault: first_of(closer_bytes_fault(v, e, s, closer), body.fault),
-        segment: Segment {
-            closer,
-            n: small((r.len() - 17) / 6),
-            statements,
-        },
     }
 }
 
@@ -286,26 +112,13 @@ fn comes_after(last: u32, kind: u32) -> bool
     }
 }
 
-// Document 01: "segment, length 17 + 6n, n from 0 to 32".
-fn segment_length_fits(size: u32) -> bool
-    ensures { λ r. ⌜ r ≡ segmentLengthFits size ⌝ }
-{
-    if size < 17 {
-        return false;
-    }
-    if 209 < size {
-        return false;
-    }
-    (size - 17) % 6 == 0
-}
-
 // Document 01: "head, length 10"; "thread, length 5"; "end, length 4".
 fn length_fits(kind: u32, size: u32) -> bool
     ensures { λ r. ⌜ r ≡ lengthFits kind size ⌝ }
 {
     match kind {
         1 => size == 10,
-        2 => segment_length_fits(size),
+        2 => decoder::segment_length_fits(size_of(size)),
         3 => size == 5,
         _ => size == 4,
     }
@@ -337,14 +150,14 @@ fn horizon_at(r: &[u8]) -> Time
 }
 
 // Document 01: "H, V or E out of range; 65th segment; 33rd thread".
-fn count_fault(kind: u32, n: u8, t: u8, r: &[u8]) -> u8
+fn count_fault(kind: u32, c: Counts, r: &[u8]) -> u8
     requires { ⌜ (kind ≡ 1 → 10 ≤ length (now r)) ⌝ }
-    ensures { λ x. ⌜ x ≡ countFault kind n t (now (r .entry)) ⌝ }
+    ensures { λ x. ⌜ x ≡ countFault kind c (now (r .entry)) ⌝ }
 {
     match kind {
         1 => rules::head_fault(horizon_at(r), r[8], r[9]),
-        2 => unless_kept(n < 64, 4),
-        3 => unless_kept(t < 32, 4),
+        2 => unless_kept(c.n < 64, 4),
+        3 => unless_kept(c.t < 32, 4),
         _ => 0,
     }
 }
@@ -363,40 +176,109 @@ fn no_model() -> Model
     }
 }
 
-fn without_segment(fault: u8, size: usize, kind: u32) -> Record
-    ensures { λ r. ⌜ (r .fault ≡ fault) × ((r .size ≡ size) × (r .kind ≡ kind)) ⌝ }
-{
-    Record {
-        fault,
-        size,
-        kind,
-        segment: no_segment(),
-    }
-}
-
-// The record that begins the bytes b, after a record of kind last: "1 to 7 .., lower number first".
-fn record_from(last: u32, v: u8, e: u8, n: u8, t: u8, b: &[u8]) -> Record
-    ensures { λ x. ⌜ IsRecord last v e n t (now (b .entry)) x ⌝ }
+// The first of 1 to 7 at a record that begins the bytes b, after a record of kind last: "1 to 7 .., lower number first".
+fn record_fault(last: u32, c: Counts, b: &[u8]) -> u8
+    ensures { λ x. ⌜ x ≡ recordFault last c (now (b .entry)) ⌝ }
 {
     let framing = framing_fault(last, b);
     if framing != 0 {
-        return without_segment(framing, 0, 0);
+        return framing;
     }
     let size = size_of(word_at(b, 0));
     let kind = word_at(b, 2);
     let r = &b[..size];
-    let count = count_fault(kind, n, t, r);
+    let count = count_fault(kind, c, r);
+    if count != 0 {
+        return count;
+    }
     if kind != 2 {
-        return without_segment(count, size, kind);
+        return 0;
     }
-    let x = segment_from(v, e, r);
-    let segment = x.segment;
-    Record {
-        fault: first_of(count, x.fault),
-        size,
-        kind,
-        segment,
+    decoder::segment_fault(c.v, c.e, r)
+}
+
+// The greater of two numbers.
+fn most_of(a: u32, b: u32) -> u32
+    ensures { λ r. ⌜ r ≡ mostOf a b ⌝ }
+{
+    if a < b {
+        return b;
     }
+    a
+}
+
+// What is counted with one record more.
+fn counts_after(kind: u32, c: Counts, r: &[u8]) -> Counts
+    requires { ⌜ Room kind c (length (now r)) ⌝ }
+    ensures { λ x. ⌜ x ≡ countsAfter kind c (now (r .entry)) ⌝ }
+{
+    match kind {
+        1 => Counts {
+            v: r[8],
+            e: r[9],
+            n: c.n,
+            t: c.t,
+            bound: c.bound,
+        },
+        2 => Counts {
+            v: c.v,
+            e: c.e,
+            n: c.n + 1,
+            t: c.t,
+            bound: most_of(c.bound, decoder::target_bound(r)),
+        },
+        3 => Counts {
+            v: c.v,
+            e: c.e,
+            n: c.n,
+            t: c.t + 1,
+            bound: most_of(c.bound, wide(r[4]) + 1),
+        },
+        _ => c,
+    }
+}
+
+// Document 01: "then 9, 8".
+fn end_fault(left: usize, c: Counts) -> u8
+    ensures { λ r. ⌜ r ≡ endFault left c ⌝ }
+{
+    let extra = unless_kept(left == 0, 9);
+    let target = unless_kept(c.bound <= wide(c.n), 8);
+    if extra != 0 {
+        return extra;
+    }
+    target
+}
+
+// Document 01: "Order: 1 to 7 record by record, lower number first .., then 9, 8". The number alone: no model is built.
+pub fn file_number(bytes: &[u8]) -> u8
+    ensures { λ r. ⌜ r ≡ readFile (now (bytes .entry)) .number ⌝ }
+{
+    let mut c = Counts {
+        v: 0,
+        e: 0,
+        n: 0,
+        t: 0,
+        bound: 0,
+    };
+    let mut last = 0;
+    let mut at = 0;
+    while at < bytes.len() {
+        let b = &bytes[at..];
+        let fault = record_fault(last, c, b);
+        if fault != 0 {
+            return fault;
+        }
+        let size = size_of(word_at(b, 0));
+        let kind = word_at(b, 2);
+        if kind == 4 {
+            return end_fault(b.len() - size, c);
+        }
+        c = counts_after(kind, c, &b[..size]);
+        last = kind;
+        at = at + size;
+    }
+    1
 }
 
 // Document 01: "a model or marks returned by value beside the number are zero and unset".
@@ -409,59 +291,57 @@ pub fn refused(number: u8) -> Read
     }
 }
 
-// Document 01: "then 9, 8".
-fn read_end(b: &[u8], m: Model) -> Read
-    ensures { λ r. ⌜ r ≡ readEnd (now (b .entry)) m ⌝ }
+// The model of an accepted file: the head is its first 10 bytes, the end its last 4, and segments and threads stand between.
+fn model_from(bytes: &[u8]) -> Model
+    requires { ⌜ readFile (now bytes) .number ≡ 0 ⌝ }
+    ensures { λ m. ⌜ m ≡ readFile (now (bytes .entry)) .model ⌝ }
 {
-    let extra = unless_kept(b.len() == 0, 9);
-    let target = rules::targets_fault(m);
-    let fault = first_of(extra, target);
-    if fault != 0 {
-        return refused(fault);
+    let head = &bytes[..10];
+    let horizon = horizon_at(head);
+    let v = head[8];
+    let e = head[9];
+    let mut n = 0;
+    let mut t = 0;
+    let mut segments = [no_segment(); 64];
+    let mut starts = [Start { first: 0 }; 32];
+    let mut at = 10;
+    while 4 < bytes.len() - at {
+        let b = &bytes[at..];
+        let size = size_of(word_at(b, 0));
+        let kind = word_at(b, 2);
+        let r = &b[..size];
+        if kind == 2 {
+            let i = place(n);
+            segments[i] = decoder::segment_from(r);
+            n = n + 1;
+        } else {
+            let k = place(t);
+            starts[k] = Start { first: r[4] };
+            t = t + 1;
+        }
+        at = at + size;
     }
-    Read {
-        number: 0,
-        model: m,
+    Model {
+        horizon,
+        v,
+        e,
+        n,
+        t,
+        segments,
+        starts,
     }
 }
 
-// Document 01: "Order: 1 to 7 record by record, lower number first .., then 9, 8".
+// Document 01, "Model file": the number, then the model where it is 0.
 pub fn read_file(bytes: &[u8]) -> Read
     ensures { λ r. ⌜ r ≡ readFile (now (bytes .entry)) ⌝ }
 {
-    let mut m = no_model();
-    let mut last = 0;
-    let mut at = 0;
-    while at < bytes.len() {
-        let b = &bytes[at..];
-        let x = record_from(last, m.v, m.e, m.n, m.t, b);
-        if x.fault != 0 {
-            return refused(x.fault);
-        }
-        let size = x.size;
-        let kind = x.kind;
-        let r = &b[..size];
-        match kind {
-            1 => {
-                m.horizon = horizon_at(r);
-                m.v = r[8];
-                m.e = r[9];
-            }
-            2 => {
-                let i = place(m.n);
-                let g = x.segment;
-                m.segments[i] = g;
-                m.n = m.n + 1;
-            }
-            3 => {
-                let k = place(m.t);
-                m.starts[k] = Start { first: r[4] };
-                m.t = m.t + 1;
-            }
-            _ => return read_end(&b[size..], m),
-        }
-        last = kind;
-        at = at + size;
+    let number = file_number(bytes);
+    if number != 0 {
+        return refused(number);
     }
-    refused(1)
+    Read {
+        number: 0,
+        model: model_from(bytes),
+    }
 }

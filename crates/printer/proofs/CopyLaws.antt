@@ -1,7 +1,7 @@
 -- Laws of `sheetIn` and `bytesIn`: a text copied byte by byte to the front of a buffer.
 -- Assumes nothing.
 use Prim.Native.Nat.{ℕ, suc, _+_, _≤_, _<_}
-use mathlib.Core.Path.{_≡_, refl, _∙_}
+use mathlib.Core.Path.{_≡_, refl, sym, _∙_}
 use mathlib.Core.List.{List, _++_, append-assoc}
 use native.Mathlib.Numerals.{add-one}
 use native.Mathlib.Omega.{arith}
@@ -38,6 +38,13 @@ copied-all text out end i g e p =
 pub bytesIn-within : (text out : List ℕ) → bytesIn text out ≤ length out
 unfolding bytesIn
 bytesIn-within text out = cond-case (λ n. n ≤ length out) (leb (length text) (length out)) (λ h. leb→le (length text) (length out) h) (λ h. omega arith)
+
+-- what is written out of a buffer: so many bytes from its front
+pub counts : (n : ℕ) (end : List ℕ) → n ≤ length end → (n ≤ length end) × (n ≡ length (take n end))
+counts n end h = (h, sym (length-take-le n end h))
+
+pub counts-text : (text out end : List ℕ) (n : ℕ) → n ≡ bytesIn text out → length end ≡ length out → (n ≤ length end) × (n ≡ length (take n end))
+counts-text text out end n e l = counts n end (rw (e, l) (bytesIn-within text out))
 
 -- a text for which there is room is there whole
 pub bytesIn-room : (text out : List ℕ) → length text ≤ length out → bytesIn text out ≡ length text

@@ -1,25 +1,25 @@
 // Document 01, "Cases": the sheet of a plain run, as bytes in a lent buffer.
 use clock::Cycle;
 use model::State;
-use model::Thread;
 use model::Threads;
 use model::Variables;
 use plain::PlainRun;
 ghost use Prim.Native.Nat.{_+_, _<_, _≤_, min};
 ghost use mathlib.Core.Path.{_≡_};
-ghost use mathlib.Core.List.{[], _∷_};
+ghost use mathlib.Core.List.{[], _∷_, _++_};
 ghost use lib.ListN.{length};
 ghost use Rattle.sheet.specs.Digits.{digitsOf};
-ghost use Rattle.sheet.specs.Sheet.{restOf, cycleWords, stateWords, vLine, tLine, nLine, spentLine, refusedLine, vLines, tLines, runSheet, sheetOf, sheetIn, bytesIn, longestSheet};
+ghost use Rattle.sheet.specs.Sheet.{restOf, cycleWords, stateWords, nLine, spentLine, refusedLine, vLines, tLines, sheetOf, sheetIn, bytesIn, longestSheet};
 ghost use Rattle.printer.specs.Put.{Puts};
 
-fn wide(x: u8) -> usize
+// Numbers in wider words, and the lesser of two.
+pub fn wide(x: u8) -> usize
     ensures { λ r. ⌜ r ≡ x ⌝ }
 {
     x as usize
 }
 
-fn long_byte(x: u8) -> u64
+pub fn long_byte(x: u8) -> u64
     ensures { λ r. ⌜ r ≡ x ⌝ }
 {
     x as u64
@@ -31,7 +31,7 @@ fn long_word(x: u32) -> u64
     x as u64
 }
 
-fn least(a: usize, b: usize) -> usize
+pub fn least(a: usize, b: usize) -> usize
     ensures { λ r. ⌜ r ≡ min a b ⌝ }
 {
     if a < b { a } else { b }
@@ -87,15 +87,20 @@ pub fn put_number(out: &mut [u8], at: usize, n: u64) -> usize
     put_digits(out, a, n)
 }
 
+// A line's last word, a number, and the line feed.
+pub fn put_last(out: &mut [u8], at: usize, n: u64) -> usize
+    ensures { λ r. ⌜ Puts (now (out .entry)) at (now (out .exit)) r (restOf (digitsOf n ∷ [])) × (r ≤ at + 22) ⌝ }
+{
+    let a = put_number(out, at, n);
+    put_byte(out, a, b'\n')
+}
+
 // A cycle, to the end of its line.
 pub fn put_cycle(out: &mut [u8], at: usize, c: Cycle) -> usize
     ensures { λ r. ⌜ Puts (now (out .entry)) at (now (out .exit)) r (restOf (cycleWords c)) × (r ≤ at + 43) ⌝ }
 {
-    let time = c.time.0;
-    let delta = long_word(c.delta.0);
-    let a = put_number(out, at, time);
-    let b = put_number(out, a, delta);
-    put_byte(out, b, b'\n')
+    let a = put_number(out, at, c.time.0);
+    put_last(out, a, long_word(c.delta.0))
 }
 
 // A state, to the end of its line. Document 01: "for wait: event, cycle begun".
@@ -123,29 +128,7 @@ fn put_state(out: &mut [u8], at: usize, s: State) -> usize
     }
 }
 
-// Document 01: "v: variable, value".
-fn put_v_line(out: &mut [u8], at: usize, i: u64, x: u64) -> usize
-    ensures { λ r. ⌜ Puts (now (out .entry)) at (now (out .exit)) r (vLine i x) × (r ≤ at + 44) ⌝ }
-{
-    let a = put_byte(out, at, b'v');
-    let b = put_number(out, a, i);
-    let c = put_number(out, b, x);
-    put_byte(out, c, b'\n')
-}
-
-// Document 01: "t: thread, segment, state, then the cycle".
-fn put_t_line(out: &mut [u8], at: usize, k: u64, x: Thread) -> usize
-    ensures { λ r. ⌜ Puts (now (out .entry)) at (now (out .exit)) r (tLine k x) × (r ≤ at + 112) ⌝ }
-{
-    let segment = long_byte(x.segment);
-    let s = x.state;
-    let a = put_byte(out, at, b't');
-    let b = put_number(out, a, k);
-    let c = put_number(out, b, segment);
-    put_state(out, c, s)
-}
-
-// The lines of the variables, lowest number first.
+// Document 01: "v: variable, value". Lowest number first.
 pub fn put_v_lines(out: &mut [u8], at: usize, v: u8, xs: Variables) -> usize
     ensures { λ r. ⌜ Puts (now (out .entry)) at (now (out .exit)) r (vLines (min v 64) (xs .at)) × (r ≤ at + 2816) ⌝ }
 {
@@ -154,13 +137,15 @@ pub fn put_v_lines(out: &mut [u8], at: usize, v: u8, xs: Variables) -> usize
     let mut i = 0;
     while i < n {
         let x = xs.at[i];
-        to = put_v_line(out, to, i as u64, long_word(x));
+        let a = put_byte(out, to, b'v');
+        let b = put_number(out, a, i as u64);
+        to = put_last(out, b, long_word(x));
         i += 1;
     }
     to
 }
 
-// The lines of the threads, lowest number first.
+// Document 01: "t: thread, segment, state, then the cycle". Lowest number first.
 pub fn put_t_lines(out: &mut [u8], at: usize, t: u8, xs: Threads) -> usize
     ensures { λ r. ⌜ Puts (now (out .entry)) at (now (out .exit)) r (tLines (min t 32) (xs .at)) × (r ≤ at + 3584) ⌝ }
 {
@@ -169,59 +154,26 @@ pub fn put_t_lines(out: &mut [u8], at: usize, t: u8, xs: Threads) -> usize
     let mut k = 0;
     while k < n {
         let x = xs.at[k];
-        to = put_t_line(out, to, k as u64, x);
+        let s = x.state;
+        let a = put_byte(out, to, b't');
+        let b = put_number(out, a, k as u64);
+        let c = put_number(out, b, long_byte(x.segment));
+        to = put_state(out, c, s);
         k += 1;
     }
     to
 }
 
-// Document 01: "n: segments run".
-fn put_n_line(out: &mut [u8], at: usize, n: u64) -> usize
-    ensures { λ r. ⌜ Puts (now (out .entry)) at (now (out .exit)) r (nLine n) × (r ≤ at + 23) ⌝ }
+// Document 01: "n: segments run"; "a spent run has `spent` as a further last line".
+fn put_end(out: &mut [u8], at: usize, n: u64, spent: bool) -> usize
+    ensures { λ r. ⌜ Puts (now (out .entry)) at (now (out .exit)) r (nLine n ++ spentLine spent) × (r ≤ at + 29) ⌝ }
 {
     let a = put_byte(out, at, b'n');
-    let b = put_number(out, a, n);
-    put_byte(out, b, b'\n')
-}
-
-// Document 01: "a spent run has `spent` as a further last line".
-fn put_spent(out: &mut [u8], at: usize, spent: bool) -> usize
-    requires { ⌜ at ≤ length (now out) ⌝ }
-    ensures { λ r. ⌜ Puts (now (out .entry)) at (now (out .exit)) r (spentLine spent) × (r ≤ at + 6) ⌝ }
-{
+    let b = put_last(out, a, n);
     if spent {
-        return put_word(out, at, b"spent\n");
+        return put_word(out, b, b"spent\n");
     }
-    at
-}
-
-// Document 01: "A refused file prints only `refused` and its number".
-fn put_refused(out: &mut [u8], at: usize, number: u8) -> usize
-    ensures { λ r. ⌜ Puts (now (out .entry)) at (now (out .exit)) r (refusedLine number) × (r ≤ at + 29) ⌝ }
-{
-    let a = put_word(out, at, b"refused");
-    let b = put_number(out, a, long_byte(number));
-    put_byte(out, b, b'\n')
-}
-
-fn put_run(out: &mut [u8], v: u8, t: u8, run: PlainRun) -> usize
-    ensures { λ r. ⌜ Puts (now (out .entry)) 0 (now (out .exit)) r (runSheet v t run) × (r ≤ 6429) ⌝ }
-{
-    let xs = run.variables;
-    let ts = run.threads;
-    let a = put_v_lines(out, 0, v, xs);
-    let b = put_t_lines(out, a, t, ts);
-    let c = put_n_line(out, b, run.n);
-    put_spent(out, c, run.spent)
-}
-
-fn put_sheet(out: &mut [u8], v: u8, t: u8, run: PlainRun) -> usize
-    ensures { λ r. ⌜ Puts (now (out .entry)) 0 (now (out .exit)) r (sheetOf v t run) × (r ≤ 6429) ⌝ }
-{
-    if run.number == 0 {
-        return put_run(out, v, t, run);
-    }
-    put_refused(out, 0, run.number)
+    b
 }
 
 // A text at the front of out, if there is room for all of it; its length in bytes. Else 0, and nothing is written.
@@ -239,23 +191,29 @@ pub fn copy_in(text: &[u8], out: &mut [u8]) -> usize
     i
 }
 
-// The sheet of a plain run of a model with v variables and t threads, at the front of out; its length in bytes.
-// Where out is too short for it: 0, and nothing is written. No sheet is longer than 6,429 bytes.
-pub fn sheet(v: u8, t: u8, run: PlainRun, out: &mut [u8]) -> usize
-    ensures { λ r. ⌜ (r ≡ bytesIn (sheetOf v t run) (now (out .entry))) × (now (out .exit) ≡ sheetIn (sheetOf v t run) (now (out .entry))) ⌝ }
-    ensures { λ _. ⌜ length (sheetOf v t run) ≤ longestSheet ⌝ }
-{
-    let mut text = [0u8; 8192];
-    let n = put_sheet(&mut text, v, t, run);
-    copy_in(&text[..n], out)
-}
-
-// The sheet of a file that the reader refuses, in the same way.
+// Document 01: "A refused file prints only `refused` and its number". The line at the front of out; its length in bytes.
+// Where out is too short for it: 0, and nothing is written.
 pub fn refusal(number: u8, out: &mut [u8]) -> usize
     ensures { λ r. ⌜ (r ≡ bytesIn (refusedLine number) (now (out .entry))) × (now (out .exit) ≡ sheetIn (refusedLine number) (now (out .entry))) ⌝ }
     ensures { λ _. ⌜ length (refusedLine number) ≤ longestSheet ⌝ }
 {
+    let mut text = [0u8; 32];
+    let a = put_word(&mut text, 0, b"refused");
+    let n = put_last(&mut text, a, long_byte(number));
+    copy_in(&text[..n], out)
+}
+
+// The sheet of a plain run of a model with v variables and t threads, in the same way. No sheet is longer than 6,429 bytes.
+pub fn sheet(v: u8, t: u8, run: PlainRun, out: &mut [u8]) -> usize
+    ensures { λ r. ⌜ (r ≡ bytesIn (sheetOf v t run) (now (out .entry))) × (now (out .exit) ≡ sheetIn (sheetOf v t run) (now (out .entry))) ⌝ }
+    ensures { λ _. ⌜ length (sheetOf v t run) ≤ longestSheet ⌝ }
+{
+    if run.number != 0 {
+        return refusal(run.number, out);
+    }
     let mut text = [0u8; 8192];
-    let n = put_refused(&mut text, 0, number);
+    let a = put_v_lines(&mut text, 0, v, run.variables);
+    let b = put_t_lines(&mut text, a, t, run.threads);
+    let n = put_end(&mut text, b, run.n, run.spent);
     copy_in(&text[..n], out)
 }

@@ -1,26 +1,28 @@
 -- The exits of the functions that look for a first fault, and of those that look for a target that leaves the model.
---     unless-kept, unless-broken     a rule's number
+--     unless-kept, unless-broken, unless-both, unless-both-then, unless-either     a rule's number; that of two rules together
 --     fault-here, fault-later     the first of two faults
 --     segmentAt-read, startAt-read     what the code reads is what the definitions name; segmentAt-past, startAt-past
---     statementsFault-.., segmentsFault-..     the loops over statements and segments
---     leaves-first, leaves-second, targets-..     one closer; the two searches together
---     anySegmentLeaves-.., anyStartLeaves-..     the loops over segments and threads
-use Prim.Native.Nat.{ℕ, _<_, _≤_}
+--     statementsFault-here, statementsFault-none     the loop over statements
+--     faultAt-read, placesUsed-few, placesUsed-many, first-rest, segmentsFault-asked, targetsFault-asked     what is asked of a segment
+--     both-below, not-both-below, anyStartLeaves-here, anyStartLeaves-end     the loop over threads
+use Prim.Native.Nat.{ℕ, zero, suc, _<_, _≤_}
 use mathlib.Core.Path.{_≡_, refl, sym, _∙_}
-use mathlib.Core.Bool.{Bool, true, false, not, _&&_, _||_}
+use mathlib.Core.Bool.{Bool, true, false, cond, not, _&&_, _||_}
 use native.Mathlib.Omega.{arith}
-use native.Mathlib.Decide.{decLt, ℕ-discrete}
-use lib.Dec.{ltb, leb, eqb}
+use native.Mathlib.Decide.{decLt, decLe}
+use lib.Dec.{ltb, leb, ltb→lt}
 use lib.ListN.{length, getD, List·getD-eq-default}
-use borrow.Author.Tests.{leb-true, leb-false, lt-ltb, le-ltb, le-leb, eq-eqb, ne-eqb}
-use Rattle.base.specs.Index.{orElse, firstBelow}
-use Rattle.base.proofs.IndexLaws.{orElse-none, orElse-some}
+use borrow.Author.Tests.{lt-ltb, le-ltb, le-leb, lt-leb, ltb-false}
+use Rattle.base.specs.Index.{anyBelow, orElse, firstBelow}
+use Rattle.base.proofs.BoolLaws.{true→T, and→both}
+use Rattle.base.proofs.IndexLaws.{orElse-none, orElse-some, firstBelow-zero, firstBelow-all}
 use Rattle.base.proofs.ListLaws.{getD-any}
 use Rattle.model.specs.declared.Segment.{Segment}
 use Rattle.model.specs.declared.Start.{Start}
 use Rattle.model.specs.declared.Model.{Model}
 use Rattle.model.specs.Values.{noStatement, noSegment, noStart, segmentAt, startAt}
-use Rattle.model.specs.Rules.{unless, opFault, statementsFault, segmentFault, segmentsFault, leavesModel, anySegmentLeaves, anyStartLeaves}
+use Rattle.model.specs.Rules.{unless, opFault, statementsFault, segmentFault, segmentsFault, leavesModel, anySegmentLeaves, anyStartLeaves, targetsFault}
+use Rattle.rules.specs.Asked.{faultOf, placesUsed, faultAt}
 use Rattle.rules.proofs.SearchLaws.{anyBelow-empty, anyBelow-here, firstBelow-here}
 
 pub unless-kept : (t : Bool) (x : ℕ) → t ≡ true → unless t x ≡ 0
@@ -28,6 +30,20 @@ unless-kept t x e = rw e refl
 
 pub unless-broken : (t : Bool) (x : ℕ) → t ≡ false → x ≡ unless t x
 unless-broken t x e = rw e refl
+
+-- two rules of one number
+pub unless-both : (a b : Bool) (x : ℕ) → (x ≡ 0 → ⊥) → orElse (unless a x) (unless b x) ≡ unless (a && b) x
+unless-both true b x n = orElse-none 0 (unless b x) refl
+unless-both false b x n = orElse-some x (unless b x) n
+
+-- and a third after them
+pub unless-both-then : (a b : Bool) (x y : ℕ) → (x ≡ 0 → ⊥) → orElse (unless (a && b) x) y ≡ orElse (unless a x) (orElse (unless b x) y)
+unless-both-then true b x y n = sym (orElse-none 0 (orElse (unless b x) y) refl)
+unless-both-then false b x y n = orElse-some x y n ∙ sym (orElse-some x (orElse (unless b x) y) n)
+
+pub unless-either : (a b : Bool) (x : ℕ) → (x ≡ 0 → ⊥) → orElse (unless (not a) x) (unless (not b) x) ≡ unless (not (a || b)) x
+unless-either true b x n = orElse-some x (unless (not b) x) n
+unless-either false b x n = orElse-none 0 (unless (not b) x) refl
 
 pub fault-here : (a b x : ℕ) → x ≡ a → (x ≡ 0 → ⊥) → x ≡ orElse a b
 fault-here a b x e n = e ∙ sym (orElse-some a b (λ z. n (e ∙ z)))
@@ -65,64 +81,86 @@ module _ (v e : ℕ) (g : Segment) where
   unfolding statementsFault statementFault
   statementsFault-none j h none = rw h at (sym none)
 
--- the fault of segment i of m
-unfoldable pub segmentFaultAt : Model → ℕ → ℕ
-segmentFaultAt m i = orElse (unless (ltb i 64) 4) (segmentFault (m .v) (m .e) (segmentAt m i))
+-- what is asked of segment i of m
+module _ (m : Model) (i : ℕ) where
+  faultAt-past : (t : Bool) → length (m .segments) ≡ 64 → 64 ≤ i → unless t 4 ≡ faultAt m t i
+  unfolding faultAt faultOf leavesModel
+  faultAt-past false size h = fault-here _ _ 4 (unless-broken (ltb i 64) 4 (le-ltb i 64 h)) (λ z. omega arith)
+  faultAt-past true size h = rw (segmentAt-past m i (omega arith)) refl
 
-module _ (m : Model) where
   -- the code reads the segment with a default of its own
-  pub segmentFaultAt-below : (i x : ℕ) (d : Segment) → i < 64 → i < length (m .segments) → x ≡ segmentFault (m .v) (m .e) (getD (m .segments) i d) → x ≡ segmentFaultAt m i
-  unfolding segmentFaultAt
-  segmentFaultAt-below i x d h l e = fault-later _ _ x (unless-kept (ltb i 64) 4 (lt-ltb i 64 h)) (rw (segmentAt-read m i d l) at e)
+  pub faultAt-read : (x : ℕ) (t : Bool) (d : Segment) → i < 64 → length (m .segments) ≡ 64 → x ≡ faultOf (m .n) (m .v) (m .e) t (getD (m .segments) i d) → x ≡ faultAt m t i
+  unfolding faultAt
+  faultAt-read x false d h l e = fault-later _ _ x (unless-kept (ltb i 64) 4 (lt-ltb i 64 h)) (rw (segmentAt-read m i d (omega arith)) at e)
+  faultAt-read x true d h l e = rw (segmentAt-read m i d (omega arith)) at e
 
-  pub segmentFaultAt-past : (i : ℕ) → 64 ≤ i → 4 ≡ segmentFaultAt m i
-  unfolding segmentFaultAt
-  segmentFaultAt-past i h = fault-here _ _ 4 (unless-broken (ltb i 64) 4 (le-ltb i 64 h)) (λ z. omega arith)
-
-  pub segmentsFault-here : (i x : ℕ) → i < m .n → firstBelow i (segmentFaultAt m) ≡ 0 → x ≡ segmentFaultAt m i → (x ≡ 0 → ⊥) → x ≡ segmentsFault m
-  unfolding segmentsFault segmentFaultAt
-  segmentsFault-here i x l none here n = here ∙ sym (firstBelow-here i (m .n) (segmentFaultAt m) l none (λ z. n (here ∙ z)))
-
-  pub segmentsFault-none : (i : ℕ) → i ≡ m .n → firstBelow i (segmentFaultAt m) ≡ 0 → 0 ≡ segmentsFault m
-  unfolding segmentsFault segmentFaultAt
-  segmentsFault-none i h none = rw h at (sym none)
-
-leb-ltb : (a b : ℕ) → leb a b ≡ not (ltb b a)
-leb-ltb a b = go (leb a b) refl
+pub placesUsed-few : (n : ℕ) → n ≤ 64 → placesUsed n ≡ n
+unfolding placesUsed
+placesUsed-few n h = go (decLt n 64)
   where
-    go : (t : Bool) → leb a b ≡ t → leb a b ≡ not (ltb b a)
-    go true e = e ∙ sym (rw (le-ltb b a (leb-true a b e)) refl)
-    go false e = e ∙ sym (rw (lt-ltb b a (leb-false a b e)) refl)
+    go : Dec (n < 64) → cond (ltb n 64) n 64 ≡ n
+    go (yes l) = rw (lt-ltb n 64 l) refl
+    go (no l) = rw (le-ltb n 64 (omega arith)) (omega arith)
 
--- a is not below n, or only b is looked at
-pub leaves-first : (n a b : ℕ) → n ≤ a → leb n a ≡ not (ltb a n && ltb b n)
-leaves-first n a b h = rw (le-leb n a h, le-ltb a n h) refl
+pub placesUsed-many : (n : ℕ) → 64 ≤ n → placesUsed n ≡ 64
+unfolding placesUsed
+placesUsed-many n h = rw (le-ltb n 64 h) refl
 
-pub leaves-second : (n a b : ℕ) → a < n → leb n b ≡ not (ltb a n && ltb b n)
-leaves-second n a b h = rw (lt-ltb a n h) (leb-ltb n b)
+pub placesUsed-within : (n : ℕ) → (placesUsed n ≤ n) × (placesUsed n ≤ 64)
+placesUsed-within n = go (decLe n 64)
+  where
+    go : Dec (n ≤ 64) → (placesUsed n ≤ n) × (placesUsed n ≤ 64)
+    go (yes h) = rw (placesUsed-few n h) (omega arith, h)
+    go (no h) = rw (placesUsed-many n (omega arith)) (omega arith, omega arith)
 
--- 8 where either search finds one
-pub targets-first : (s t : Bool) → s ≡ true → 8 ≡ unless (not (s || t)) 8
-targets-first s t e = rw e refl
+-- what is left once the places in use have no fault
+module _ (m : Model) (size : length (m .segments) ≡ 64) where
+  many : (t : Bool) → 64 < m .n → firstBelow 64 (faultAt m t) ≡ 0 → unless t 4 ≡ firstBelow (m .n) (faultAt m t)
+  many true h none = sym (firstBelow-all (m .n) (faultAt m true) (λ i l. go i (decLt i 64)))
+    where
+      go : (i : ℕ) → Dec (i < 64) → faultAt m true i ≡ 0
+      go i (yes l) = firstBelow-zero 64 (faultAt m true) none i l
+      go i (no l) = sym (faultAt-past m i true size (omega arith))
+  many false h none =
+      let here = faultAt-past m 64 false size (omega arith) in
+      here ∙ sym (firstBelow-here 64 (m .n) (faultAt m false) h none (λ z. let e : 4 ≡ 0 = here ∙ z in omega arith))
 
-pub targets-second : (s t : Bool) → s ≡ false → t ≡ true → 8 ≡ unless (not (s || t)) 8
-targets-second s t e f = rw (e, f) refl
+  pub first-rest : (t : Bool) → firstBelow (placesUsed (m .n)) (faultAt m t) ≡ 0 → unless (t || leb (m .n) 64) 4 ≡ firstBelow (m .n) (faultAt m t)
+  first-rest t none = go t (decLe (m .n) 64) none
+    where
+      go : (t : Bool) → Dec (m .n ≤ 64) → firstBelow (placesUsed (m .n)) (faultAt m t) ≡ 0 → unless (t || leb (m .n) 64) 4 ≡ firstBelow (m .n) (faultAt m t)
+      go true (yes l) e = rw (placesUsed-few (m .n) l) at (sym e)
+      go true (no l) e = many true (omega arith) (rw (placesUsed-many (m .n) (omega arith)) at e)
+      go false (yes l) e = rw (le-leb (m .n) 64 l) (rw (placesUsed-few (m .n) l) at (sym e))
+      go false (no l) e = rw (lt-leb (m .n) 64 (omega arith)) (many false (omega arith) (rw (placesUsed-many (m .n) (omega arith)) at e))
 
-pub targets-none : (s t : Bool) → s ≡ false → t ≡ false → 0 ≡ unless (not (s || t)) 8
-targets-none s t e f = rw (e, f) refl
+pub segmentsFault-asked : (m : Model) → firstBelow (m .n) (faultAt m false) ≡ segmentsFault m
+unfolding segmentsFault faultAt faultOf
+segmentsFault-asked m = refl
 
--- whether segment i of m, or thread k of m, names a segment not below N
-unfoldable pub segmentLeaves : Model → ℕ → Bool
-segmentLeaves m i = leavesModel (m .n) (segmentAt m i .closer)
+firstBelow-any : (n : ℕ) (f : ℕ → Bool) (x : ℕ) → (x ≡ 0 → ⊥) → firstBelow n (λ i. unless (not (f i)) x) ≡ unless (not (anyBelow n f)) x
+unfolding firstBelow anyBelow
+firstBelow-any zero f x h = refl
+firstBelow-any (suc n) f x h = rw (firstBelow-any n f x h) (unless-either (anyBelow n f) (f n) x h)
 
+pub targetsFault-asked : (m : Model) → orElse (firstBelow (m .n) (faultAt m true)) (unless (not (anyStartLeaves m)) 8) ≡ targetsFault m
+unfolding targetsFault anySegmentLeaves faultAt faultOf
+targetsFault-asked m =
+    rw (firstBelow-any (m .n) (λ i. leavesModel (m .n) (segmentAt m i .closer)) 8 (λ z. omega arith))
+    (unless-either (anyBelow (m .n) (λ i. leavesModel (m .n) (segmentAt m i .closer))) (anyStartLeaves m) 8 (λ z. omega arith))
+
+-- an index below two counts, or not
+pub both-below : (k a b : ℕ) → (ltb k a && ltb k b) ≡ true → (k < a) × (k < b)
+both-below k a b h = let (p, q) = and→both (ltb k a) (ltb k b) (true→T _ h) in (ltb→lt k a p, ltb→lt k b q)
+
+pub not-both-below : (k a b : ℕ) → (ltb k a && ltb k b) ≡ false → k < a → b ≤ k
+not-both-below k a b h l = ltb-false k b (rw (lt-ltb k a l) at h)
+
+-- whether thread k of m starts at a segment not below N
 unfoldable pub startLeaves : Model → ℕ → Bool
 startLeaves m k = not (ltb (startAt m k .first) (m .n))
 
 module _ (m : Model) where
-  pub segmentLeaves-read : (i : ℕ) (d : Segment) (t : Bool) → i < length (m .segments) → leavesModel (m .n) (getD (m .segments) i d .closer) ≡ t → segmentLeaves m i ≡ t
-  unfolding segmentLeaves
-  segmentLeaves-read i d t l e = rw (segmentAt-read m i d l) at e
-
   pub startLeaves-above : (k : ℕ) (d : Start) → k < length (m .starts) → m .n ≤ getD (m .starts) k d .first → startLeaves m k ≡ true
   unfolding startLeaves
   startLeaves-above k d l h = rw (← startAt-read m k d l, le-ltb _ _ h) refl
@@ -131,49 +169,32 @@ module _ (m : Model) where
   unfolding startLeaves
   startLeaves-below k d l h = rw (← startAt-read m k d l, lt-ltb _ _ h) refl
 
-  pub anySegmentLeaves-here : (i : ℕ) → i < m .n → segmentLeaves m i ≡ true → true ≡ anySegmentLeaves m
-  unfolding anySegmentLeaves segmentLeaves
-  anySegmentLeaves-here i l e = sym (anyBelow-here (m .n) (segmentLeaves m) i l e)
-
-  pub anySegmentLeaves-none : ((i : ℕ) → i < m .n → segmentLeaves m i ≡ false) → false ≡ anySegmentLeaves m
-  unfolding anySegmentLeaves segmentLeaves
-  anySegmentLeaves-none h = sym (anyBelow-empty (m .n) (segmentLeaves m) h)
-
   pub anyStartLeaves-here : (k : ℕ) → k < m .t → startLeaves m k ≡ true → true ≡ anyStartLeaves m
   unfolding anyStartLeaves startLeaves
   anyStartLeaves-here k l e = sym (anyBelow-here (m .t) (startLeaves m) k l e)
 
-  pub anyStartLeaves-none : ((k : ℕ) → k < m .t → startLeaves m k ≡ false) → false ≡ anyStartLeaves m
+  anyStartLeaves-none : ((k : ℕ) → k < m .t → startLeaves m k ≡ false) → false ≡ anyStartLeaves m
   unfolding anyStartLeaves startLeaves
   anyStartLeaves-none h = sym (anyBelow-empty (m .t) (startLeaves m) h)
 
-  -- past its places a model has segments that only end, and threads that start at 0
-  segmentLeaves-past : (i : ℕ) → length (m .segments) ≤ i → segmentLeaves m i ≡ false
-  unfolding segmentLeaves leavesModel
-  segmentLeaves-past i l = rw (segmentAt-past m i l) refl
-
-  pub anySegmentLeaves-past : (k : ℕ) → length (m .segments) ≤ k → ((i : ℕ) → i < k → segmentLeaves m i ≡ false) → false ≡ anySegmentLeaves m
-  anySegmentLeaves-past k h below = anySegmentLeaves-none (λ i l. go i (decLt i k))
-    where
-      go : (i : ℕ) → Dec (i < k) → segmentLeaves m i ≡ false
-      go i (yes l) = below i l
-      go i (no l) = segmentLeaves-past i (omega arith)
-
-  startLeaves-past : (k : ℕ) → length (m .starts) ≤ k → startLeaves m k ≡ eqb (m .n) 0
+  -- a thread that starts below N has an N above 0
+  positive : startLeaves m 0 ≡ false → 0 < m .n
   unfolding startLeaves
-  startLeaves-past k h = rw (startAt-past m k h) (go (ℕ-discrete (m .n) 0))
+  positive h = go (decLt (startAt m 0 .first) (m .n))
     where
-      go : Dec (m .n ≡ 0) → not (ltb 0 (m .n)) ≡ eqb (m .n) 0
-      go (yes e) = rw (le-ltb 0 (m .n) (omega arith), eq-eqb (m .n) 0 e) refl
-      go (no e) = rw (lt-ltb 0 (m .n) (omega arith), ne-eqb (m .n) 0 e) refl
+      go : Dec (startAt m 0 .first < m .n) → 0 < m .n
+      go (yes l) = omega arith
+      go (no l) = let e : not false ≡ false = rw (le-ltb (startAt m 0 .first) (m .n) (omega arith)) at h in let z : _≡_ {A = ℕ} 0 1 = cc in absurd (omega arith)
 
-  pub anyStartLeaves-past : (k : ℕ) → length (m .starts) ≤ k → k < m .t → ((i : ℕ) → i < k → startLeaves m i ≡ false) → eqb (m .n) 0 ≡ anyStartLeaves m
-  anyStartLeaves-past k h l below = go (eqb (m .n) 0) refl
+  -- past its places a model has threads that start at 0
+  startLeaves-past : (k : ℕ) → length (m .starts) ≤ k → startLeaves m 0 ≡ false → startLeaves m k ≡ false
+  unfolding startLeaves
+  startLeaves-past k h first = rw (startAt-past m k h, lt-ltb 0 (m .n) (positive first)) refl
+
+  -- none of the first k leaves, and there are no more, or no more places
+  pub anyStartLeaves-end : (k : ℕ) → length (m .starts) ≡ 32 → (k < m .t → 32 ≤ k) → ((i : ℕ) → i < k → startLeaves m i ≡ false) → false ≡ anyStartLeaves m
+  anyStartLeaves-end k size h below = anyStartLeaves-none (λ i l. go i l (decLt i k))
     where
-      go : (z : Bool) → eqb (m .n) 0 ≡ z → eqb (m .n) 0 ≡ anyStartLeaves m
-      go true e = e ∙ anyStartLeaves-here k l (startLeaves-past k h ∙ e)
-      go false e = e ∙ anyStartLeaves-none (λ i j. each i (decLt i k))
-        where
-          each : (i : ℕ) → Dec (i < k) → startLeaves m i ≡ false
-          each i (yes j) = below i j
-          each i (no j) = startLeaves-past i (omega arith) ∙ e
+      go : (i : ℕ) → i < m .t → Dec (i < k) → startLeaves m i ≡ false
+      go i l (yes j) = below i j
+      go i l (no j) = let e : 32 ≤ k = h (omega arith) in startLeaves-past i (omega arith) (below 0 (omega arith))

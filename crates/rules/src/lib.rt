@@ -1,5 +1,4 @@
 // Document 01, "Model file": the file rules over values, as the number of the first fault.
-use clock::Delay;
 use clock::Time;
 use model::Closer;
 use model::Model;
@@ -7,90 +6,50 @@ use model::Next;
 use model::Op;
 use model::Segment;
 ghost use mathlib.Core.Path.{_≡_};
-ghost use mathlib.Core.Bool.{_&&_};
-ghost use Prim.Native.Nat.{_<_, _≤_};
-ghost use lib.Dec.{ltb};
-ghost use Rattle.model.specs.Refusal.{wrongName};
-ghost use Rattle.model.specs.Rules.{unless, headFault, choiceFault, testFault, closerFault, opFault, statementsFault, segmentFault, segmentsFault, countsFault, leavesModel, anySegmentLeaves, anyStartLeaves, targetsFault, modelFault};
+ghost use Prim.Native.Nat.{_≤_};
+ghost use Rattle.base.specs.Index.{orElse, firstBelow};
+ghost use Rattle.model.specs.Refusal.{wrongCloser, wrongName};
+ghost use Rattle.model.specs.Rules.{unless, headFault, choiceFault, testFault, closerFault, opFault, statementsFault, segmentFault, countsFault, leavesModel, anyStartLeaves, targetsFault, modelFault};
+ghost use Rattle.rules.specs.Asked.{faultOf, placesUsed, faultAt};
 
-fn wide(x: u8) -> usize
-    ensures { λ r. ⌜ r ≡ x ⌝ }
+// Number x where a rule is not kept.
+fn unless(kept: bool, x: u8) -> u8
+    ensures { λ r. ⌜ r ≡ unless kept x ⌝ }
 {
-    x as usize
+    if kept {
+        return 0;
+    }
+    x
+}
+
+// The first of two numbers that is not 0.
+fn or_else(a: u8, b: u8) -> u8
+    ensures { λ r. ⌜ r ≡ orElse a b ⌝ }
+{
+    if a == 0 {
+        return b;
+    }
+    a
 }
 
 // 4 where the horizon or a count is out of range.
 pub fn head_fault(h: Time, v: u8, e: u8) -> u8
     ensures { λ r. ⌜ r ≡ headFault (h .0) v e ⌝ }
 {
-    if h.0 < 1 {
-        return 4;
-    }
-    if 1_000_000_000 < h.0 {
-        return 4;
-    }
-    if 64 < v {
-        return 4;
-    }
-    if 32 < e {
-        return 4;
-    }
-    0
+    unless(
+        ((1 <= h.0) & (h.0 <= 1_000_000_000)) & ((v <= 64) & (e <= 32)),
+        4,
+    )
 }
 
-// 5 where there is no test, and B is not A or the limit is not 0.
-fn choice_fault(x: Next) -> u8
-    ensures { λ r. ⌜ r ≡ choiceFault x ⌝ }
+// 5 where the delay is too long, or there is no test and B is not A or the limit not 0; then 7 where the event is not below
+// E, or the test variable not below V.
+fn next_fault(v: u8, short: bool, named: bool, x: Next) -> u8
+    ensures { λ r. ⌜ r ≡ orElse (unless short wrongCloser) (orElse (choiceFault x) (orElse (unless named wrongName) (testFault v x))) ⌝ }
 {
-    if x.test != 255 {
-        return 0;
-    }
-    if x.b != x.a {
-        return 5;
-    }
-    if x.limit != 0 {
-        return 5;
-    }
-    0
-}
-
-// 7 where the test variable is not below V.
-fn test_fault(v: u8, x: Next) -> u8
-    ensures { λ r. ⌜ r ≡ testFault v x ⌝ }
-{
-    if x.test == 255 {
-        return 0;
-    }
-    if x.test < v {
-        return 0;
-    }
-    7
-}
-
-fn time_closer_fault(v: u8, e: u8, k: Delay, x: Next) -> u8
-    ensures { λ r. ⌜ r ≡ closerFault v e (Closer.Time k x) ⌝ }
-{
-    if 1_000_000_000 < k.0 {
-        return 5;
-    }
-    let choice = choice_fault(x);
-    if choice != 0 {
-        return choice;
-    }
-    test_fault(v, x)
-}
-
-fn event_closer_fault(v: u8, e: u8, w: u8, x: Next) -> u8
-    ensures { λ r. ⌜ r ≡ closerFault v e (Closer.Event w x) ⌝ }
-{
-    let choice = choice_fault(x);
-    if choice != 0 {
-        return choice;
-    }
-    if e <= w {
-        return 7;
-    }
-    test_fault(v, x)
+    let untested = x.test == 255;
+    let choice = unless(short & (!untested | ((x.b == x.a) & (x.limit == 0))), 5);
+    or_else(choice, unless(named & (untested | (x.test < v)), 7))
 }
 
 // The closer's 5, then its 7.
@@ -99,44 +58,21 @@ pub fn closer_fault(v: u8, e: u8, closer: Closer) -> u8
 {
     match closer {
         Closer::End => 0,
-        Closer::Time(k, x) => time_closer_fault(v, e, k, x),
-        Closer::Event(w, x) => event_closer_fault(v, e, w, x),
+        Closer::Time(k, x) => next_fault(v, k.0 <= 1_000_000_000, true, x),
+        Closer::Event(w, x) => next_fault(v, true, w < e, x),
     }
 }
 
-// 7 where a variable's number is not below V.
-fn name_fault(v: u8, a: u8) -> u8
-    ensures { λ r. ⌜ r ≡ unless (ltb a v) wrongName ⌝ }
-{
-    if a < v {
-        return 0;
-    }
-    7
-}
-
-fn names_fault(v: u8, a: u8, b: u32) -> u8
-    ensures { λ r. ⌜ r ≡ unless (ltb a v && ltb b v) wrongName ⌝ }
-{
-    if v <= a {
-        return 7;
-    }
-    if v as u32 <= b {
-        return 7;
-    }
-    0
-}
-
-// A statement's 7.
+// A statement's 7. "b is compared with V as the whole 32-bit number".
 pub fn op_fault(v: u8, e: u8, op: Op) -> u8
     ensures { λ r. ⌜ r ≡ opFault v e op ⌝ }
 {
     match op {
-        Op::Set(a, _) => name_fault(v, a),
-        Op::Add(a, _) => name_fault(v, a),
-        Op::Copy(a, b) => names_fault(v, a, b),
-        Op::AddVariable(a, b) => names_fault(v, a, b),
-        Op::SubVariable(a, b) => names_fault(v, a, b),
-        Op::Notify(w) => name_fault(e, w),
+        Op::Set(a, _) | Op::Add(a, _) => unless(a < v, 7),
+        Op::Copy(a, b) | Op::AddVariable(a, b) | Op::SubVariable(a, b) => {
+            unless((a < v) & (b < v as u32), 7)
+        }
+        Op::Notify(w) => unless(w < e, 7),
     }
 }
 
@@ -144,8 +80,7 @@ fn statements_fault(v: u8, e: u8, g: Segment) -> u8
     requires { ⌜ g .n ≤ 32 ⌝ }
     ensures { λ r. ⌜ r ≡ statementsFault v e g ⌝ }
 {
-    let count = g.n;
-    let n = wide(count);
+    let n = g.n as usize;
     let mut j = 0;
     while j < n {
         let x = g.statements[j];
@@ -174,88 +109,67 @@ fn segment_fault(v: u8, e: u8, g: Segment) -> u8
     statements_fault(v, e, g)
 }
 
-// Segment by segment; the 65th is 4.
-fn segments_fault(m: Model) -> u8
-    ensures { λ r. ⌜ r ≡ segmentsFault m ⌝ }
-{
-    let count = m.n;
-    let n = wide(count);
-    let v = m.v;
-    let e = m.e;
-    let mut i = 0;
-    while i < n {
-        if 64 <= i {
-            return 4;
-        }
-        let g = m.segments[i];
-        let fault = segment_fault(v, e, g);
-        if fault != 0 {
-            return fault;
-        }
-        i += 1;
-    }
-    0
-}
-
-fn counts_fault(m: Model) -> u8
-    ensures { λ r. ⌜ r ≡ countsFault m ⌝ }
-{
-    if m.n < 1 {
-        return 2;
-    }
-    if m.t < 1 {
-        return 2;
-    }
-    if 32 < m.t {
-        return 4;
-    }
-    0
-}
-
 // Whether a next segment is not below N.
 fn leaves_model(n: u8, closer: Closer) -> bool
     ensures { λ r. ⌜ r ≡ leavesModel n closer ⌝ }
 {
     match closer {
         Closer::End => false,
-        Closer::Time(_, x) => n <= x.a || n <= x.b,
-        Closer::Event(_, x) => n <= x.a || n <= x.b,
+        Closer::Time(_, x) | Closer::Event(_, x) => !((x.a < n) & (x.b < n)),
     }
 }
 
-fn any_segment_leaves(m: Model) -> bool
-    ensures { λ r. ⌜ r ≡ anySegmentLeaves m ⌝ }
+// Of a segment, its targets' 8 or its own faults.
+fn fault_of(n: u8, v: u8, e: u8, targets: bool, g: Segment) -> u8
+    ensures { λ r. ⌜ r ≡ faultOf n v e targets g ⌝ }
 {
-    let count = m.n;
-    let n = wide(count);
+    if targets {
+        let closer = g.closer;
+        return unless(!leaves_model(n, closer), 8);
+    }
+    segment_fault(v, e, g)
+}
+
+// How many places for segments are in use.
+fn places_used(n: u8) -> usize
+    ensures { λ r. ⌜ r ≡ placesUsed n ⌝ }
+{
+    if n < 64 {
+        return n as usize;
+    }
+    64
+}
+
+// Segment by segment; the 65th is 4.
+fn first_fault(m: Model, targets: bool) -> u8
+    ensures { λ r. ⌜ r ≡ firstBelow (m .n) (faultAt m targets) ⌝ }
+{
+    let n = places_used(m.n);
     let mut i = 0;
     while i < n {
-        if 64 <= i {
-            return false;
-        }
         let g = m.segments[i];
-        let closer = g.closer;
-        if leaves_model(count, closer) {
-            return true;
+        let fault = fault_of(m.n, m.v, m.e, targets, g);
+        if fault != 0 {
+            return fault;
         }
         i += 1;
     }
-    false
+    unless(targets | (m.n <= 64), 4)
+}
+
+fn counts_fault(m: Model) -> u8
+    ensures { λ r. ⌜ r ≡ countsFault m ⌝ }
+{
+    or_else(unless((1 <= m.n) & (1 <= m.t), 2), unless(m.t <= 32, 4))
 }
 
 fn any_start_leaves(m: Model) -> bool
     ensures { λ r. ⌜ r ≡ anyStartLeaves m ⌝ }
 {
-    let segments = m.n;
-    let count = m.t;
-    let t = wide(count);
+    let t = m.t as usize;
     let mut k = 0;
-    while k < t {
-        if 32 <= k {
-            return segments == 0;
-        }
-        let s = m.starts[k];
-        if segments <= s.first {
+    while (k < t) & (k < 32) {
+        if m.n <= m.starts[k].first {
             return true;
         }
         k += 1;
@@ -267,13 +181,7 @@ fn any_start_leaves(m: Model) -> bool
 pub fn targets_fault(m: Model) -> u8
     ensures { λ r. ⌜ r ≡ targetsFault m ⌝ }
 {
-    if any_segment_leaves(m) {
-        return 8;
-    }
-    if any_start_leaves(m) {
-        return 8;
-    }
-    0
+    or_else(first_fault(m, true), unless(!any_start_leaves(m), 8))
 }
 
 // The number of the first fault of a held model, in file order; 0 where it keeps the file rules.
@@ -285,7 +193,7 @@ pub fn model_fault(m: Model) -> u8
     if head != 0 {
         return head;
     }
-    let segments = segments_fault(m);
+    let segments = first_fault(m, false);
     if segments != 0 {
         return segments;
     }

@@ -1,19 +1,18 @@
 -- The definitions of `Words` and `Turn`, one law for each way out of the code that computes them.
-use Prim.Native.Nat.{ℕ, zero, suc, _+_, _-_, _*_, _/_, _%_, _<_, _≤_}
-use mathlib.Core.Path.{_≡_, refl, ap, sym, _∙_}
+use Prim.Native.Nat.{ℕ, _+_, _-_, _*_, _/_, _%_, _<_, _≤_}
+use mathlib.Core.Path.{_≡_, refl, ap, _∙_}
 use mathlib.Core.Bool.{Bool, true, false, cond, _&&_}
 use mathlib.Core.List.{List}
 use native.Mathlib.Numerals.{add-one}
-use native.Mathlib.Omega.{arith}
 use lib.Dec.{ltb, leb, eqb}
 use lib.ListN.{length, getD, set, List·getD-eq-default}
-use lib.Seq.{getD-set-same, getD-set-other}
 use borrow.Author.Tests.{lt-ltb, le-ltb, le-leb, lt-leb, eq-eqb, ne-eqb}
 use Rattle.clock.specs.Cycle.{cycleAt}
 use Rattle.model.specs.declared.State.the-variants.{Ended, Overrun, Ready, Waiting}
 use Rattle.packed.specs.Unpack.{endBy, executeBy, markedBy, followBy}
-use Rattle.runner.specs.Words.{waiting, ended, overrun, span, stateFrom, nextWord, closeWord, wakeWord, leastWord}
-use Rattle.runner.specs.Turn.{Locals, locals, ranBy, turnOn, turnsTo}
+use Rattle.packed.specs.Reach.{reachedBy}
+use Rattle.runner.specs.Words.{waiting, ended, overrun, span, stateFrom, nextWord, closeWord, wakeWord}
+use Rattle.runner.specs.Turn.{Locals, locals, waitedBy, ranBy, turnOn, turnsTo}
 
 module _ (k : ℕ) where
   pub nextWord-ready : k % 1024 < 1023 → k + 1 ≡ nextWord k
@@ -84,27 +83,6 @@ module _ (fs : List Bool) (k w : ℕ) where
       unfolding wakeWord
       wakeWord-wakes e p = rw (le-ltb w waiting h, lt-leb ended w l, e, le-leb ((w - waiting) % span) k p) refl
 
-pub leastWord-next : (k : ℕ) (ws : List ℕ) (b r : ℕ) → b ≡ leastWord k ws → r ≡ cond (ltb (getD ws k 0) b) (getD ws k 0) b → r ≡ leastWord (k + 1) ws
-unfolding leastWord
-leastWord-next k ws b r e f = rw (add-one, ← e) f
-
-leastWord-set : (j k : ℕ) (ws : List ℕ) (x : ℕ) → j ≤ k → leastWord j (set ws k x) ≡ leastWord j ws
-unfolding leastWord
-leastWord-set zero k ws x h = refl
-leastWord-set (suc j) k ws x h =
-    let e : getD (set ws k x) j 0 ≡ getD ws j 0 = getD-set-other ws k j x 0 (λ q. omega arith) in
-    rw (e, leastWord-set j k ws x (omega arith)) refl
-
--- for the code: a word is stored, and the least with it
-pub leastWord-stored : (k : ℕ) (ws : List ℕ) (x b r : ℕ) → k < length ws → b ≡ leastWord k ws → r ≡ cond (ltb x b) x b → r ≡ leastWord (k + 1) (set ws k x)
-leastWord-stored k ws x b r h e f =
-    leastWord-next k (set ws k x) b r (e ∙ sym (leastWord-set k k ws x (omega arith)))
-    (f ∙ ap (λ (y : ℕ). cond (ltb y b) y b) (sym (getD-set-same ws k x 0 h)))
-
-pub leastWord-none : (ws : List ℕ) → 18446744073709551615 ≡ leastWord 0 ws
-unfolding leastWord
-leastWord-none ws = refl
-
 -- a thread that is looked at
 module _ (code : List ℕ) (now budget k : ℕ) where
   module _ (x : Locals) where
@@ -128,18 +106,16 @@ module _ (code : List ℕ) (now budget k : ℕ) where
   unfolding turnsTo
   turnsTo-next x y z e f = rw (add-one, ← e) f
 
-pub turnsTo-none : (code : List ℕ) (now budget : ℕ) (x : Locals) → x ≡ turnsTo code now budget 0 x
-unfolding turnsTo
-turnsTo-none code now budget x = refl
-
 -- for the code: the arrays of a thread that ran
-pub ran-as : (code : List ℕ) (now k : ℕ) (v ws ss : List ℕ) (fs : List Bool) (n : ℕ) (v′ : List ℕ) (fs′ : List Bool) (e w f : ℕ) →
-    v′ ≡ executeBy code (getD ss k 0) v → fs′ ≡ markedBy code (getD ss k 0) fs → e ≡ endBy code (getD ss k 0) → w ≡ closeWord e now → f ≡ followBy code (getD ss k 0) v′ →
-    locals v′ (set ws k w) (set ss k f) fs′ (n + 1) ≡ ranBy code now k (locals v ws ss fs n)
-ran-as code now k v ws ss fs n v′ fs′ e w f p q r t u =
+pub ran-as : (code : List ℕ) (now k : ℕ) (v ws ss : List ℕ) (fs : List Bool) (rs : List ℕ) (n : ℕ) (v′ : List ℕ) (fs′ : List Bool) (rs′ rs″ : List ℕ) (e w f : ℕ) →
+    v′ ≡ executeBy code (getD ss k 0) v → fs′ ≡ markedBy code (getD ss k 0) fs → rs′ ≡ reachedBy code (getD ss k 0) rs → e ≡ endBy code (getD ss k 0) →
+    rs″ ≡ waitedBy e k rs′ → w ≡ closeWord e now → f ≡ followBy code (getD ss k 0) v′ →
+    locals v′ (set ws k w) (set ss k f) fs′ rs″ (n + 1) ≡ ranBy code now k (locals v ws ss fs rs n)
+ran-as code now k v ws ss fs rs n v′ fs′ rs′ rs″ e w f p q a r b t u =
     let t′ : w ≡ closeWord (endBy code (getD ss k 0)) now = t ∙ ap (λ (z : ℕ). closeWord z now) r in
     let u′ : f ≡ followBy code (getD ss k 0) (executeBy code (getD ss k 0) v) = u ∙ ap (followBy code (getD ss k 0)) p in
-    λ i. locals (p i) (set ws k (t′ i)) (set ss k (u′ i)) (q i) (n + 1)
+    let b′ : rs″ ≡ waitedBy (endBy code (getD ss k 0)) k (reachedBy code (getD ss k 0) rs) = b ∙ (ap (λ (z : ℕ). waitedBy z k rs′) r ∙ ap (waitedBy (endBy code (getD ss k 0)) k) a) in
+    λ i. locals (p i) (set ws k (t′ i)) (set ss k (u′ i)) (q i) (b′ i) (n + 1)
 
 pub isOut-room : (b n l k : ℕ) → n < b → false ≡ leb b n && leb l k
 isOut-room b n l k h = rw (lt-leb b n h) refl

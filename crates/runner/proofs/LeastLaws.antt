@@ -1,5 +1,5 @@
 -- The least word is the floor.
---     leastWord-≤, leastWord-one     it is at most each word, and one of them
+--     leastWord-≤, leastWord-most, leastWord-one     it is at most each word, and one of them
 --     floor-word, floor-late     below the horizon it is the floor's cycle; at the horizon or later the floor is too
 use Prim.Native.Nat.{ℕ, zero, suc, _*_, _<_, _≤_}
 use mathlib.Core.Path.{_≡_, refl, ap, sym, _∙_, subst}
@@ -43,6 +43,11 @@ leastWord-≤ (suc t) ws k h = go (λ l. leastWord-≤ t ws k l) (leastWord-belo
     go : (k < t → leastWord t ws ≤ getD ws k 0) → (leastWord (suc t) ws ≤ getD ws t 0) × (leastWord (suc t) ws ≤ leastWord t ws) → Dec (k ≡ t) → leastWord (suc t) ws ≤ getD ws k 0
     go ih (a, b) (yes e) = rw e a
     go ih (a, b) (no e) = omega (arith, ih (omega arith))
+
+pub leastWord-most : (t : ℕ) (ws : List ℕ) → leastWord t ws ≤ 18446744073709551615
+unfolding leastWord
+leastWord-most zero ws = omega arith
+leastWord-most (suc t) ws = omega (arith, leastWord-most t ws, leastWord-below t ws .1)
 
 pub leastWord-one : (t : ℕ) (ws : List ℕ) → (leastWord t ws ≡ 18446744073709551615) ⊎ ((k : ℕ) × (k < t) × (leastWord t ws ≡ getD ws k 0))
 unfolding leastWord

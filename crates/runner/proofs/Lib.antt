@@ -6,5 +6,7 @@ pub mod WordLaws
 pub mod RangeLaws
 pub mod LeastLaws
 pub mod LoopLaws
+pub mod DueLaws
+pub mod EndLaws
 pub mod TurnLaws
 pub mod RunLaws

@@ -2,9 +2,10 @@
 --     Turned     the first j are looked at, or the budget was out at one that is due
 --     Runs     what the code holds of a model while it runs
 --     cycle-out, cycle-in     a thread is left for want of budget: the run is spent; none is: the cycle is over
---     cycle-rest, cycle-begun     no thread is ready before the horizon; else the next cycle begins
+--     cycle-ends, cycle-ahead     which threads its end has to look at; every word is after it
+--     cycle-rest, cycle-next, cycle-begun     no thread is ready before the horizon; else the next cycle begins
 --     cycle-room, cycle-later     the measure of the cycles falls
-use Prim.Native.Nat.{ℕ, zero, suc, _+_, _*_, _<_, _≤_}
+use Prim.Native.Nat.{ℕ, zero, suc, _+_, _*_, _<_, _≤_, _^_}
 use mathlib.Core.Path.{_≡_, refl, ap, sym, _∙_, subst}
 use mathlib.Core.Bool.{Bool, true, false, _&&_}
 use mathlib.Core.List.{List}
@@ -12,17 +13,20 @@ use native.Mathlib.Numerals.{add-one}
 use native.Mathlib.Omega.{arith}
 use native.Mathlib.Decide.{ℕ-discrete, decLt}
 use lib.Dec.{leb}
-use lib.ListN.{length, getD, replicate}
+use lib.ListN.{length, getD, set, replicate}
 use borrow.Author.Tests.{le-leb, lt-leb}
 use Rattle.model.specs.declared.Model.{Model}
 use Rattle.model.specs.Values.{startAt}
 use Rattle.model.specs.Rules.{modelFault}
+use Rattle.rules.proofs.RuleLaws.{modelFault-counts}
 use Rattle.packed.specs.Pack.{IsCode}
 use Rattle.runner.specs.Words.{threadsTo, answer, wakeWord, leastWord}
 use Rattle.runner.specs.Turn.{Locals, turnOn, turnsTo}
+use Rattle.runner.specs.Due.{IsDue, Begins, Ends}
 use Rattle.runner.proofs.ExitLaws.{turnOn-passed, turnOn-full, turnOn-ran}
 use Rattle.runner.proofs.LeastLaws.{leastWord-≤}
-use Rattle.runner.proofs.LoopLaws.{Loop, countAt, answerOf, loop-room, loop-passed, loop-ran, loop-out, loop-ahead, loop-later, loop-begun, loop-rest}
+use Rattle.runner.proofs.LoopLaws.{Loop, countAt, answerOf, loop-small, loop-room, loop-passed, loop-ran, loop-out, loop-ahead, loop-later, loop-begun, loop-rest}
+use Rattle.runner.proofs.EndLaws.{due-all, ends-all, begins-next}
 
 and-second : (b : Bool) (l k : ℕ) → b && leb l k ≡ true → k < l → ⊥
 and-second true l k g h = let e : true ≡ false = sym g ∙ lt-leb l k h in let z : _≡_ {A = ℕ} 0 1 = cc in absurd (omega arith)
@@ -64,9 +68,19 @@ module _ (m : Model) (fit : modelFault m ≡ 0) (budget : ℕ) (code : List ℕ)
       subst (λ (k : ℕ). Turned m budget (turnOn code now budget j (turnsTo code now budget j x)) now k) (add-one j)
       (turned-more (turnsTo code now budget j x) j (omega arith) (turned x j (omega arith) loop))
 
-  module _ (x y : Locals) (t : ℕ) (same : t ≡ m .t) (loop : LoopAt m budget x now 0) (e : y ≡ turnsTo code now budget t x) where
+  module _ (x y : Locals) (t from to : ℕ) (same : t ≡ m .t) (loop : LoopAt m budget x now 0) (begins : Begins t (x .state) (x .told) (x .ranges) now from to)
+      (e : y ≡ turnsTo code now budget to x) where
+    all : y ≡ turnsTo code now budget t x
+    all = due-all code now budget x y t from to (begins .threads) e
+
     all-turned : Turned m budget y now (m .t)
-    all-turned = rw (e, same) (turned x (m .t) (omega arith) loop)
+    all-turned = rw (all, same) (turned x (m .t) (omega arith) loop)
+
+    small : now < 2 ^ 44
+    small = loop-small m fit budget (x .variables) (x .state) (x .segments) (x .told) now 0 (x .n) loop
+
+    pub cycle-ends : Ends t (y .state) (y .told) (y .ranges) now from to
+    cycle-ends = ends-all code now budget t from to (omega (arith, modelFault-counts m fit .threads)) small x y (loop .words-size) begins all
 
     pub cycle-room : countAt t now 0 < 1024 * m .horizon .0 * (t + 1)
     cycle-room = rw same (loop-room m fit budget (x .variables) (x .state) (x .segments) (x .told) now 0 (x .n) loop)
@@ -92,6 +106,11 @@ module _ (m : Model) (fit : modelFault m ≡ 0) (budget : ℕ) (code : List ℕ)
             let n : _≡_ {A = ℕ} 0 1 = cc in
             absurd (omega arith)
 
+    pub cycle-ahead : leb budget (y .n) && leb (leastWord t (y .state)) now ≡ false → (k : ℕ) → k < t → now < getD (y .state) k 0
+    cycle-ahead f k l =
+        let later : now < leastWord (m .t) (y .state) = loop-ahead m fit budget (y .variables) (y .state) (y .segments) (y .told) now (m .t) (y .n) (cycle-in f) (omega arith) in
+        omega (arith, leastWord-≤ (m .t) (y .state) k (omega arith))
+
     -- the cycle is over; the words us are those of the woken threads
     module _ (f : leb budget (y .n) && leb (leastWord t (y .state)) now ≡ false) (us : List ℕ) (size : length us ≡ 32) (least : ℕ) (known : least ≡ leastWord t us)
         (woken : (k : ℕ) → k < t → getD us k 0 ≡ wakeWord (y .told) now (getD (y .state) k 0)) where
@@ -105,6 +124,9 @@ module _ (m : Model) (fit : modelFault m ≡ 0) (budget : ℕ) (code : List ℕ)
       cycle-rest l =
           rw same
           (loop-rest m fit budget (y .variables) (y .state) (y .segments) (y .told) now (m .t) (y .n) (cycle-in f) (omega arith) us woken-all (omega (arith, least-all)))
+
+      pub cycle-next : (from′ to′ : ℕ) → IsDue t us least from′ to′ → Begins t us (replicate 32 false) (set (set (y .ranges) 32 32) 65 0) least from′ to′
+      cycle-next from′ to′ due = begins-next t (y .state) (y .told) (y .ranges) now from to cycle-ends small us woken least from′ to′ due
 
       pub cycle-later : least < 1024 * m .horizon .0 → countAt t now 0 < countAt t least 0
       cycle-later l =

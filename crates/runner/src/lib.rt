@@ -10,9 +10,9 @@ use model::Threads;
 use model::Variables;
 use plain::PlainRun;
 ghost use mathlib.Core.Path.{_≡_};
-ghost use mathlib.Core.Bool.{cond, false, _&&_};
-ghost use lib.Dec.{ltb, leb};
-ghost use Prim.Native.Nat.{ℕ, _+_, _*_, _≤_, _<_, _^_};
+ghost use mathlib.Core.Bool.{cond, false, not, _&&_};
+ghost use lib.Dec.{ltb, leb, eqb};
+ghost use Prim.Native.Nat.{ℕ, _+_, _*_, _%_, _≤_, _<_, _^_};
 ghost use lib.ListN.{getD, replicate, length};
 ghost use Rattle.model.specs.Values.{startAt};
 ghost use Rattle.model.specs.Record.{noThread};
@@ -20,7 +20,8 @@ ghost use Rattle.model.specs.Rules.{modelFault};
 ghost use Rattle.plain.specs.Start.{startOf};
 ghost use Rattle.plain.specs.Run.{runFor, lastStep, reported, plainRun};
 ghost use Rattle.runner.specs.Words.{stateFrom, threadsTo, answer, nextWord, closeWord, wakeWord, leastWord};
-ghost use Rattle.runner.specs.Turn.{locals, turnOn, turnsTo};
+ghost use Rattle.runner.specs.Turn.{locals, waitedBy, turnOn, turnsTo};
+ghost use Rattle.runner.specs.Due.{Between, Late, IsLeast, Woken, IsDue, Ends};
 
 // A thread's state as a word: a ready thread's is its cycle, 1,024 for each unit of time; the others stand above these.
 const WAITING: u64 = 4611686018427387904;
@@ -92,19 +93,18 @@ fn wake_word(told: &[bool; 32], key: u64, w: u64) -> u64
     next_delta(key)
 }
 
-// Every thread at the end of a cycle, and the least word then: "The next cycle is the least among ready threads".
-fn wake(state: &mut [u64; 32], told: &[bool; 32], key: u64, t: usize) -> u64
-    requires { ⌜ t ≤ 32 ⌝ }
+// The threads from one on and before another, at the end of a cycle, and the least of their words then.
+fn wake(state: &mut [u64; 32], told: &[bool; 32], key: u64, from: usize, to: usize) -> u64
+    requires { ⌜ from ≤ to ⌝ }
+    requires { ⌜ to ≤ 32 ⌝ }
     requires { ⌜ key < 2 ^ 44 ⌝ }
     requires { ⌜ length (now told) ≡ 32 ⌝ }
     requires { ⌜ length (now state) ≡ 32 ⌝ }
-    ensures places { λ _. ⌜ length (now (state .exit)) ≡ 32 ⌝ }
-    ensures least { λ r. ⌜ r ≡ leastWord t (now (state .exit)) ⌝ }
-    ensures words { λ _. ⌜ ((k : ℕ) → k < t → getD (now (state .exit)) k 0 ≡ wakeWord (now (told .entry)) key (getD (now (state .entry)) k 0)) ⌝ }
+    ensures { λ r. ⌜ Woken (now (told .entry)) key from to (now (state .entry)) (now (state .exit)) r ⌝ }
 {
     let mut least: u64 = 18446744073709551615;
-    let mut k = 0;
-    while k < t {
+    let mut k = from;
+    while k < to {
         let w = state[k];
         let x = wake_word(told, key, w);
         state[k] = x;
@@ -123,19 +123,143 @@ fn smaller(w: u64, least: u64) -> u64
     least
 }
 
-// The least word inside a cycle.
-fn floor_of(state: &[u64; 32], t: usize) -> u64
-    requires { ⌜ t ≤ 32 ⌝ }
-    ensures { λ r. ⌜ r ≡ leastWord t (now (state .entry)) ⌝ }
+// The least of a number and the words of the threads from one on and before another.
+fn floor_of(state: &[u64; 32], from: usize, to: usize, start: u64) -> u64
+    requires { ⌜ from ≤ to ⌝ }
+    requires { ⌜ to ≤ 32 ⌝ }
+    ensures { λ r. ⌜ IsLeast (now (state .entry)) from to start r ⌝ }
 {
-    let mut least: u64 = 18446744073709551615;
-    let mut k = 0;
-    while k < t {
+    let mut least = start;
+    let mut k = from;
+    while k < to {
         let w = state[k];
         least = smaller(w, least);
         k += 1;
     }
     least
+}
+
+// Document 01: "The next cycle is the least among ready threads". Near is the least from one thread on and before another; no word is
+// before the next delta, so that where near is the next delta the others are not looked at.
+fn least_of(state: &[u64; 32], key: u64, near: u64, from: usize, to: usize, t: usize) -> u64
+    requires { ⌜ from ≤ to ⌝ }
+    requires { ⌜ to ≤ t ⌝ }
+    requires { ⌜ t ≤ 32 ⌝ }
+    requires { ⌜ key < 2 ^ 44 ⌝ }
+    requires { ⌜ IsLeast (now state) from to 18446744073709551615 near ⌝ }
+    requires { ⌜ ((k : ℕ) → k < t → key < getD (now state) k 0) ⌝ }
+    ensures { λ r. ⌜ r ≡ leastWord t (now (state .entry)) ⌝ }
+{
+    if near == key + 1 {
+        return near;
+    }
+    let before = floor_of(state, 0, from, near);
+    floor_of(state, to, t, before)
+}
+
+// Whether a thread is ready at a delta after 0.
+fn is_late(w: u64) -> bool
+    ensures { λ r. ⌜ r ≡ ltb w 4611686018427387904 && not (eqb (w % 1024) 0) ⌝ }
+{
+    if w < WAITING {
+        return w % 1024 != 0;
+    }
+    false
+}
+
+fn first_late(state: &[u64; 32], from: usize, to: usize) -> usize
+    requires { ⌜ from ≤ to ⌝ }
+    requires { ⌜ to ≤ 32 ⌝ }
+    ensures order { λ r. ⌜ Between from (to + 1) r ⌝ }
+    ensures none { λ r. ⌜ ((k : ℕ) → Between from r k → Late (getD (now (state .entry)) k 0) → ⊥) ⌝ }
+{
+    let mut k = from;
+    while k < to {
+        let w = state[k];
+        if is_late(w) {
+            return k;
+        }
+        k += 1;
+    }
+    k
+}
+
+fn past_late(state: &[u64; 32], from: usize, to: usize) -> usize
+    requires { ⌜ from ≤ to ⌝ }
+    requires { ⌜ to ≤ 32 ⌝ }
+    ensures order { λ r. ⌜ Between from (to + 1) r ⌝ }
+    ensures none { λ r. ⌜ ((k : ℕ) → Between r to k → Late (getD (now (state .entry)) k 0) → ⊥) ⌝ }
+{
+    let mut k = to;
+    while from < k {
+        let w = state[k - 1];
+        if is_late(w) {
+            return k;
+        }
+        k -= 1;
+    }
+    k
+}
+
+// A cycle, and the threads that it has to look at: from one on and before another.
+struct Due {
+    key: u64,
+    from: usize,
+    to: usize,
+}
+
+// At a delta after 0 only threads that became ready in the delta before, or were reached, are looked at; at delta 0 all are.
+fn due_of(state: &[u64; 32], least: u64, from: usize, to: usize, t: usize) -> Due
+    requires { ⌜ from ≤ to ⌝ }
+    requires { ⌜ to ≤ t ⌝ }
+    requires { ⌜ t ≤ 32 ⌝ }
+    requires { ⌜ ((k : ℕ) → k < t → Late (getD (now state) k 0) → Between from to k) ⌝ }
+    ensures cycle { λ r. ⌜ r .key ≡ least ⌝ }
+    ensures threads { λ r. ⌜ IsDue t (now (state .entry)) least (r .from) (r .to) ⌝ }
+{
+    if is_late(least) {
+        let first = first_late(state, from, to);
+        let past = past_late(state, first, to);
+        return Due {
+            key: least,
+            from: first,
+            to: past,
+        };
+    }
+    Due {
+        key: least,
+        from: 0,
+        to: t,
+    }
+}
+
+// The end of a cycle: who waits for a notified event wakes, and the next cycle is known.
+fn end_cycle(
+    state: &mut [u64; 32],
+    told: &[bool; 32],
+    ranges: &[usize; 66],
+    key: u64,
+    from: usize,
+    to: usize,
+    t: usize,
+) -> Due
+    requires { ⌜ t ≤ 32 ⌝ }
+    requires { ⌜ key < 2 ^ 44 ⌝ }
+    requires { ⌜ length (now told) ≡ 32 ⌝ }
+    requires { ⌜ length (now state) ≡ 32 ⌝ }
+    requires { ⌜ Ends t (now state) (now told) (now ranges) key from to ⌝ }
+    requires { ⌜ ((k : ℕ) → k < t → key < getD (now state) k 0) ⌝ }
+    ensures places { λ _. ⌜ length (now (state .exit)) ≡ 32 ⌝ }
+    ensures least { λ r. ⌜ r .key ≡ leastWord t (now (state .exit)) ⌝ }
+    ensures words { λ _. ⌜ ((k : ℕ) → k < t → getD (now (state .exit)) k 0 ≡ wakeWord (now (told .entry)) key (getD (now (state .entry)) k 0)) ⌝ }
+    ensures threads { λ r. ⌜ IsDue t (now (state .exit)) (r .key) (r .from) (r .to) ⌝ }
+{
+    let first = packed::lesser(from, ranges[32]);
+    let most = packed::greater(to, ranges[65]);
+    let past = packed::lesser(t, most);
+    let near = wake(state, told, key, first, past);
+    let least = least_of(state, key, near, first, past, t);
+    due_of(state, least, first, past, t)
 }
 
 fn state_of(w: u64) -> State
@@ -203,6 +327,31 @@ fn first_segments(m: Model) -> [u8; 32]
     segments
 }
 
+// No event has a thread that waits for it.
+fn no_ranges() -> [usize; 66]
+    ensures { λ r. ⌜ length r ≡ 66 ⌝ }
+{
+    let mut ranges = [0usize; 66];
+    let mut i = 0;
+    while i < 33 {
+        ranges[i] = 32;
+        i += 1;
+    }
+    ranges
+}
+
+// A thread whose segment ends so is put into the range of the event for which it waits, if it waits for one.
+fn wait_for(end: u64, turn: usize, ranges: &mut [usize; 66])
+    requires { ⌜ turn < 32 ⌝ }
+    ensures { λ _. ⌜ now (ranges .exit) ≡ waitedBy end turn (now (ranges .entry)) ⌝ }
+{
+    if end % 4 != 2 {
+        return;
+    }
+    let e = ((end / 1024) % 32) as usize;
+    packed::widen(ranges, e, turn, turn + 1);
+}
+
 // One thread is looked at: if it is ready in this cycle, and the budget has room, it runs its segment whole.
 fn look_at(
     code: &[u64; 2176],
@@ -214,10 +363,11 @@ fn look_at(
     state: &mut [u64; 32],
     segments: &mut [u8; 32],
     told: &mut [bool; 32],
+    ranges: &mut [usize; 66],
 ) -> u64
     requires { ⌜ turn < 32 ⌝ }
     requires { ⌜ key < 2 ^ 44 ⌝ }
-    ensures { λ r. ⌜ locals (now (v .exit)) (now (state .exit)) (now (segments .exit)) (now (told .exit)) r ≡ turnOn (now (code .entry)) key budget turn (locals (now (v .entry)) (now (state .entry)) (now (segments .entry)) (now (told .entry)) n) ⌝ }
+    ensures { λ r. ⌜ locals (now (v .exit)) (now (state .exit)) (now (segments .exit)) (now (told .exit)) (now (ranges .exit)) r ≡ turnOn (now (code .entry)) key budget turn (locals (now (v .entry)) (now (state .entry)) (now (segments .entry)) (now (told .entry)) (now (ranges .entry)) n) ⌝ }
 {
     if state[turn] != key {
         return n;
@@ -226,8 +376,9 @@ fn look_at(
         return n;
     }
     let s = segments[turn];
-    packed::execute(code, s, v, told);
+    packed::execute(code, s, v, told, ranges);
     let end = packed::end_of(code, s);
+    wait_for(end, turn, ranges);
     state[turn] = close_word(end, key);
     segments[turn] = packed::follow(code, s, v);
     n + 1
@@ -236,7 +387,8 @@ fn look_at(
 // Document 01: "In each cycle the ready threads of that cycle run their segment whole, lowest number first".
 fn run_cycle(
     code: &[u64; 2176],
-    t: usize,
+    from: usize,
+    to: usize,
     key: u64,
     budget: u64,
     ran: u64,
@@ -244,15 +396,18 @@ fn run_cycle(
     state: &mut [u64; 32],
     segments: &mut [u8; 32],
     told: &mut [bool; 32],
+    ranges: &mut [usize; 66],
 ) -> u64
-    requires { ⌜ t ≤ 32 ⌝ }
+    requires { ⌜ from ≤ to ⌝ }
+    requires { ⌜ to ≤ 32 ⌝ }
     requires { ⌜ key < 2 ^ 44 ⌝ }
-    ensures { λ r. ⌜ locals (now (v .exit)) (now (state .exit)) (now (segments .exit)) (now (told .exit)) r ≡ turnsTo (now (code .entry)) key budget t (locals (now (v .entry)) (now (state .entry)) (now (segments .entry)) (now (told .entry)) ran) ⌝ }
+    requires { ⌜ ((k : ℕ) → k < from → getD (now state) k 0 ≡ key → ⊥) ⌝ }
+    ensures { λ r. ⌜ locals (now (v .exit)) (now (state .exit)) (now (segments .exit)) (now (told .exit)) (now (ranges .exit)) r ≡ turnsTo (now (code .entry)) key budget to (locals (now (v .entry)) (now (state .entry)) (now (segments .entry)) (now (told .entry)) (now (ranges .entry)) ran) ⌝ }
 {
     let mut n = ran;
-    let mut turn = 0;
-    while turn < t {
-        n = look_at(code, turn, key, budget, n, v, state, segments, told);
+    let mut turn = from;
+    while turn < to {
+        n = look_at(code, turn, key, budget, n, v, state, segments, told, ranges);
         turn += 1;
     }
     n
@@ -266,7 +421,7 @@ fn is_out(state: &[u64; 32], t: usize, key: u64, budget: u64, n: u64) -> bool
     if n < budget {
         return false;
     }
-    let least = floor_of(state, t);
+    let least = floor_of(state, 0, t, 18446744073709551615);
     least <= key
 }
 
@@ -306,12 +461,16 @@ fn cycles(m: Model, budget: u64) -> PlainRun
     let mut v = [0u32; 64];
     let mut state = [0u64; 32];
     let mut told = [false; 32];
+    let mut ranges = no_ranges();
     let mut key = 0;
+    let mut from = 0;
+    let mut to = t;
     let mut n = 0;
     loop {
         n = run_cycle(
             &code,
-            t,
+            from,
+            to,
             key,
             budget,
             n,
@@ -319,16 +478,21 @@ fn cycles(m: Model, budget: u64) -> PlainRun
             &mut state,
             &mut segments,
             &mut told,
+            &mut ranges,
         );
         if is_out(&state, t, key, budget, n) {
             return result(v, &state, &segments, t, n, true);
         }
-        let least = wake(&mut state, &told, key, t);
-        if limit <= least {
+        let due = end_cycle(&mut state, &told, &ranges, key, from, to, t);
+        if limit <= due.key {
             return result(v, &state, &segments, t, n, false);
         }
-        key = least;
+        key = due.key;
+        from = due.from;
+        to = due.to;
         told = [false; 32];
+        ranges[32] = 32;
+        ranges[65] = 0;
     }
 }
 

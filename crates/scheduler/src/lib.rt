@@ -285,6 +285,10 @@ pub fn fresh(m: Model) -> FreshState
 }
 
 // A request: 11, then 10, 12, 13, 14, 15.
+// Document 01 leaves free, and the definition fixes: the order in which threads are looked at (lowest first; any order leaves the
+// same, `settled-any` of bounds); marks that are not symmetric (the row of the asking thread's segment is read, `requestOf-row`);
+// equal pairs handed in (they stay and count as they stand, `siteAfter-front`); places past the log's count (kept on a refusal, not
+// read, 0 after a grant, `requestOf-held`); records past the threads (kept, `threadsAfter-past`).
 pub fn request(
     m: Model,
     marks: [[bool; 64]; 64],
@@ -397,7 +401,8 @@ fn answer_all(
     }
 }
 
-// A list of requests: 11 is asked once, and the answers are written four words each.
+// A list of requests: 11 is asked once, and the answers are written four words each. What is left free is as in `request`; words of
+// the buffer past the answers stay.
 pub fn requests(
     m: Model,
     marks: [[bool; 64]; 64],

@@ -1,13 +1,15 @@
 -- The whole transcript: of an unfit list, and of any other.
 -- Assumes nothing.
-use Prim.Native.Nat.{ℕ, _*_, _≤_, _<_}
+use Prim.Native.Nat.{ℕ, _+_, _*_, _≤_, _<_}
 use mathlib.Core.Path.{_≡_, refl}
 use mathlib.Core.List.{List, _++_}
 use native.Mathlib.Omega.{arith}
-use lib.ListN.{length}
+use lib.ListN.{length, take}
 use borrow.Author.Tests.{lt-ltb, le-ltb}
 use Rattle.model.specs.declared.Thread.{Thread}
 use Rattle.sheet.specs.Sheet.{refusedLine, sheetIn, bytesIn, longestSheet}
+use Rattle.printer.specs.Put.{Puts}
+use Rattle.printer.proofs.PutLaws.{puts-uncut}
 use Rattle.early.specs.declared.Site.{Site}
 use Rattle.transcript.specs.Transcript.{mostRequests, isUnfitList, rLines, closingOf, transcriptOf, longestTranscript}
 
@@ -32,3 +34,17 @@ pub held-line :
 held-line text whole out end n e p =
     let q : ((n ≡ bytesIn text out) × (end ≡ sheetIn text out)) × (length text ≤ longestTranscript) = (p .0, omega (arith, p .1)) in
     rw e at q
+
+-- a text that its array does not cut, copied out, is the whole text
+pub held-text :
+    {before after text : List ℕ} {n : ℕ} (whole out end : List ℕ) (r : ℕ) →
+    Puts before 0 after n text → n < length before → n ≤ longestTranscript → text ≡ whole →
+    (r ≡ bytesIn (take n after) out) × (end ≡ sheetIn (take n after) out) →
+    ((r ≡ bytesIn whole out) × (end ≡ sheetIn whole out)) × (length whole ≤ longestTranscript)
+held-text whole out end r p h g e q =
+    let u = puts-uncut p h in
+    (rw (u .0, e) at q, rw (← e) (omega (arith, u .1)))
+
+-- the lines of the requests, then 14,720 bytes
+pub whole-fits : {a n : ℕ} (labels : List ℕ) → length labels ≤ mostRequests → a ≤ 94 * length labels → n ≤ a + 14720 → n ≤ longestTranscript
+whole-fits labels h f g = omega arith

@@ -15,24 +15,6 @@ ghost use Rattle.transcript.specs.Transcript.{labelWord, printedAnswer, rLineAt
 // Stands for an argument that is no number.
 const NO_NUMBER: u64 = 18446744073709551615;
 
-fn wide(x: u8) -> usize
-    ensures { λ r. ⌜ r ≡ x ⌝ }
-{
-    x as usize
-}
-
-fn long(x: u8) -> u64
-    ensures { λ r. ⌜ r ≡ x ⌝ }
-{
-    x as u64
-}
-
-fn least(a: usize, b: usize) -> usize
-    ensures { λ r. ⌜ r ≡ min a b ⌝ }
-{
-    if a < b { a } else { b }
-}
-
 // The number that an argument's digits say.
 pub fn label_of(arg: &[u8]) -> u64
     ensures { λ r. ⌜ r ≡ labelOf (now (arg .entry)) ⌝ }
@@ -53,7 +35,7 @@ pub fn label_of(arg: &[u8]) -> u64
         if 57 < b {
             return NO_NUMBER;
         }
-        x = x * 10 + long(b - 48);
+        x = x * 10 + printer::long_byte(b - 48);
         i += 1;
     }
     x
@@ -87,12 +69,10 @@ fn put_answer(out: &mut [u8], at: usize, number: u64, segment: u64, time: u64, d
         let a = printer::put_word(out, at, b" granted");
         let b = printer::put_number(out, a, segment);
         let c = printer::put_number(out, b, time);
-        let d = printer::put_number(out, c, delta);
-        return printer::put_byte(out, d, b'\n');
+        return printer::put_last(out, c, delta);
     }
     let a = printer::put_word(out, at, b" refused");
-    let b = printer::put_number(out, a, number);
-    printer::put_byte(out, b, b'\n')
+    printer::put_last(out, a, number)
 }
 
 // The line of request i.
@@ -132,7 +112,7 @@ fn put_r_lines(out: &mut [u8], labels: &[u64], answers: &[u64]) -> usize
 fn put_l_line(out: &mut [u8], at: usize, x: Notification) -> usize
     ensures { λ r. ⌜ Puts (now (out .entry)) at (now (out .exit)) r (lLine x) × (r ≤ at + 65) ⌝ }
 {
-    let event = long(x.event);
+    let event = printer::long_byte(x.event);
     let c = x.cycle;
     let a = printer::put_byte(out, at, b'l');
     let b = printer::put_number(out, a, event);
@@ -144,7 +124,7 @@ fn put_l_lines(out: &mut [u8], at: usize, site: Site) -> usize
     requires { ⌜ at ≤ length (now out) ⌝ }
     ensures { λ r. ⌜ Puts (now (out .entry)) at (now (out .exit)) r (lLines (min (site .count) places) (site .log)) × (r ≤ at + 8320) ⌝ }
 {
-    let n = least(wide(site.count), 128);
+    let n = printer::least(printer::wide(site.count), 128);
     let mut to = at;
     let mut i = 0;
     while i < n {

@@ -1,5 +1,6 @@
 -- A state that the caller keeps as numbers, from call to call: what each call answers, and what it leaves of the lent buffers.
 use Prim.Native.Nat.{ℕ}
+use mathlib.Core.Path.{_≡_}
 use mathlib.Core.Bool.{Bool, cond, _&&_}
 use mathlib.Core.List.{List}
 use lib.Dec.{leb, eqb}
@@ -88,3 +89,21 @@ replayWords file words ks answers b = cond (hasRoom b) (wordsAfter file words ks
 
 unfoldable pub replayAnswers : List ℕ → List ℕ → List ℕ → List ℕ → Kept → List ℕ
 replayAnswers file words ks answers b = cond (hasRoom b) (answersAfter file words ks answers) answers
+
+-- what a call ensures: its number r, and what it leaves. A fresh state
+pub record Freshens (file : List ℕ) (b : Kept) (r : ℕ) (kept : Kept) : Type 0 where
+  pub number : r ≡ freshNumber file b
+  pub state : kept ≡ freshKept file b
+
+-- a request of thread k
+pub record Requests (file words : List ℕ) (b : Kept) (k : ℕ) (answer : List ℕ) (r : ℕ) (kept : Kept) (written : List ℕ) : Type 0 where
+  pub number : r ≡ requestNumber file words b k answer
+  pub state : kept ≡ requestKept file words b k answer
+  pub answered : written ≡ requestAnswer file words b k answer
+
+-- a list of requests
+pub record Replays (file words ks answers : List ℕ) (b : Kept) (r : ℕ) (kept : Kept) (tables written : List ℕ) : Type 0 where
+  pub number : r ≡ replayNumber file words ks answers b
+  pub state : kept ≡ replayKept file words ks answers b
+  pub tabled : tables ≡ replayWords file words ks answers b
+  pub answered : written ≡ replayAnswers file words ks answers b

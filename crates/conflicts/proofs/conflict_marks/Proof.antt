@@ -1,22 +1,22 @@
 -- `conflicts::conflict_marks` meets its contract: all unset, or the marks.
-use mathlib.Core.Path.{sym, _∙_}
 use native.Mathlib.Omega.{arith}
 use borrow.Author.Needs.{needs}
-use Rattle.tables.proofs.OutcomeLaws.{conflict-unfit, conflict-held}
+use Rattle.conflicts.proofs.MarkLaws.{held-few, conflictMarks-made}
 use Rattle.conflicts.proofs.conflict_marks.Tie as tie
 use Rattle.conflicts.proofs.conflict_marks.Statement.{statement}
 
-model-fault-requires : tie.Need-model-fault-requires
-model-fault-requires c κs = search needs
+marked-segments-requires : tie.Need-marked-segments-requires
+marked-segments-requires c κs = search needs
+
+masks-for-requires : tie.Need-masks-for-requires
+masks-for-requires c κs = search needs
+
+all-marks-requires : tie.Need-all-marks-requires
+all-marks-requires c κs = held-few (c .before .before .args .m) _ (c .before .marked-segments .ensures)
 
 returns : tie.Need-returns
-returns c = conflict-unfit (c .before .before .args .m) (λ e. omega arith) .1
-
-marks-of-requires : tie.Need-marks-of-requires
-marks-of-requires c κs = search needs
-
-returns-2 : tie.Need-returns-2
-returns-2 c = c .marks-of .ensures ∙ conflict-held (c .before .before .before .args .m) (sym (c .before .before .model-fault .ensures) ∙ c .before .if1 .left) .1
+returns c = conflictMarks-made (c .before .before .before .args .m) _ (c .before .before .marked-segments .ensures) _ _ (c .before .masks-for .ensures .0) (c .before .masks-for .ensures .1) (c .all-marks .ensures)
 
 pub conflict-marks-spec : {M : Type 1} → statement M
-conflict-marks-spec = tie.close (tie.spec model-fault-requires returns marks-of-requires returns-2)
+conflict-marks-spec =
+    tie.close (tie.spec marked-segments-requires masks-for-requires all-marks-requires returns)

@@ -7,7 +7,8 @@ use borrow.Author.Needs.{needs}
 use borrow.Author.Count.{below-more}
 use Rattle.conflicts.proofs.MaskLaws.{masksFor-none, masksFor-more}
 use Rattle.rules.proofs.FaultLaws.{segmentAt-read}
-use Rattle.rules.proofs.RuleLaws.{modelFault-counts, modelFault-statements}
+use Rattle.rules.proofs.RuleLaws.{modelFault-statements}
+use Rattle.conflicts.proofs.MarkLaws.{held-below, held-few}
 use Rattle.conflicts.specs.Mask.{masksFor}
 use Rattle.model.specs.Values.{segmentAt}
 use Rattle.machine.proofs.LengthLaws.{segments-length}
@@ -24,24 +25,25 @@ loop-holds : tie.Need-loop-holds Inv-loop μ-loop
 loop-holds c = (omega arith, masksFor-none _, λ k h. omega arith)
 
 mul-g : tie.Need-mul-g Inv-loop μ-loop
-mul-g c = let few = modelFault-counts (c .before .before .args .t1) (c .before .before .pre .0) .segments in omega arith
+mul-g c = let few = held-few (c .before .before .args .t1) _ (c .before .before .pre) in omega arith
 
 element-copy-out-g : tie.Need-element-copy-out-g Inv-loop μ-loop
-element-copy-out-g c = let few = modelFault-counts (c .before .before .args .t1) (c .before .before .pre .0) .segments in omega arith
+element-copy-out-g c = let few = held-few (c .before .before .args .t1) _ (c .before .before .pre) in omega arith
 
 masks-of-requires : tie.Need-masks-of-requires Inv-loop μ-loop
 masks-of-requires c κs =
     let m = c .before .before .before .args .t1 in
     let i = c .before .before .loop .i in
-    let few = modelFault-counts m (c .before .before .before .pre .0) .segments in
+    let (fit, all) = held-below m _ i (c .before .before .before .pre) (omega arith) in
+    let few = held-few m _ (c .before .before .before .pre) in
     let size = segments-length m _ (c .before .before .before .good .0) in
-    rw (segmentAt-read m i _ (omega arith)) (modelFault-statements m (c .before .before .before .pre .0) i (omega arith))
+    rw (segmentAt-read m i _ (omega arith)) (modelFault-statements m fit i (omega arith))
 
 mul-all : tie.Need-mul-all Inv-loop μ-loop
-mul-all c = let few = modelFault-counts (c .before .before .before .before .args .t1) (c .before .before .before .before .pre .0) .segments in omega arith
+mul-all c = let few = held-few (c .before .before .before .before .args .t1) _ (c .before .before .before .before .pre) in omega arith
 
 array-set-from-all : tie.Need-array-set-from-all Inv-loop μ-loop
-array-set-from-all c = let few = modelFault-counts (c .before .before .before .before .args .t1) (c .before .before .before .before .pre .0) .segments in omega arith
+array-set-from-all c = let few = held-few (c .before .before .before .before .args .t1) _ (c .before .before .before .before .pre) in omega arith
 
 add-i : tie.Need-add-i Inv-loop μ-loop
 add-i c = search needs
@@ -53,7 +55,7 @@ loop-again : tie.Need-loop-again Inv-loop μ-loop
 loop-again c =
     let m = c .before .before .before .before .args .t1 in
     let l = c .before .before .before .loop in
-    let few = modelFault-counts m (c .before .before .before .before .pre .0) .segments in
+    let few = held-few m _ (c .before .before .before .before .pre) in
     let size = segments-length m _ (c .before .before .before .before .good .0) in
     let read = segmentAt-read m (l .i) _ (omega arith) in (
       omega arith,

@@ -15,8 +15,8 @@ Inv-loop g n a₀ j₀ a j = (j ≤ n) × (a ≡ masksTo (g .statements) j)
 abbrev μ-loop : tie.MeasureT-loop
 μ-loop g n a₀ j₀ a j = n - j
 
-wide-requires : tie.Need-wide-requires Inv-loop μ-loop
-wide-requires c κs = search needs
+cast-n : tie.Need-cast-n Inv-loop μ-loop
+cast-n c = search needs
 
 loop-holds : tie.Need-loop-holds Inv-loop μ-loop
 loop-holds c = (omega arith, masksTo-none _)
@@ -41,9 +41,9 @@ loop-less c = search needs
 
 loop-again : tie.Need-loop-again Inv-loop μ-loop
 loop-again c =
-    let g = c .before .before .before .before .before .before .args .t1 in
+    let g = c .before .before .before .before .before .args .t1 in
     let l = c .before .before .before .before .loop in
-    let size = statements-length g _ (c .before .before .before .before .before .before .good .0) in
+    let size = statements-length g _ (c .before .before .before .before .before .good .0) in
     (omega arith, masksTo-more (g .statements) (l .j) _ _ _ _ (omega arith) (l .inv .1) (c .before .op-masks .ensures) (c .join-masks .ensures))
 
 test-mask-requires : tie.Need-test-mask-requires Inv-loop μ-loop
@@ -51,8 +51,8 @@ test-mask-requires c κs = search needs
 
 returns : tie.Need-returns Inv-loop μ-loop
 returns c =
-    let g = c .before .before .before .before .before .args .t1 in
-    let size = statements-length g _ (c .before .before .before .before .before .good .0) in
+    let g = c .before .before .before .before .args .t1 in
+    let size = statements-length g _ (c .before .before .before .before .good .0) in
     (masksOf-made g (c .before .before .before .loop .j) _ _ (omega arith) (c .before .before .before .loop .inv .1) (c .before .test-mask .ensures), omega arith)
 
 pub masks-of-spec : {M : Type 1} → statement M
@@ -61,7 +61,7 @@ masks-of-spec =
     (tie.spec
     Inv-loop
     μ-loop
-    wide-requires
+    cast-n
     loop-holds
     mul-x
     element-copy-out-x

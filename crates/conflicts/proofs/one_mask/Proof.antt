@@ -4,11 +4,11 @@ use borrow.Author.Needs.{needs}
 use Rattle.conflicts.proofs.one_mask.Statement.{statement}
 use Rattle.conflicts.proofs.one_mask.Tie as tie
 
-bit-of-requires : tie.Need-bit-of-requires
-bit-of-requires c κs = search needs
+bit-requires : tie.Need-bit-requires
+bit-requires c κs = search needs
 
 returns : tie.Need-returns
-returns c = rw (c .bit-of .ensures) refl
+returns c = rw (c .bit .ensures) refl
 
 pub one-mask-spec : {M : Type 1} → statement M
-one-mask-spec = tie.close (tie.spec bit-of-requires returns)
+one-mask-spec = tie.close (tie.spec bit-requires returns)

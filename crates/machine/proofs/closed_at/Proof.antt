@@ -13,11 +13,8 @@ enum-known-closer c = search needs
 next-of-requires : tie.Need-next-of-requires
 next-of-requires c κs = search needs
 
-wait-ends-requires : tie.Need-wait-ends-requires
-wait-ends-requires c κs = search needs
-
-state-after-requires : tie.Need-state-after-requires
-state-after-requires c κs = search needs
+waited-requires : tie.Need-waited-requires
+waited-requires c κs = search needs
 
 enum-known-closer-2 : tie.Need-enum-known-closer-2
 enum-known-closer-2 c = search needs
@@ -29,8 +26,7 @@ returns : tie.Need-returns
 returns c = closed-end _ _ _ _ (search needs)
 
 returns-2 : tie.Need-returns-2
-returns-2 c = rw (c .state-after .ensures, c .before .wait-ends .ensures, c .before .before .next-of .ensures)
-    (closed-time _ _ _ _ _ _ (c .before .before .before .before .closer .given .1))
+returns-2 c = rw (c .waited .ensures, c .before .next-of .ensures) (closed-time _ _ _ _ _ _ (c .before .before .before .closer .given .1))
 
 returns-3 : tie.Need-returns-3
 returns-3 c = rw (c .next-of2 .ensures) (closed-event _ _ _ _ _ _ (c .before .before .closer2 .given .1))
@@ -42,8 +38,7 @@ closed-at-spec =
     enum-told
     enum-known-closer
     next-of-requires
-    wait-ends-requires
-    state-after-requires
+    waited-requires
     enum-known-closer-2
     next-of-requires-2
     returns

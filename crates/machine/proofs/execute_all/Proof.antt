@@ -1,41 +1,31 @@
 -- `machine::execute_all` meets its contract. The invariant: the first j statements are done.
--- Past the 32 places the loop stops, and so does the body.
 use Prim.Native.Nat.{_≤_, _-_}
 use mathlib.Core.Path.{_≡_}
 use native.Mathlib.Numerals.{add-one}
 use native.Mathlib.Omega.{arith}
-use lib.ListN.{take}
+use lib.ListN.{length, take}
+use lib.Seq.{take-all}
 use borrow.Author.Needs.{needs}
 use Rattle.model.specs.Statement.{execute}
-use Rattle.model.specs.Values.{noStatement}
-use Rattle.machine.proofs.LengthLaws.{statements-length}
-use Rattle.machine.proofs.StatementLaws.{execute-none, execute-more, bodyOf-whole, bodyOf-past}
+use Rattle.model.specs.Values.{noStatement, bodyOf}
+use Rattle.machine.proofs.StatementLaws.{execute-none, execute-more}
 use Rattle.machine.proofs.execute_all.Statement.{statement}
 use Rattle.machine.proofs.execute_all.Tie as tie
 
 abbrev Inv-loop : tie.InvT-loop
-Inv-loop g count n w₀ j₀ w j = (j ≤ n) × ((j ≤ 32) × (w .at ≡ execute (take j (g .statements)) (w₀ .at)))
+Inv-loop g n w₀ j₀ w j = (j ≤ n) × (w .at ≡ execute (take j (bodyOf g)) (w₀ .at))
 
 abbrev μ-loop : tie.MeasureT-loop
-μ-loop g count n w₀ j₀ w j = n - j
+μ-loop g n w₀ j₀ w j = n - j
 
-wide-requires : tie.Need-wide-requires Inv-loop μ-loop
-wide-requires c κs = search needs
+body-length-requires : tie.Need-body-length-requires Inv-loop μ-loop
+body-length-requires c κs = search needs
 
 loop-holds : tie.Need-loop-holds Inv-loop μ-loop
-loop-holds c = (omega arith, (omega arith, execute-none (c .before .args .t1 .statements) _))
+loop-holds c = (omega arith, execute-none (bodyOf (c .before .args .g)) _)
 
-returns : tie.Need-returns Inv-loop μ-loop
-returns c =
-    let g = c .before .before .before .before .args .t1 in
-    let size = statements-length g _ (c .before .before .before .before .good .0) in
-    rw (← bodyOf-past g (c .before .before .loop .j) (omega arith) (omega arith)) (c .before .before .loop .inv .1 .1)
-
-mul-x : tie.Need-mul-x Inv-loop μ-loop
-mul-x c = omega arith
-
-element-copy-out-x : tie.Need-element-copy-out-x Inv-loop μ-loop
-element-copy-out-x c = omega arith
+op-at-requires : tie.Need-op-at-requires Inv-loop μ-loop
+op-at-requires c κs = omega arith
 
 execute-op-requires : tie.Need-execute-op-requires Inv-loop μ-loop
 execute-op-requires c κs = search needs
@@ -48,19 +38,14 @@ loop-less c = omega arith
 
 loop-again : tie.Need-loop-again Inv-loop μ-loop
 loop-again c =
-    let g = c .before .before .before .before .before .before .args .t1 in
-    let size = statements-length g _ (c .before .before .before .before .before .before .good .0) in
-    let j = c .before .before .before .before .loop .j in (
+    let g = c .before .before .before .before .before .args .g in
+    let j = c .before .before .before .loop .j in (
       omega arith,
-      (
-        omega arith,
-        rw (add-one, execute-more (g .statements) j noStatement _ (omega arith), ← c .before .before .before .before .loop .inv .1 .1)
-            (c .execute-op .ensures),
-      ),
+      rw (add-one, execute-more (bodyOf g) j noStatement _ (omega arith), ← c .before .before .before .loop .inv .1, ← c .before .op-at .ensures) (c .execute-op .ensures),
     )
 
-returns-2 : tie.Need-returns-2 Inv-loop μ-loop
-returns-2 c = rw (← bodyOf-whole (c .before .before .before .args .t1) (c .before .loop .j) (omega arith)) (c .before .loop .inv .1 .1)
+returns : tie.Need-returns Inv-loop μ-loop
+returns c = rw (← take-all (c .before .loop .j) (bodyOf (c .before .before .before .args .g)) (omega arith)) (c .before .loop .inv .1)
 
 pub execute-all-spec : {M : Type 1} → statement M
 execute-all-spec =
@@ -68,13 +53,11 @@ execute-all-spec =
     (tie.spec
     Inv-loop
     μ-loop
-    wide-requires
+    body-length-requires
     loop-holds
-    returns
-    mul-x
-    element-copy-out-x
+    op-at-requires
     execute-op-requires
     add-j
     loop-less
     loop-again
-    returns-2)
+    returns)

@@ -7,9 +7,6 @@ use Rattle.machine.proofs.LengthLaws.{variables-length}
 use Rattle.machine.proofs.value.Statement.{statement}
 use Rattle.machine.proofs.value.Tie as tie
 
-wide-word-requires : tie.Need-wide-word-requires
-wide-word-requires c κs = search needs
-
 mul-result : tie.Need-mul-result
 mul-result c = search needs
 
@@ -17,12 +14,11 @@ element-copy-out-result : tie.Need-element-copy-out-result
 element-copy-out-result c = search needs
 
 returns : tie.Need-returns
-returns c = rw (c .before .before .wide-word .ensures)
+returns c = search needs
 
 returns-2 : tie.Need-returns-2
-returns-2 c = sym (List·getD-eq-default (c .before .before .args .t1 .at) 0
-    (omega (arith, variables-length (c .before .before .args .t1) _ (c .before .before .good .0))))
+returns-2 c = sym (List·getD-eq-default (c .before .args .t1 .at) 0
+    (omega (arith, variables-length (c .before .args .t1) _ (c .before .good .0))))
 
 pub value-spec : {M : Type 1} → statement M
-value-spec =
-    tie.close (tie.spec wide-word-requires mul-result element-copy-out-result returns returns-2)
+value-spec = tie.close (tie.spec mul-result element-copy-out-result returns returns-2)

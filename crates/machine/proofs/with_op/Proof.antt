@@ -11,8 +11,8 @@ enum-known-op c = search needs
 returns : tie.Need-returns
 returns c = withOp-other _ (c .before .args .op) (c .match .keys2)
 
-wide-requires : tie.Need-wide-requires
-wide-requires c κs = search needs
+cast-i : tie.Need-cast-i
+cast-i c = search needs
 
 array-write-at : tie.Need-array-write-at
 array-write-at c = search needs
@@ -21,8 +21,7 @@ add-t9 : tie.Need-add-t9
 add-t9 c = search needs
 
 returns-2 : tie.Need-returns-2
-returns-2 c = rw (c .before .before .before .op .given .1, c .before .wide .ensures) refl
+returns-2 c = rw (c .before .before .op .given .1) refl
 
 pub with-op-spec : {M : Type 1} → statement M
-with-op-spec =
-    tie.close (tie.spec enum-known-op returns wide-requires array-write-at add-t9 returns-2)
+with-op-spec = tie.close (tie.spec enum-known-op returns cast-i array-write-at add-t9 returns-2)

@@ -7,9 +7,6 @@ use Rattle.machine.proofs.LengthLaws.{variables-length}
 use Rattle.machine.proofs.with_value.Statement.{statement}
 use Rattle.machine.proofs.with_value.Tie as tie
 
-wide-requires : tie.Need-wide-requires
-wide-requires c κs = search needs
-
 mul-w : tie.Need-mul-w
 mul-w c = search needs
 
@@ -17,11 +14,10 @@ element-write-w : tie.Need-element-write-w
 element-write-w c = search needs
 
 returns : tie.Need-returns
-returns c = rw (c .before .wide .ensures)
+returns c = search needs
 
 returns-2 : tie.Need-returns-2
-returns-2 c = sym (set-out (c .before .before .args .v .at) _ _
-    (omega (arith, variables-length (c .before .before .args .v) _ (c .before .before .good .0))))
+returns-2 c = sym (set-out (c .before .args .v .at) _ _ (omega (arith, variables-length (c .before .args .v) _ (c .before .good .0))))
 
 pub with-value-spec : {M : Type 1} → statement M
-with-value-spec = tie.close (tie.spec wide-requires mul-w element-write-w returns returns-2)
+with-value-spec = tie.close (tie.spec mul-w element-write-w returns returns-2)

@@ -1,4 +1,5 @@
 -- `numbers::pair_at` meets its contract: its three words.
+use mathlib.Core.Path.{refl}
 use borrow.Author.Needs.{needs}
 use Rattle.numbers.specs.Numbers.{pairAt}
 use Rattle.numbers.proofs.pair_at.Statement.{statement}
@@ -7,45 +8,33 @@ use Rattle.numbers.proofs.pair_at.Tie as tie
 mul-p : tie.Need-mul-p
 mul-p c = search needs
 
-add-word-at : tie.Need-add-word-at
-add-word-at c = search needs
+add-byte-at : tie.Need-add-byte-at
+add-byte-at c = search needs
 
-word-at-requires : tie.Need-word-at-requires
-word-at-requires c κs = search needs
+byte-at-requires : tie.Need-byte-at-requires
+byte-at-requires c κs = search needs
 
-byte-of-requires : tie.Need-byte-of-requires
-byte-of-requires c κs = search needs
+add-cycle-at : tie.Need-add-cycle-at
+add-cycle-at c = search needs
 
-add-word-at-2 : tie.Need-add-word-at-2
-add-word-at-2 c = search needs
+add-cycle-at-2 : tie.Need-add-cycle-at-2
+add-cycle-at-2 c = search needs
 
-word-at-requires-2 : tie.Need-word-at-requires-2
-word-at-requires-2 c κs = search needs
-
-add-word-at-3 : tie.Need-add-word-at-3
-add-word-at-3 c = search needs
-
-word-at-requires-3 : tie.Need-word-at-requires-3
-word-at-requires-3 c κs = search needs
-
-delta-of-requires : tie.Need-delta-of-requires
-delta-of-requires c κs = search needs
+cycle-at-requires : tie.Need-cycle-at-requires
+cycle-at-requires c κs = search needs
 
 returns : tie.Need-returns
 unfolding pairAt
-returns c = cc
+returns c = rw (c .before .byte-at .ensures, c .cycle-at .ensures) refl
 
 pub pair-at-spec : {M : Type 1} → statement M
 pair-at-spec =
     tie.close
     (tie.spec
     mul-p
-    add-word-at
-    word-at-requires
-    byte-of-requires
-    add-word-at-2
-    word-at-requires-2
-    add-word-at-3
-    word-at-requires-3
-    delta-of-requires
+    add-byte-at
+    byte-at-requires
+    add-cycle-at
+    add-cycle-at-2
+    cycle-at-requires
     returns)

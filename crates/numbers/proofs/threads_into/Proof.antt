@@ -1,5 +1,5 @@
 -- `numbers::threads_into` meets its contract. The invariant: the words of the first k records.
-use Prim.Native.Nat.{_≤_, _+_, _-_}
+use Prim.Native.Nat.{_≤_, _+_, _*_, _-_}
 use mathlib.Core.Path.{_≡_, refl, ap, _∙_}
 use native.Mathlib.Omega.{arith}
 use lib.ListN.{length, take}
@@ -24,17 +24,23 @@ returns c = let s = c .before .before in records-short (s .args .t1) (s .args .r
 loop-holds : tie.Need-loop-holds Inv-loop μ-loop
 loop-holds c = (omega arith, refl, inTurn-none threadWords (c .before .before .args .t1 .at) _ 0)
 
-mul-x : tie.Need-mul-x Inv-loop μ-loop
-mul-x c = search needs
+mul-thread-words : tie.Need-mul-thread-words Inv-loop μ-loop
+mul-thread-words c = search needs
 
-element-copy-out-x : tie.Need-element-copy-out-x Inv-loop μ-loop
-element-copy-out-x c = search needs
+element-copy-out-thread-words : tie.Need-element-copy-out-thread-words Inv-loop μ-loop
+element-copy-out-thread-words c = search needs
 
-mul-put-thread : tie.Need-mul-put-thread Inv-loop μ-loop
-mul-put-thread c = search needs
+thread-words-requires : tie.Need-thread-words-requires Inv-loop μ-loop
+thread-words-requires c κs = search needs
 
-put-thread-requires : tie.Need-put-thread-requires Inv-loop μ-loop
-put-thread-requires c κs = search needs
+mul-put-words : tie.Need-mul-put-words Inv-loop μ-loop
+mul-put-words c = search needs
+
+slice-aggregate-put-words : tie.Need-slice-aggregate-put-words Inv-loop μ-loop
+slice-aggregate-put-words c = search needs
+
+put-words-requires : tie.Need-put-words-requires Inv-loop μ-loop
+put-words-requires c κs = search needs
 
 add-k : tie.Need-add-k Inv-loop μ-loop
 add-k c = search needs
@@ -44,10 +50,12 @@ loop-less c = search needs
 
 loop-again : tie.Need-loop-again Inv-loop μ-loop
 loop-again c =
-    let s = c .before .before .before .before .before .before .before .before .before in
-    let l = c .before .before .before .before .before .before .loop in
+    let w = c .before .before .before .before .before in
+    let l = w .before .before .before .loop in
+    let s = w .before .before .before .before .before .before in
     let size = threads-length (s .args .t1) _ (s .good .0) in
-    let e = (c .before .before .put-thread .ensures) ∙ inTurn-stored threadWords 5 threadWords-length (s .args .t1 .at) _ (l .records) 0 (l .k) _ _ (omega arith) (l .inv .2) (omega arith) in
+    let stored = (c .before .before .put-words .ensures) ∙ ap (sets (l .records) (5 * l .k)) (w .thread-words .ensures) in
+    let e = stored ∙ inTurn-stored threadWords 5 threadWords-length (s .args .t1 .at) (s .args .records .now) (l .records) 0 (l .k) _ _ (omega arith) (l .inv .2) (omega arith) in
     (omega arith, ap length e ∙ length-sets _ 0 (inTurn threadWords (take (l .k + 1) (s .args .t1 .at))), e)
 
 same-length : tie.Need-same-length Inv-loop μ-loop
@@ -68,10 +76,12 @@ threads-into-spec =
     μ-loop
     returns
     loop-holds
-    mul-x
-    element-copy-out-x
-    mul-put-thread
-    put-thread-requires
+    mul-thread-words
+    element-copy-out-thread-words
+    thread-words-requires
+    mul-put-words
+    slice-aggregate-put-words
+    put-words-requires
     add-k
     loop-less
     loop-again

@@ -2,6 +2,7 @@
 use Prim.Native.Nat.{_≤_, _+_, _-_}
 use mathlib.Core.Path.{_≡_, refl, ap, _∙_}
 use native.Mathlib.Omega.{arith}
+use native.Mathlib.Nat.{zero-add}
 use lib.ListN.{length, take}
 use lib.Seq.{sets, length-sets}
 use borrow.Author.Needs.{needs}
@@ -46,7 +47,7 @@ loop-again c =
     let x = c .before .before .before .before .args in
     let size = variables-length (x .t1) _ (c .before .before .before .before .good .0) in
     let l = c .before .before .loop in
-    let e = take-stored (x .t1 .at) (x .out .now) (l .out) (l .i) 0 (omega arith) (l .inv .2) in
+    let e = rw zero-add at (take-stored (x .t1 .at) (x .out .now) (l .out) 0 (l .i) 0 (omega arith) (l .inv .2)) in
     (omega arith, ap length e ∙ length-sets (x .out .now) 0 (take (l .i + 1) (x .t1 .at)), e)
 
 same-length : tie.Need-same-length Inv-loop μ-loop

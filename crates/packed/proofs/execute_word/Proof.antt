@@ -17,7 +17,7 @@ element-write-v : tie.Need-element-write-v
 element-write-v c = search needs
 
 returns : tie.Need-returns
-returns c = (rw (opOf-set (c .before .args .w) (c .if1 .taken)) refl, rw (opOf-set (c .before .args .w) (c .if1 .taken)) refl)
+returns c = let h = opOf-set (c .before .args .w) (c .if1 .taken) in (rw h refl, (rw h refl, rw h refl))
 
 mul-wrapping-add-u32 : tie.Need-mul-wrapping-add-u32
 mul-wrapping-add-u32 c = search needs
@@ -38,7 +38,7 @@ element-write-v-2 : tie.Need-element-write-v-2
 element-write-v-2 c = search needs
 
 returns-2 : tie.Need-returns-2
-returns-2 c = (rw (opOf-add (c .before .before .before .before .args .w) (c .before .before .before .if1 .left) (c .before .before .if2 .taken)) (ap (λ (x : ℕ). set (c .before .before .before .before .args .v .now) (c .before .before .before .before .args .w / 8 % 64) x) (c .wrapping-add-u32 .ensures)), rw (opOf-add (c .before .before .before .before .args .w) (c .before .before .before .if1 .left) (c .before .before .if2 .taken)) refl)
+returns-2 c = let h = opOf-add (c .before .before .before .before .args .w) (c .before .before .before .if1 .left) (c .before .before .if2 .taken) in (rw h (ap (λ (x : ℕ). set (c .before .before .before .before .args .v .now) (c .before .before .before .before .args .w / 8 % 64) x) (c .wrapping-add-u32 .ensures)), (rw h refl, rw h refl))
 
 mul-v-3 : tie.Need-mul-v-3
 mul-v-3 c = search needs
@@ -53,7 +53,7 @@ element-write-v-3 : tie.Need-element-write-v-3
 element-write-v-3 c = search needs
 
 returns-3 : tie.Need-returns-3
-returns-3 c = (rw (opOf-copy (c .before .before .before .before .args .w) (c .before .before .before .if1 .left) (c .before .before .if2 .left) (c .before .if3 .taken)) refl, rw (opOf-copy (c .before .before .before .before .args .w) (c .before .before .before .if1 .left) (c .before .before .if2 .left) (c .before .if3 .taken)) refl)
+returns-3 c = let h = opOf-copy (c .before .before .before .before .args .w) (c .before .before .before .if1 .left) (c .before .before .if2 .left) (c .before .if3 .taken) in (rw h refl, (rw h refl, rw h refl))
 
 mul-wrapping-add-u32-2 : tie.Need-mul-wrapping-add-u32-2
 mul-wrapping-add-u32-2 c = search needs
@@ -77,7 +77,7 @@ element-write-v-4 : tie.Need-element-write-v-4
 element-write-v-4 c = search needs
 
 returns-4 : tie.Need-returns-4
-returns-4 c = (rw (opOf-add-variable (c .before .before .before .before .before .before .before .args .w) (c .before .before .before .before .before .before .if1 .left) (c .before .before .before .before .before .if2 .left) (c .before .before .before .before .if3 .left) (c .before .before .before .if4 .taken)) (ap (λ (x : ℕ). set (c .before .before .before .before .before .before .before .args .v .now) (c .before .before .before .before .before .before .before .args .w / 8 % 64) x) (c .wrapping-add-u322 .ensures)), rw (opOf-add-variable (c .before .before .before .before .before .before .before .args .w) (c .before .before .before .before .before .before .if1 .left) (c .before .before .before .before .before .if2 .left) (c .before .before .before .before .if3 .left) (c .before .before .before .if4 .taken)) refl)
+returns-4 c = let h = opOf-add-variable (c .before .before .before .before .before .before .before .args .w) (c .before .before .before .before .before .before .if1 .left) (c .before .before .before .before .before .if2 .left) (c .before .before .before .before .if3 .left) (c .before .before .before .if4 .taken) in (rw h (ap (λ (x : ℕ). set (c .before .before .before .before .before .before .before .args .v .now) (c .before .before .before .before .before .before .before .args .w / 8 % 64) x) (c .wrapping-add-u322 .ensures)), (rw h refl, rw h refl))
 
 mul-difference : tie.Need-mul-difference
 mul-difference c = search needs
@@ -101,13 +101,31 @@ element-write-v-5 : tie.Need-element-write-v-5
 element-write-v-5 c = search needs
 
 returns-5 : tie.Need-returns-5
-returns-5 c = (rw (opOf-sub-variable (c .before .before .before .before .before .before .before .before .args .w) (c .before .before .before .before .before .before .before .if1 .left) (c .before .before .before .before .before .before .if2 .left) (c .before .before .before .before .before .if3 .left) (c .before .before .before .before .if4 .left) (c .before .before .before .if5 .taken)) (ap (λ (x : ℕ). set (c .before .before .before .before .before .before .before .before .args .v .now) (c .before .before .before .before .before .before .before .before .args .w / 8 % 64) x) (c .difference .ensures)), rw (opOf-sub-variable (c .before .before .before .before .before .before .before .before .args .w) (c .before .before .before .before .before .before .before .if1 .left) (c .before .before .before .before .before .before .if2 .left) (c .before .before .before .before .before .if3 .left) (c .before .before .before .before .if4 .left) (c .before .before .before .if5 .taken)) refl)
+returns-5 c = let h = opOf-sub-variable (c .before .before .before .before .before .before .before .before .args .w) (c .before .before .before .before .before .before .before .if1 .left) (c .before .before .before .before .before .before .if2 .left) (c .before .before .before .before .before .if3 .left) (c .before .before .before .before .if4 .left) (c .before .before .before .if5 .taken) in (rw h (ap (λ (x : ℕ). set (c .before .before .before .before .before .before .before .before .args .v .now) (c .before .before .before .before .before .before .before .before .args .w / 8 % 64) x) (c .difference .ensures)), (rw h refl, rw h refl))
 
 element-write-told : tie.Need-element-write-told
 element-write-told c = search needs
 
+mul-first : tie.Need-mul-first
+mul-first c = search needs
+
+element-copy-out-first : tie.Need-element-copy-out-first
+element-copy-out-first c = search needs
+
+add-past : tie.Need-add-past
+add-past c = search needs
+
+mul-past : tie.Need-mul-past
+mul-past c = search needs
+
+element-copy-out-past : tie.Need-element-copy-out-past
+element-copy-out-past c = search needs
+
+widen-requires : tie.Need-widen-requires
+widen-requires c κs = search needs
+
 returns-6 : tie.Need-returns-6
-returns-6 c = (rw (opOf-notify (c .before .before .before .before .before .args .w) (c .before .before .before .before .if1 .left) (c .before .before .before .if2 .left) (c .before .before .if3 .left) (c .before .if4 .left) (c .if5 .left)) refl, rw (opOf-notify (c .before .before .before .before .before .args .w) (c .before .before .before .before .if1 .left) (c .before .before .before .if2 .left) (c .before .before .if3 .left) (c .before .if4 .left) (c .if5 .left)) refl)
+returns-6 c = let h = opOf-notify (c .before .before .before .before .before .before .before .before .before .args .w) (c .before .before .before .before .before .before .before .before .if1 .left) (c .before .before .before .before .before .before .before .if2 .left) (c .before .before .before .before .before .before .if3 .left) (c .before .before .before .before .before .if4 .left) (c .before .before .before .before .if5 .left) in (rw h refl, (rw h refl, rw h (c .widen .ensures)))
 
 pub execute-word-spec : {M : Type 1} → statement M
 execute-word-spec =
@@ -146,4 +164,10 @@ execute-word-spec =
     element-write-v-5
     returns-5
     element-write-told
+    mul-first
+    element-copy-out-first
+    add-past
+    mul-past
+    element-copy-out-past
+    widen-requires
     returns-6)

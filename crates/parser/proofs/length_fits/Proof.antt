@@ -1,10 +1,13 @@
 -- `parser::length_fits` meets its contract, kind by kind.
+use mathlib.Core.Path.{ap, _∙_}
 use borrow.Author.Needs.{needs}
 use borrow.Author.Tests.{ne-eqb}
-use Rattle.reader.specs.Record.{lengthFits}
-use Rattle.parser.specs.Parts.{segmentLengthFits}
+use Rattle.reader.specs.Record.{segmentKind, lengthFits}
 use Rattle.parser.proofs.length_fits.Statement.{statement}
 use Rattle.parser.proofs.length_fits.Tie as tie
+
+size-of-requires : tie.Need-size-of-requires
+size-of-requires c κs = search needs
 
 segment-length-fits-requires : tie.Need-segment-length-fits-requires
 segment-length-fits-requires c κs = search needs
@@ -14,8 +17,7 @@ unfolding lengthFits
 returns c = rw (c .match .keys1)
 
 returns-2 : tie.Need-returns-2
-unfolding lengthFits segmentLengthFits
-returns-2 c = rw (c .before .match .keys2) (c .segment-length-fits .ensures)
+returns-2 c = rw (c .before .before .match .keys2) (c .segment-length-fits .ensures ∙ ap (lengthFits segmentKind) (c .before .size-of .ensures))
 
 returns-3 : tie.Need-returns-3
 unfolding lengthFits
@@ -26,5 +28,4 @@ unfolding lengthFits
 returns-4 c = simp (ne-eqb _ 1 (c .match .rest .0 .0 .1), ne-eqb _ 2 (c .match .rest .0 .1), ne-eqb _ 3 (c .match .rest .1))
 
 pub length-fits-spec : {M : Type 1} → statement M
-length-fits-spec =
-    tie.close (tie.spec segment-length-fits-requires returns returns-2 returns-3 returns-4)
+length-fits-spec = tie.close (tie.spec size-of-requires segment-length-fits-requires returns returns-2 returns-3 returns-4)

@@ -1,6 +1,6 @@
 -- `plainrun::answer` meets its contract.
 use borrow.Author.Needs.{needs}
-use Rattle.plainrun.proofs.AnswerLaws.{counted}
+use Rattle.printer.proofs.CopyLaws.{counts-text}
 use Rattle.plainrun.proofs.answer.Statement.{statement}
 use Rattle.plainrun.proofs.answer.Tie as tie
 
@@ -14,7 +14,7 @@ returns : tie.Need-returns
 returns c =
     let s = c .before .before .before .before .before .before in
     let p = c .before .before .plain-sheet in
-    (p .ensures .0, counted _ (s .args .out .now) _ _ (p .ensures .0 .0) (p .kept .1 .1 .0))
+    (p .ensures .0, counts-text _ (s .args .out .now) _ _ (p .ensures .0 .0) (p .kept .1 .1 .0))
 
 pub answer-spec : {M : Type 1} → statement M
 answer-spec = tie.close (tie.spec plain-sheet-requires same-length returns)

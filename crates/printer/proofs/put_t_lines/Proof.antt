@@ -4,9 +4,9 @@ use mathlib.Core.Path.{_≡_}
 use native.Mathlib.Omega.{arith}
 use borrow.Author.Needs.{needs}
 use Rattle.model.specs.Record.{threadAt}
-use Rattle.sheet.specs.Sheet.{tLines}
+use Rattle.sheet.specs.Sheet.{tLine, tLines, restOf}
 use Rattle.printer.specs.Put.{Puts}
-use Rattle.printer.proofs.PutLaws.{puts-none}
+use Rattle.printer.proofs.PutLaws.{puts-none, puts-then}
 use Rattle.printer.proofs.LineLaws.{puts-t-more}
 use Rattle.printer.proofs.put_t_lines.Statement.{statement}
 use Rattle.printer.proofs.put_t_lines.Tie as tie
@@ -36,8 +36,20 @@ mul-x c = omega arith
 element-copy-out-x : tie.Need-element-copy-out-x Inv-loop μ-loop
 element-copy-out-x c = omega arith
 
-put-t-line-requires : tie.Need-put-t-line-requires Inv-loop μ-loop
-put-t-line-requires c κs = omega arith
+put-byte-requires : tie.Need-put-byte-requires Inv-loop μ-loop
+put-byte-requires c κs = search needs
+
+put-number-requires : tie.Need-put-number-requires Inv-loop μ-loop
+put-number-requires c κs = omega arith
+
+long-byte-requires : tie.Need-long-byte-requires Inv-loop μ-loop
+long-byte-requires c κs = search needs
+
+put-number-requires-2 : tie.Need-put-number-requires-2 Inv-loop μ-loop
+put-number-requires-2 c κs = search needs
+
+put-state-requires : tie.Need-put-state-requires Inv-loop μ-loop
+put-state-requires c κs = search needs
 
 add-k : tie.Need-add-k Inv-loop μ-loop
 add-k c = omega arith
@@ -46,12 +58,13 @@ loop-less : tie.Need-loop-less Inv-loop μ-loop
 loop-less c = omega arith
 
 loop-again : tie.Need-loop-again Inv-loop μ-loop
-unfolding threadAt
+unfolding threadAt tLine restOf
 loop-again c =
-    let l = c .before .before .before .before .before .before in (
+    let l = c .before .before .before .before .before .before .before .before .before .before .before .before .before .before .before .before .before .before .before in (
       omega arith,
       (
-        puts-t-more (l .before .before .before .before .before .args .t4 .at) (l .loop .k) (l .loop .inv .1 .0) (c .before .before .put-t-line .ensures .0),
+        puts-t-more (l .before .before .before .before .before .args .t4 .at) (l .loop .k) (l .loop .inv .1 .0)
+            (puts-then (c .before .before .before .before .before .before .before .before .before .before .before .before .before .before .before .put-byte .ensures) (puts-then (c .before .before .before .before .before .before .before .before .before .before .before .put-number .ensures .0) (puts-then (rw (c .before .before .before .before .before .before .before .long-byte .ensures) at (c .before .before .before .before .before .before .put-number2 .ensures .0)) (c .before .before .put-state .ensures .0)))),
         omega arith,
       ),
     )
@@ -76,7 +89,11 @@ put-t-lines-spec =
     loop-holds
     mul-x
     element-copy-out-x
-    put-t-line-requires
+    put-byte-requires
+    put-number-requires
+    long-byte-requires
+    put-number-requires-2
+    put-state-requires
     add-k
     loop-less
     loop-again

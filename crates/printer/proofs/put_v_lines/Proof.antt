@@ -3,9 +3,9 @@ use Prim.Native.Nat.{_+_, _*_, _-_, _≤_, min}
 use mathlib.Core.Path.{_≡_}
 use native.Mathlib.Omega.{arith}
 use borrow.Author.Needs.{needs}
-use Rattle.sheet.specs.Sheet.{vLines}
+use Rattle.sheet.specs.Sheet.{vLine, vLines, restOf}
 use Rattle.printer.specs.Put.{Puts}
-use Rattle.printer.proofs.PutLaws.{puts-none}
+use Rattle.printer.proofs.PutLaws.{puts-none, puts-then}
 use Rattle.printer.proofs.LineLaws.{puts-v-more}
 use Rattle.printer.proofs.put_v_lines.Statement.{statement}
 use Rattle.printer.proofs.put_v_lines.Tie as tie
@@ -35,11 +35,17 @@ mul-x c = omega arith
 element-copy-out-x : tie.Need-element-copy-out-x Inv-loop μ-loop
 element-copy-out-x c = omega arith
 
+put-byte-requires : tie.Need-put-byte-requires Inv-loop μ-loop
+put-byte-requires c κs = search needs
+
+put-number-requires : tie.Need-put-number-requires Inv-loop μ-loop
+put-number-requires c κs = omega arith
+
 long-word-requires : tie.Need-long-word-requires Inv-loop μ-loop
 long-word-requires c κs = search needs
 
-put-v-line-requires : tie.Need-put-v-line-requires Inv-loop μ-loop
-put-v-line-requires c κs = omega arith
+put-last-requires : tie.Need-put-last-requires Inv-loop μ-loop
+put-last-requires c κs = search needs
 
 add-i : tie.Need-add-i Inv-loop μ-loop
 add-i c = omega arith
@@ -48,11 +54,13 @@ loop-less : tie.Need-loop-less Inv-loop μ-loop
 loop-less c = omega arith
 
 loop-again : tie.Need-loop-again Inv-loop μ-loop
+unfolding vLine restOf
 loop-again c =
-    let l = c .before .before .before .before .before .before .before in (
+    let l = c .before .before .before .before .before .before .before .before .before .before .before .before .before .before .before in (
       omega arith,
       (
-        puts-v-more (l .before .before .before .before .before .args .t4 .at) (l .loop .i) _ (c .before .before .before .long-word .ensures) (l .loop .inv .1 .0) (c .before .before .put-v-line .ensures .0),
+        puts-v-more (l .before .before .before .before .before .args .t4 .at) (l .loop .i) _ (c .before .before .before .long-word .ensures) (l .loop .inv .1 .0)
+            (puts-then (c .before .before .before .before .before .before .before .before .before .before .before .put-byte .ensures) (puts-then (c .before .before .before .before .before .before .before .put-number .ensures .0) (c .before .before .put-last .ensures .0))),
         omega arith,
       ),
     )
@@ -77,8 +85,10 @@ put-v-lines-spec =
     loop-holds
     mul-x
     element-copy-out-x
+    put-byte-requires
+    put-number-requires
     long-word-requires
-    put-v-line-requires
+    put-last-requires
     add-i
     loop-less
     loop-again

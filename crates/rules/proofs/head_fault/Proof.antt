@@ -1,38 +1,15 @@
--- `rules::head_fault` meets its contract, test by test.
-use borrow.Author.Tests.{le-leb, lt-leb}
+-- `rules::head_fault` meets its contract.
+use borrow.Author.Needs.{needs}
 use Rattle.model.specs.Rules.{headFault}
 use Rattle.rules.proofs.head_fault.Statement.{statement}
 use Rattle.rules.proofs.head_fault.Tie as tie
 
+unless-requires : tie.Need-unless-requires
+unless-requires c κs = search needs
+
 returns : tie.Need-returns
 unfolding headFault
-returns c = simp (lt-leb _ _ (c .if1 .taken))
-
-returns-2 : tie.Need-returns-2
-unfolding headFault
-returns-2 c = simp (le-leb _ _ (c .before .before .if1 .left), lt-leb _ _ (c .if2 .taken))
-
-returns-3 : tie.Need-returns-3
-unfolding headFault
-returns-3 c = simp (le-leb _ _ (c .before .before .before .if1 .left), le-leb _ _ (c .before .if2 .left), lt-leb _ _ (c .if3 .taken))
-
-returns-4 : tie.Need-returns-4
-unfolding headFault
-returns-4 c = simp (
-  le-leb _ _ (c .before .before .before .before .if1 .left),
-  le-leb _ _ (c .before .before .if2 .left),
-  le-leb _ _ (c .before .if3 .left),
-  lt-leb _ _ (c .if4 .taken),
-)
-
-returns-5 : tie.Need-returns-5
-unfolding headFault
-returns-5 c = simp (
-  le-leb _ _ (c .before .before .before .before .if1 .left),
-  le-leb _ _ (c .before .before .if2 .left),
-  le-leb _ _ (c .before .if3 .left),
-  le-leb _ _ (c .if4 .left),
-)
+returns c = c .unless .ensures
 
 pub head-fault-spec : {M : Type 1} → statement M
-head-fault-spec = tie.close (tie.spec returns returns-2 returns-3 returns-4 returns-5)
+head-fault-spec = tie.close (tie.spec unless-requires returns)

@@ -1,7 +1,8 @@
 -- `rules::leaves_model` meets its contract, closer by closer.
+use mathlib.Core.Path.{refl}
+use mathlib.Core.Logic.{⊎-elim}
 use borrow.Author.Needs.{needs}
 use Rattle.model.specs.Rules.{leavesModel}
-use Rattle.rules.proofs.FaultLaws.{leaves-first, leaves-second}
 use Rattle.rules.proofs.leaves_model.Statement.{statement}
 use Rattle.rules.proofs.leaves_model.Tie as tie
 
@@ -20,29 +21,8 @@ returns c = search needs
 
 returns-2 : tie.Need-returns-2
 unfolding leavesModel
-returns-2 c = rw (c .before .before .before .closer .given .1) (leaves-first _ _ _ (c .if1 .taken))
-
-returns-3 : tie.Need-returns-3
-unfolding leavesModel
-returns-3 c = rw (c .before .before .before .before .closer .given .1) (leaves-second _ _ _ (c .before .if1 .left))
-
-returns-4 : tie.Need-returns-4
-unfolding leavesModel
-returns-4 c = rw (c .before .before .before .closer2 .given .1) (leaves-first _ _ _ (c .if2 .taken))
-
-returns-5 : tie.Need-returns-5
-unfolding leavesModel
-returns-5 c = rw (c .before .before .before .before .closer2 .given .1) (leaves-second _ _ _ (c .before .if2 .left))
+returns-2 c = ⊎-elim (λ w. rw (w .1 .given .1, w .3) refl) (λ w. rw (w .1 .given .1, w .3) refl) (c .before .before .match .came)
 
 pub leaves-model-spec : {M : Type 1} → statement M
 leaves-model-spec =
-    tie.close
-    (tie.spec
-    enum-told
-    enum-known-closer
-    enum-known-closer-2
-    returns
-    returns-2
-    returns-3
-    returns-4
-    returns-5)
+    tie.close (tie.spec enum-told enum-known-closer enum-known-closer-2 returns returns-2)

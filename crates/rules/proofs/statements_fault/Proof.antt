@@ -11,13 +11,13 @@ use Rattle.rules.proofs.statements_fault.Statement.{statement}
 use Rattle.rules.proofs.statements_fault.Tie as tie
 
 abbrev Inv-loop : tie.InvT-loop
-Inv-loop v e g count n j₀ j = (j ≤ n) × (firstBelow j (statementFault v e g) ≡ 0)
+Inv-loop v e g n j₀ j = (j ≤ n) × (firstBelow j (statementFault v e g) ≡ 0)
 
 abbrev μ-loop : tie.MeasureT-loop
-μ-loop v e g count n j₀ j = n - j
+μ-loop v e g n j₀ j = n - j
 
-wide-requires : tie.Need-wide-requires Inv-loop μ-loop
-wide-requires c κs = search needs
+cast-n : tie.Need-cast-n Inv-loop μ-loop
+cast-n c = search needs
 
 loop-holds : tie.Need-loop-holds Inv-loop μ-loop
 loop-holds c = (omega arith, firstBelow-none _)
@@ -59,7 +59,7 @@ statements-fault-spec =
     (tie.spec
     Inv-loop
     μ-loop
-    wide-requires
+    cast-n
     loop-holds
     mul-x
     element-copy-out-x

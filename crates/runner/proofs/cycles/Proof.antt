@@ -1,20 +1,23 @@
--- `runner::cycles` meets its contract. The invariant: the locals are a place of the model's run where a cycle begins, from which the whole run is still to come.
+-- `runner::cycles` meets its contract. The invariant: the locals are a place of the model's run where a cycle begins, from which the whole run is still to come; the threads of
+-- that cycle are among those that it looks at.
 use Prim.Native.Nat.{_+_, _-_, _*_}
 use mathlib.Core.Path.{refl, sym, _∙_}
 use native.Mathlib.Omega.{arith}
 use borrow.Author.Needs.{needs}
 use Rattle.model.specs.declared.Model.{Model}
 use Rattle.rules.proofs.RuleLaws.{modelFault-horizon, modelFault-counts}
+use Rattle.runner.specs.Due.{Begins}
 use Rattle.runner.proofs.LoopLaws.{Loop, countAt, loop-start, loop-small, falls-later}
-use Rattle.runner.proofs.TurnLaws.{Runs, cycle-room, cycle-out, cycle-in, cycle-rest, cycle-later, cycle-begun}
+use Rattle.runner.proofs.EndLaws.{due-idle, begins-start}
+use Rattle.runner.proofs.TurnLaws.{Runs, cycle-room, cycle-out, cycle-in, cycle-ends, cycle-ahead, cycle-rest, cycle-next, cycle-later, cycle-begun}
 use Rattle.runner.proofs.cycles.Statement.{statement}
 use Rattle.runner.proofs.cycles.Tie as tie
 
 abbrev Inv-loop : tie.InvT-loop
-Inv-loop budget count t limit code segments₀ v₀ state₀ told₀ key₀ n₀ segments v state told key n = (m : Model) → Runs m t limit code segments₀ → Loop m budget v state segments told key 0 n
+Inv-loop budget count t limit code segments₀ v₀ state₀ told₀ ranges₀ key₀ from₀ to₀ n₀ segments v state told ranges key from to n = Begins t state told ranges key from to × ((m : Model) → Runs m t limit code segments₀ → Loop m budget v state segments told key 0 n)
 
 abbrev μ-loop : tie.MeasureT-loop
-μ-loop budget count t limit code segments₀ v₀ state₀ told₀ key₀ n₀ segments v state told key n = limit * (t + 1) - countAt t key 0
+μ-loop budget count t limit code segments₀ v₀ state₀ told₀ ranges₀ key₀ from₀ to₀ n₀ segments v state told ranges key from to n = limit * (t + 1) - countAt t key 0
 
 wide-requires : tie.Need-wide-requires Inv-loop μ-loop
 wide-requires c κs = search needs
@@ -28,63 +31,100 @@ pack-requires c κs = search needs
 first-segments-requires : tie.Need-first-segments-requires Inv-loop μ-loop
 first-segments-requires c κs = search needs
 
+no-ranges-requires : tie.Need-no-ranges-requires Inv-loop μ-loop
+no-ranges-requires c κs = search needs
+
 loop-holds : tie.Need-loop-holds Inv-loop μ-loop
-loop-holds c = λ m r.
-    let few = modelFault-counts m (r .fit) .threads in
-    loop-start m (r .fit) (c .before .before .before .before .before .args .budget) _ (c .first-segments .ensures .0) (λ k h. r .first k (omega arith))
+loop-holds c = let first = c .before in
+    let start = first .before .before .before .before .before in
+    let few = modelFault-counts (start .args .m) (start .pre) .threads in
+    let threads = first .before .before .before .before .wide .ensures in
+    (begins-start _ _ (omega arith) (c .no-ranges .ensures), λ m r. let few = modelFault-counts m (r .fit) .threads in loop-start m (r .fit) (start .args .budget) _ (first .first-segments .ensures .0) (λ k h. r .first k (omega arith)))
 
 run-cycle-requires : tie.Need-run-cycle-requires Inv-loop μ-loop
-run-cycle-requires c κs = let first = c .before .before .before .before .before .before in
+run-cycle-requires c κs = let first = c .before .before .before .before .before .before .before .before in
     let start = first .before .before .before .before .before in
-    let here = c .before .before .before .before .before .loop .inv (start .args .m) (record { fit = start .pre; code = first .before .pack .ensures; threads = first .before .before .before .before .wide .ensures; limit = refl; first = first .first-segments .ensures .1 }) in
-    (omega (arith, modelFault-counts (start .args .m) (start .pre) .threads, first .before .before .before .before .wide .ensures), loop-small (start .args .m) (start .pre) (start .args .budget) _ _ _ _ _ _ _ here)
+    let few = modelFault-counts (start .args .m) (start .pre) .threads in
+    let threads = first .before .before .before .before .wide .ensures in
+    let inv = c .before .before .before .before .before .before .loop .inv in
+    let here = inv .1 (start .args .m) (record { fit = start .pre; code = first .before .pack .ensures; threads = threads; limit = refl; first = first .first-segments .ensures .1 }) in
+    (inv .0 .threads .order, (omega (arith, inv .0 .threads .inside), (loop-small (start .args .m) (start .pre) (start .args .budget) _ _ _ _ _ _ _ here, due-idle _ _ _ _ _ (inv .0 .threads))))
 
 is-out-requires : tie.Need-is-out-requires Inv-loop μ-loop
-is-out-requires c κs = let first = c .before .before .before .before .before .before .before .before in
+is-out-requires c κs = let first = c .before .before .before .before .before .before .before .before .before .before in
     let start = first .before .before .before .before .before in
-    omega (arith, modelFault-counts (start .args .m) (start .pre) .threads, first .before .before .before .before .wide .ensures)
+    let few = modelFault-counts (start .args .m) (start .pre) .threads in
+    let threads = first .before .before .before .before .wide .ensures in
+    omega arith
 
 result-requires : tie.Need-result-requires Inv-loop μ-loop
-result-requires c κs = let first = c .before .before .before .before .before .before .before .before .before .before .before .before in
+result-requires c κs = let first = c .before .before .before .before .before .before .before .before .before .before .before .before .before .before in
     let start = first .before .before .before .before .before in
-    omega (arith, modelFault-counts (start .args .m) (start .pre) .threads, first .before .before .before .before .wide .ensures)
+    let few = modelFault-counts (start .args .m) (start .pre) .threads in
+    let threads = first .before .before .before .before .wide .ensures in
+    omega arith
 
 returns : tie.Need-returns Inv-loop μ-loop
-returns c = let first = c .before .before .before .before .before .before .before .before .before .before .before .before .before in
+returns c = let first = c .before .before .before .before .before .before .before .before .before .before .before .before .before .before .before in
     let start = first .before .before .before .before .before in
-    let here = c .before .before .before .before .before .before .before .before .before .before .before .before .loop .inv (start .args .m) (record { fit = start .pre; code = first .before .pack .ensures; threads = first .before .before .before .before .wide .ensures; limit = refl; first = first .first-segments .ensures .1 }) in
-    c .result .ensures ∙ cycle-out (start .args .m) (start .pre) (start .args .budget) _ (first .before .pack .ensures) _ _ _ _ (first .before .before .before .before .wide .ensures) here (c .before .before .before .before .before .before .run-cycle .ensures) (sym (c .before .before .before .before .is-out .ensures) ∙ c .before .before .before .if1 .taken)
+    let few = modelFault-counts (start .args .m) (start .pre) .threads in
+    let threads = first .before .before .before .before .wide .ensures in
+    let inv = c .before .before .before .before .before .before .before .before .before .before .before .before .before .loop .inv in
+    let here = inv .1 (start .args .m) (record { fit = start .pre; code = first .before .pack .ensures; threads = threads; limit = refl; first = first .first-segments .ensures .1 }) in
+    c .result .ensures ∙ cycle-out (start .args .m) (start .pre) (start .args .budget) _ (first .before .pack .ensures) _ _ _ _ _ _ threads here (inv .0) (c .before .before .before .before .before .before .run-cycle .ensures) (sym (c .before .before .before .before .is-out .ensures) ∙ c .before .before .before .if1 .taken)
 
-wake-requires : tie.Need-wake-requires Inv-loop μ-loop
-wake-requires c κs = let first = c .before .before .before .before .before .before .before .before .before .before .before .before in
+end-cycle-requires : tie.Need-end-cycle-requires Inv-loop μ-loop
+end-cycle-requires c κs = let first = c .before .before .before .before .before .before .before .before .before .before .before .before .before .before .before in
     let start = first .before .before .before .before .before in
-    let here = c .before .before .before .before .before .before .before .before .before .before .before .loop .inv (start .args .m) (record { fit = start .pre; code = first .before .pack .ensures; threads = first .before .before .before .before .wide .ensures; limit = refl; first = first .first-segments .ensures .1 }) in
-    let over = cycle-in (start .args .m) (start .pre) (start .args .budget) _ (first .before .pack .ensures) _ _ _ _ (first .before .before .before .before .wide .ensures) here (c .before .before .before .before .before .run-cycle .ensures) (sym (c .before .before .before .is-out .ensures) ∙ c .before .before .if1 .left) in
-    (omega (arith, modelFault-counts (start .args .m) (start .pre) .threads, first .before .before .before .before .wide .ensures), (loop-small (start .args .m) (start .pre) (start .args .budget) _ _ _ _ _ _ _ here, (over .marks-size, over .words-size)))
+    let few = modelFault-counts (start .args .m) (start .pre) .threads in
+    let threads = first .before .before .before .before .wide .ensures in
+    let inv = c .before .before .before .before .before .before .before .before .before .before .before .before .before .loop .inv in
+    let here = inv .1 (start .args .m) (record { fit = start .pre; code = first .before .pack .ensures; threads = threads; limit = refl; first = first .first-segments .ensures .1 }) in
+    let over = cycle-in (start .args .m) (start .pre) (start .args .budget) _ (first .before .pack .ensures) _ _ _ _ _ _ threads here (inv .0) (c .before .before .before .before .before .before .run-cycle .ensures) (sym (c .before .before .before .before .is-out .ensures) ∙ c .before .before .before .if1 .left) in
+    (omega arith, (loop-small (start .args .m) (start .pre) (start .args .budget) _ _ _ _ _ _ _ here, (over .marks-size, (over .words-size, (cycle-ends (start .args .m) (start .pre) (start .args .budget) _ (first .before .pack .ensures) _ _ _ _ _ _ threads here (inv .0) (c .before .before .before .before .before .before .run-cycle .ensures), cycle-ahead (start .args .m) (start .pre) (start .args .budget) _ (first .before .pack .ensures) _ _ _ _ _ _ threads here (inv .0) (c .before .before .before .before .before .before .run-cycle .ensures) (sym (c .before .before .before .before .is-out .ensures) ∙ c .before .before .before .if1 .left))))))
 
 result-requires-2 : tie.Need-result-requires-2 Inv-loop μ-loop
-result-requires-2 c κs = let first = c .before .before .before .before .before .before .before .before .before .before .before .before .before .before .before .before in
+result-requires-2 c κs = let first = c .before .before .before .before .before .before .before .before .before .before .before .before .before .before .before .before .before .before .before .before in
     let start = first .before .before .before .before .before in
-    omega (arith, modelFault-counts (start .args .m) (start .pre) .threads, first .before .before .before .before .wide .ensures)
+    let few = modelFault-counts (start .args .m) (start .pre) .threads in
+    let threads = first .before .before .before .before .wide .ensures in
+    omega arith
 
 returns-2 : tie.Need-returns-2 Inv-loop μ-loop
-returns-2 c = let first = c .before .before .before .before .before .before .before .before .before .before .before .before .before .before .before .before .before in
+returns-2 c = let first = c .before .before .before .before .before .before .before .before .before .before .before .before .before .before .before .before .before .before .before .before .before in
     let start = first .before .before .before .before .before in
-    let here = c .before .before .before .before .before .before .before .before .before .before .before .before .before .before .before .before .loop .inv (start .args .m) (record { fit = start .pre; code = first .before .pack .ensures; threads = first .before .before .before .before .wide .ensures; limit = refl; first = first .first-segments .ensures .1 }) in
-    let wake = c .before .before .before .before .wake .ensures in
-    c .result2 .ensures ∙ cycle-rest (start .args .m) (start .pre) (start .args .budget) _ (first .before .pack .ensures) _ _ _ _ (first .before .before .before .before .wide .ensures) here (c .before .before .before .before .before .before .before .before .before .before .run-cycle .ensures) (sym (c .before .before .before .before .before .before .before .before .is-out .ensures) ∙ c .before .before .before .before .before .before .before .if1 .left) _ (wake .0) _ (wake .1 .0) (wake .1 .1) (c .before .before .before .if2 .taken)
+    let few = modelFault-counts (start .args .m) (start .pre) .threads in
+    let threads = first .before .before .before .before .wide .ensures in
+    let inv = c .before .before .before .before .before .before .before .before .before .before .before .before .before .before .before .before .before .before .before .loop .inv in
+    let here = inv .1 (start .args .m) (record { fit = start .pre; code = first .before .pack .ensures; threads = threads; limit = refl; first = first .first-segments .ensures .1 }) in
+    let end = c .before .before .before .before .before .end-cycle .ensures in
+    c .result2 .ensures ∙ cycle-rest (start .args .m) (start .pre) (start .args .budget) _ (first .before .pack .ensures) _ _ _ _ _ _ threads here (inv .0) (c .before .before .before .before .before .before .before .before .before .before .before .before .run-cycle .ensures) (sym (c .before .before .before .before .before .before .before .before .before .before .is-out .ensures) ∙ c .before .before .before .before .before .before .before .before .before .if1 .left) _ (end .0) _ (end .1 .0) (end .1 .1 .0) (c .before .before .before .if2 .taken)
+
+array-write-ranges : tie.Need-array-write-ranges Inv-loop μ-loop
+array-write-ranges c = omega arith
+
+array-write-ranges-2 : tie.Need-array-write-ranges-2 Inv-loop μ-loop
+array-write-ranges-2 c = omega arith
 
 loop-less : tie.Need-loop-less Inv-loop μ-loop
-loop-less c = let first = c .before .before .before .before .before .before .before .before .before .before .before .before .before .before in
+loop-less c = let first = c .before .before .before .before .before .before .before .before .before .before .before .before .before .before .before .before .before .before in
     let start = first .before .before .before .before .before in
-    let here = c .before .before .before .before .before .before .before .before .before .before .before .before .before .loop .inv (start .args .m) (record { fit = start .pre; code = first .before .pack .ensures; threads = first .before .before .before .before .wide .ensures; limit = refl; first = first .first-segments .ensures .1 }) in
-    let wake = c .before .wake .ensures in
-    falls-later _ _ _ (cycle-later (start .args .m) (start .pre) (start .args .budget) _ (first .before .pack .ensures) _ _ _ _ (first .before .before .before .before .wide .ensures) here (c .before .before .before .before .before .before .before .run-cycle .ensures) (sym (c .before .before .before .before .before .is-out .ensures) ∙ c .before .before .before .before .if1 .left) _ (wake .0) _ (wake .1 .0) (wake .1 .1) (c .if2 .left)) (cycle-room (start .args .m) (start .pre) (start .args .budget) _ (first .before .pack .ensures) _ _ _ _ (first .before .before .before .before .wide .ensures) here (c .before .before .before .before .before .before .before .run-cycle .ensures))
+    let few = modelFault-counts (start .args .m) (start .pre) .threads in
+    let threads = first .before .before .before .before .wide .ensures in
+    let inv = c .before .before .before .before .before .before .before .before .before .before .before .before .before .before .before .before .loop .inv in
+    let here = inv .1 (start .args .m) (record { fit = start .pre; code = first .before .pack .ensures; threads = threads; limit = refl; first = first .first-segments .ensures .1 }) in
+    let end = c .before .before .end-cycle .ensures in
+    falls-later _ _ _ (cycle-later (start .args .m) (start .pre) (start .args .budget) _ (first .before .pack .ensures) _ _ _ _ _ _ threads here (inv .0) (c .before .before .before .before .before .before .before .before .before .run-cycle .ensures) (sym (c .before .before .before .before .before .before .before .is-out .ensures) ∙ c .before .before .before .before .before .before .if1 .left) _ (end .0) _ (end .1 .0) (end .1 .1 .0) (c .if2 .left)) (cycle-room (start .args .m) (start .pre) (start .args .budget) _ (first .before .pack .ensures) _ _ _ _ _ _ threads here (inv .0) (c .before .before .before .before .before .before .before .before .before .run-cycle .ensures))
 
 loop-again : tie.Need-loop-again Inv-loop μ-loop
-loop-again c = λ m r.
-    let wake = c .before .wake .ensures in
-    cycle-begun m (r .fit) (c .before .before .before .before .before .before .before .before .before .before .before .before .before .before .before .before .before .before .before .args .budget) _ (r .code) _ _ _ _ (r .threads) (c .before .before .before .before .before .before .before .before .before .before .before .before .before .loop .inv m r) (c .before .before .before .before .before .before .before .run-cycle .ensures) (sym (c .before .before .before .before .before .is-out .ensures) ∙ c .before .before .before .before .if1 .left) _ (wake .0) _ (wake .1 .0) (wake .1 .1) (omega (arith, r .limit, c .if2 .left))
+loop-again c = let first = c .before .before .before .before .before .before .before .before .before .before .before .before .before .before .before .before .before .before in
+    let start = first .before .before .before .before .before in
+    let few = modelFault-counts (start .args .m) (start .pre) .threads in
+    let threads = first .before .before .before .before .wide .ensures in
+    let inv = c .before .before .before .before .before .before .before .before .before .before .before .before .before .before .before .before .loop .inv in
+    let here = inv .1 (start .args .m) (record { fit = start .pre; code = first .before .pack .ensures; threads = threads; limit = refl; first = first .first-segments .ensures .1 }) in
+    let end = c .before .before .end-cycle .ensures in
+    (cycle-next (start .args .m) (start .pre) (start .args .budget) _ (first .before .pack .ensures) _ _ _ _ _ _ threads here (inv .0) (c .before .before .before .before .before .before .before .before .before .run-cycle .ensures) (sym (c .before .before .before .before .before .before .before .is-out .ensures) ∙ c .before .before .before .before .before .before .if1 .left) _ (end .0) _ (end .1 .0) (end .1 .1 .0) _ _ (end .1 .1 .1), λ m r. cycle-begun m (r .fit) (start .args .budget) _ (r .code) _ _ _ _ _ _ (r .threads) (inv .1 m r) (inv .0) (c .before .before .before .before .before .before .before .before .before .run-cycle .ensures) (sym (c .before .before .before .before .before .before .before .is-out .ensures) ∙ c .before .before .before .before .before .before .if1 .left) _ (end .0) _ (end .1 .0) (end .1 .1 .0) (omega (arith, r .limit, c .if2 .left)))
 
 pub cycles-spec : {M : Type 1} → statement M
 cycles-spec =
@@ -96,13 +136,16 @@ cycles-spec =
     mul-limit
     pack-requires
     first-segments-requires
+    no-ranges-requires
     loop-holds
     run-cycle-requires
     is-out-requires
     result-requires
     returns
-    wake-requires
+    end-cycle-requires
     result-requires-2
     returns-2
+    array-write-ranges
+    array-write-ranges-2
     loop-less
     loop-again)

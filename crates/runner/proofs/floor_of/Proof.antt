@@ -1,21 +1,21 @@
--- `runner::floor_of` meets its contract.
+-- `runner::floor_of` meets its contract. The invariant: the least of the words looked at.
 use Prim.Native.Nat.{_≤_, _-_}
 use mathlib.Core.Path.{_≡_}
 use native.Mathlib.Omega.{arith}
-use Rattle.runner.specs.Words.{leastWord}
-use Rattle.runner.proofs.ExitLaws.{leastWord-none, leastWord-next}
 use borrow.Author.Needs.{needs}
+use Rattle.runner.specs.Due.{IsLeast}
+use Rattle.runner.proofs.DueLaws.{least-none, least-more}
 use Rattle.runner.proofs.floor_of.Statement.{statement}
 use Rattle.runner.proofs.floor_of.Tie as tie
 
 abbrev Inv-loop : tie.InvT-loop
-Inv-loop state t least₀ k₀ least k = (k ≤ t) × (least ≡ leastWord k state)
+Inv-loop state from to start least₀ k₀ least k = (from ≤ k) × ((k ≤ to) × IsLeast state from k start least)
 
 abbrev μ-loop : tie.MeasureT-loop
-μ-loop state t least₀ k₀ least k = t - k
+μ-loop state from to start least₀ k₀ least k = to - k
 
 loop-holds : tie.Need-loop-holds Inv-loop μ-loop
-loop-holds c = (omega arith, leastWord-none (c .args .state .now))
+loop-holds c = (omega arith, (omega (arith, c .pre .0), least-none (c .args .state .now) (c .args .from) (c .args .start)))
 
 mul-w : tie.Need-mul-w Inv-loop μ-loop
 mul-w c = omega arith
@@ -33,10 +33,10 @@ loop-less : tie.Need-loop-less Inv-loop μ-loop
 loop-less c = omega arith
 
 loop-again : tie.Need-loop-again Inv-loop μ-loop
-loop-again c = (omega arith, leastWord-next (c .before .before .before .loop .k) (c .before .before .before .before .args .state .now) _ _ (c .before .before .before .loop .inv .1) (c .smaller .ensures))
+loop-again c = let a = c .before .before .before .before .args in let here = c .before .before .before .loop in (omega arith, (omega arith, least-more (a .state .now) (a .from) (here .k) (a .start) _ (here .inv .0) (here .inv .1 .1) _ (c .smaller .ensures)))
 
 returns : tie.Need-returns Inv-loop μ-loop
-returns c = let e : c .before .loop .k ≡ c .before .before .args .t = omega arith in rw (← e) (c .before .loop .inv .1)
+returns c = let e : c .before .loop .k ≡ c .before .before .args .to = omega arith in rw (← e) (c .before .loop .inv .1 .1)
 
 pub floor-of-spec : {M : Type 1} → statement M
 floor-of-spec =

@@ -3,6 +3,7 @@ use Prim.Native.Nat.{ℕ}
 use mathlib.Core.Path.{ap, _∙_}
 use lib.Dec.{leb}
 use Rattle.runner.proofs.ExitLaws.{isOut-room, isOut-least}
+use Rattle.runner.proofs.DueLaws.{least-word}
 use borrow.Author.Needs.{needs}
 use Rattle.runner.proofs.is_out.Statement.{statement}
 use Rattle.runner.proofs.is_out.Tie as tie
@@ -14,7 +15,7 @@ floor-of-requires : tie.Need-floor-of-requires
 floor-of-requires c κs = search needs
 
 returns-2 : tie.Need-returns-2
-returns-2 c = ap (λ (l : ℕ). leb l (c .before .before .args .key)) (c .floor-of .ensures) ∙ isOut-least (c .before .before .args .budget) (c .before .before .args .n) _ (c .before .before .args .key) (c .before .if1 .left)
+returns-2 c = let a = c .before .before .args in ap (λ (l : ℕ). leb l (a .key)) (least-word (a .state .now) (a .t) _ (c .floor-of .ensures)) ∙ isOut-least (a .budget) (a .n) _ (a .key) (c .before .if1 .left)
 
 pub is-out-spec : {M : Type 1} → statement M
 is-out-spec = tie.close (tie.spec returns floor-of-requires returns-2)

@@ -1,4 +1,4 @@
--- `runner::look_at` meets its contract: the thread is not ready in this cycle, the budget is out, or it runs.
+-- `runner::look_at` meets its contract. The thread is not ready in this cycle, the budget is out, or it runs.
 use mathlib.Core.Path.{_∙_}
 use Rattle.runner.specs.Turn.{locals}
 use Rattle.runner.proofs.ExitLaws.{turnOn-passed, turnOn-full, turnOn-ran, ran-as}
@@ -13,10 +13,10 @@ element-copy-out-if1 : tie.Need-element-copy-out-if1
 element-copy-out-if1 c = search needs
 
 returns : tie.Need-returns
-returns c = let a = c .before .before .args in turnOn-passed (a .code .now) (a .key) (a .budget) (a .turn) (locals (a .v .now) (a .state .now) (a .segments .now) (a .told .now) (a .n)) (c .if1 .taken)
+returns c = let a = c .before .before .args in turnOn-passed (a .code .now) (a .key) (a .budget) (a .turn) (locals (a .v .now) (a .state .now) (a .segments .now) (a .told .now) (a .ranges .now) (a .n)) (c .if1 .taken)
 
 returns-2 : tie.Need-returns-2
-returns-2 c = let a = c .before .before .before .args in turnOn-full (a .code .now) (a .key) (a .budget) (a .turn) (locals (a .v .now) (a .state .now) (a .segments .now) (a .told .now) (a .n)) (c .if2 .taken)
+returns-2 c = let a = c .before .before .before .args in turnOn-full (a .code .now) (a .key) (a .budget) (a .turn) (locals (a .v .now) (a .state .now) (a .segments .now) (a .told .now) (a .ranges .now) (a .n)) (c .if2 .taken)
 
 element-copy-out-s : tie.Need-element-copy-out-s
 element-copy-out-s c = search needs
@@ -26,6 +26,9 @@ execute-requires c κs = search needs
 
 end-of-requires : tie.Need-end-of-requires
 end-of-requires c κs = search needs
+
+wait-for-requires : tie.Need-wait-for-requires
+wait-for-requires c κs = search needs
 
 close-word-requires : tie.Need-close-word-requires
 close-word-requires c κs = search needs
@@ -46,10 +49,10 @@ add-result : tie.Need-add-result
 add-result c = search needs
 
 returns-3 : tie.Need-returns-3
-returns-3 c = let a = c .before .before .before .before .before .before .before .before .before .before .before .args in
-    ran-as (a .code .now) (a .key) (a .turn) (a .v .now) (a .state .now) (a .segments .now) (a .told .now) (a .n) _ _ _ _ _
-    (c .before .before .before .before .execute .ensures .0) (c .before .before .before .before .execute .ensures .1) (c .before .before .before .end-of .ensures) (c .before .before .close-word .ensures) (c .follow .ensures) ∙
-    turnOn-ran (a .code .now) (a .key) (a .budget) (a .turn) (locals (a .v .now) (a .state .now) (a .segments .now) (a .told .now) (a .n)) (c .before .before .before .before .before .before .before .before .before .if1 .left) (c .before .before .before .before .before .before .before .before .if2 .left)
+returns-3 c = let a = c .before .before .before .before .before .before .before .before .before .before .before .before .before .before .args in
+    ran-as (a .code .now) (a .key) (a .turn) (a .v .now) (a .state .now) (a .segments .now) (a .told .now) (a .ranges .now) (a .n) _ _ _ _ _ _ _
+    (c .before .before .before .before .before .before .execute .ensures .0) (c .before .before .before .before .before .before .execute .ensures .1 .0) (c .before .before .before .before .before .before .execute .ensures .1 .1) (c .before .before .before .before .before .end-of .ensures) (c .before .before .before .wait-for .ensures) (c .before .before .close-word .ensures) (c .follow .ensures) ∙
+    turnOn-ran (a .code .now) (a .key) (a .budget) (a .turn) (locals (a .v .now) (a .state .now) (a .segments .now) (a .told .now) (a .ranges .now) (a .n)) (c .before .before .before .before .before .before .before .before .before .before .before .before .if1 .left) (c .before .before .before .before .before .before .before .before .before .before .before .if2 .left)
 
 pub look-at-spec : {M : Type 1} → statement M
 look-at-spec =
@@ -62,6 +65,7 @@ look-at-spec =
     element-copy-out-s
     execute-requires
     end-of-requires
+    wait-for-requires
     close-word-requires
     mul-state
     element-write-state

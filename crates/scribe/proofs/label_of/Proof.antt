@@ -40,8 +40,8 @@ mul-x c =
     let l = c .before .before .before .before .loop in
     omega (arith, left-fits (c .before .before .before .before .before .before .before .before .args .arg .now) (l .i) (l .x) (omega arith) (l .inv .1))
 
-long-requires : tie.Need-long-requires Inv-loop μ-loop
-long-requires c κs = search needs
+long-byte-requires : tie.Need-long-byte-requires Inv-loop μ-loop
+long-byte-requires c κs = search needs
 
 add-x : tie.Need-add-x Inv-loop μ-loop
 add-x c =
@@ -57,7 +57,7 @@ loop-less c = omega arith
 loop-again : tie.Need-loop-again Inv-loop μ-loop
 loop-again c =
     let l = c .before .before .before .before .before .loop in
-    (omega arith, rw (c .long .ensures) (left-more (c .before .before .before .before .before .before .before .before .before .args .arg .now) (l .i) (l .x) (omega arith) (l .inv .1) (c .before .before .if3 .left) (c .before .if4 .left)))
+    (omega arith, rw (c .long-byte .ensures) (left-more (c .before .before .before .before .before .before .before .before .before .args .arg .now) (l .i) (l .x) (omega arith) (l .inv .1) (c .before .before .if3 .left) (c .before .if4 .left)))
 
 returns-5 : tie.Need-returns-5 Inv-loop μ-loop
 returns-5 c = label-whole (c .before .before .before .before .before .args .arg .now) (c .before .loop .i) (c .before .loop .x) (omega arith) (omega arith) (omega arith) (c .before .loop .inv .1)
@@ -75,7 +75,7 @@ label-of-spec =
     returns-3
     returns-4
     mul-x
-    long-requires
+    long-byte-requires
     add-x
     add-i
     loop-less

@@ -7,8 +7,8 @@ use Rattle.transcript.specs.Transcript.{lLine}
 use Rattle.scribe.proofs.put_l_line.Statement.{statement}
 use Rattle.scribe.proofs.put_l_line.Tie as tie
 
-long-requires : tie.Need-long-requires
-long-requires c κs = search needs
+long-byte-requires : tie.Need-long-byte-requires
+long-byte-requires c κs = search needs
 
 put-byte-requires : tie.Need-put-byte-requires
 put-byte-requires c κs = search needs
@@ -24,13 +24,13 @@ same-length c = search needs
 
 returns : tie.Need-returns
 unfolding lLine restOf
-returns c = (puts-then (c .before .before .before .before .before .before .before .before .before .before .put-byte .ensures) (puts-then (rw (c .before .before .before .before .before .before .before .before .before .before .before .before .before .long .ensures) at (c .before .before .before .before .before .before .put-number .ensures .0)) (c .before .before .put-cycle .ensures .0)), omega arith)
+returns c = (puts-then (c .before .before .before .before .before .before .before .before .before .before .put-byte .ensures) (puts-then (rw (c .before .before .before .before .before .before .before .before .before .before .before .before .before .long-byte .ensures) at (c .before .before .before .before .before .before .put-number .ensures .0)) (c .before .before .put-cycle .ensures .0)), omega arith)
 
 pub put-l-line-spec : {M : Type 1} → statement M
 put-l-line-spec =
     tie.close
     (tie.spec
-    long-requires
+    long-byte-requires
     put-byte-requires
     put-number-requires
     put-cycle-requires

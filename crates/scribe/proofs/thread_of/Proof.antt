@@ -1,4 +1,5 @@
 -- `scribe::thread_of` meets its contract.
+use native.Mathlib.Omega.{arith}
 use borrow.Author.Needs.{needs}
 use Rattle.scribe.proofs.LabelLaws.{threadOf-small, threadOf-large}
 use Rattle.scribe.proofs.thread_of.Statement.{statement}
@@ -8,10 +9,10 @@ cast-result : tie.Need-cast-result
 cast-result c = search needs
 
 returns : tie.Need-returns
-returns c = threadOf-small _ (c .if1 .taken)
+returns c = threadOf-small _ (omega arith)
 
 returns-2 : tie.Need-returns-2
-returns-2 c = threadOf-large _ (c .if1 .left)
+returns-2 c = threadOf-large _ (omega arith)
 
 pub thread-of-spec : {M : Type 1} → statement M
 thread-of-spec = tie.close (tie.spec cast-result returns returns-2)

@@ -3,8 +3,9 @@ use mathlib.Core.Path.{sym}
 use native.Mathlib.Omega.{arith}
 use lib.Seq.{length-take-le}
 use borrow.Author.Needs.{needs}
-use Rattle.printer.proofs.PutLaws.{puts-then, puts-uncut}
-use Rattle.scribe.proofs.WholeLaws.{transcript-long, transcript-short, transcript-whole, held-line}
+use Rattle.printer.proofs.PutLaws.{puts-then}
+use Rattle.transcript.specs.Transcript.{closingOf}
+use Rattle.scribe.proofs.WholeLaws.{transcript-long, transcript-short, transcript-whole, held-line, held-text, whole-fits}
 use Rattle.scribe.proofs.transcript.Statement.{statement}
 use Rattle.scribe.proofs.transcript.Tie as tie
 
@@ -46,10 +47,10 @@ put-closing-requires : tie.Need-put-closing-requires
 put-closing-requires c κs = search needs
 
 array-share-prefix-text : tie.Need-array-share-prefix-text
-array-share-prefix-text c = search needs
+array-share-prefix-text c = c .before .put-closing .ensures .0 .within
 
 slice-aggregate-copy-in : tie.Need-slice-aggregate-copy-in
-slice-aggregate-copy-in c = sym (length-take-le _ _ (omega arith))
+slice-aggregate-copy-in c = sym (length-take-le _ _ (c .before .before .put-closing .ensures .0 .within))
 
 copy-in-requires : tie.Need-copy-in-requires
 copy-in-requires c κs = search needs
@@ -60,9 +61,10 @@ same-length-3 c = search needs
 returns-3 : tie.Need-returns-3
 returns-3 c =
     let a = c .before .before .before .before .before .before .before .before .before .before .before .before .before .before .before .before .args in
-    let p = puts-uncut (puts-then (c .before .before .before .before .before .before .before .before .before .put-r-lines .ensures .0) (c .before .before .before .before .before .before .put-closing .ensures .0)) (omega arith) in
-    let e = transcript-whole (a .labels .now) (a .answers .now) (a .v) (a .t) (a .site) (a .threads .at) (c .before .before .before .before .before .before .before .before .before .before .before .before .if1 .left) (c .before .before .before .before .before .before .before .before .before .before .before .if2 .left) in
-    (rw (p .0, e) at (c .before .before .copy-in .ensures), rw (← e) (omega (arith, p .1)))
+    let rs = c .before .before .before .before .before .before .before .before .before .put-r-lines in
+    let cs = c .before .before .before .before .before .before .put-closing in
+    let g = c .before .before .before .before .before .before .before .before .before .before .before .before .if1 .left in
+    held-text _ (a .out .now) _ _ (puts-then {ys = closingOf (a .v) (a .t) (a .site) (a .threads .at)} (rs .ensures .0) (cs .ensures .0)) (omega arith) (whole-fits (a .labels .now) g (rs .ensures .1) (cs .ensures .1)) (transcript-whole (a .labels .now) (a .answers .now) (a .v) (a .t) (a .site) (a .threads .at) g (c .before .before .before .before .before .before .before .before .before .before .before .if2 .left)) (c .before .before .copy-in .ensures)
 
 pub transcript-spec : {M : Type 1} → statement M
 transcript-spec =

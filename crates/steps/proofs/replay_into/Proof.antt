@@ -21,9 +21,7 @@ same-length-3 c = search needs
 returns : tie.Need-returns
 returns c =
     let x = c .before .before .before .before .before .before .before .before .before .before .before .before .args in
-    let h = c .before .has-room in
-    let b = keeps (x .variables .now) (x .log .now) (x .records .now) in
-    replay-short (x .file .now) (x .words .now) (x .threads .now) (x .answers .now) b (h .result) (h .ensures) (not-true _ (c .if1 .taken))
+    replay-short (x .file .now) (x .words .now) (x .threads .now) (x .answers .now) (keeps (x .variables .now) (x .log .now) (x .records .now)) _ (c .before .has-room .ensures) (not-true _ (c .if1 .taken))
 
 replay-requires : tie.Need-replay-requires
 replay-requires c κs = search needs
@@ -45,11 +43,9 @@ same-length-8 c = search needs
 
 returns-2 : tie.Need-returns-2
 returns-2 c =
-    let x = c .before .before .before .before .before .before .before .before .before .before .before .before .before .before .before .before .before .before .before .before .before .args in
-    let h = c .before .before .before .before .before .before .before .before .before .before .has-room in
-    let b = keeps (x .variables .now) (x .log .now) (x .records .now) in
-    let d = c .before .before .before .before .before .before .replay in
-    replay-refused (x .file .now) (x .words .now) (x .threads .now) (x .answers .now) b (h .result) (h .ensures) (not-false _ (c .before .before .before .before .before .before .before .before .before .if1 .left)) (d .result) (d .ensures .0) _ _ (d .ensures .1 .0) (d .ensures .1 .1 .0) (c .if2 .taken)
+    let d = c .before .before .before .before .before .before in
+    let x = d .before .before .before .before .before .before .before .before .before .before .before .before .before .before .before .args in
+    replay-refused (x .file .now) (x .words .now) (x .threads .now) (x .answers .now) (keeps (x .variables .now) (x .log .now) (x .records .now)) _ (d .before .before .before .before .has-room .ensures) (not-false _ (d .before .before .before .if1 .left)) _ (d .replay .ensures .0) _ _ (d .replay .ensures .1 .0) (d .replay .ensures .1 .1 .0) (c .if2 .taken)
 
 put-state-requires : tie.Need-put-state-requires
 put-state-requires c κs = search needs
@@ -71,11 +67,9 @@ same-length-13 c = search needs
 
 returns-3 : tie.Need-returns-3
 returns-3 c =
-    let x = c .before .before .before .before .before .before .before .before .before .before .before .before .before .before .before .before .before .before .before .before .before .before .before .before .before .before .before .before .before .before .before .before .before .args in
-    let h = c .before .before .before .before .before .before .before .before .before .before .before .before .before .before .before .before .before .before .before .before .before .before .has-room in
-    let b = keeps (x .variables .now) (x .log .now) (x .records .now) in
-    let d = c .before .before .before .before .before .before .before .before .before .before .before .before .before .before .before .before .before .before .replay in
-    replay-done (x .file .now) (x .words .now) (x .threads .now) (x .answers .now) b (h .result) (h .ensures) (not-false _ (c .before .before .before .before .before .before .before .before .before .before .before .before .before .before .before .before .before .before .before .before .before .if1 .left)) (d .result) (d .ensures .0) _ _ (d .ensures .1 .0) (d .ensures .1 .1 .0) (c .before .before .before .before .before .before .before .before .before .before .before .before .if2 .left) _ (c .before .before .before .before .before .before .put-state .ensures)
+    let d = c .before .before .before .before .before .before .before .before .before .before .before .before .before .before .before .before in
+    let x = d .before .before .before .before .before .before .before .before .before .before .before .before .before .before .before .args in
+    replay-done (x .file .now) (x .words .now) (x .threads .now) (x .answers .now) (keeps (x .variables .now) (x .log .now) (x .records .now)) _ (d .before .before .before .before .has-room .ensures) (not-false _ (d .before .before .before .if1 .left)) _ (d .replay .ensures .0) _ _ (d .replay .ensures .1 .0) (d .replay .ensures .1 .1 .0) (c .before .before .before .before .before .before .before .before .before .before .if2 .left) _ (c .before .before .before .before .before .before .put-state .ensures)
 
 pub replay-into-spec : {M : Type 1} → statement M
 replay-into-spec =

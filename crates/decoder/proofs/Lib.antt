@@ -1,0 +1,3 @@
+pub mod CloserLaws
+pub mod StatementLaws
+pub mod SegmentLaws

@@ -1,0 +1,19 @@
+-- `test_files::runs::answer` meets its contract.
+use borrow.Author.Needs.{needs}
+use Rattle.printer.proofs.CopyLaws.{counts-text}
+use Rattle.test_files.proofs.runs.answer.Statement.{statement}
+use Rattle.test_files.proofs.runs.answer.Tie as tie
+
+replay-text-requires : tie.Need-replay-text-requires
+replay-text-requires c κs = search needs
+
+same-length : tie.Need-same-length
+same-length c = search needs
+
+returns : tie.Need-returns
+returns c =
+    let p = c .before .before .replay-text in
+    counts-text _ _ _ _ (p .ensures .0) (p .kept .1 .1 .0)
+
+pub answer-spec : {M : Type 1} → statement M
+answer-spec = tie.close (tie.spec replay-text-requires same-length returns)
