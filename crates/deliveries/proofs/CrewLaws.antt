@@ -22,13 +22,13 @@ module _ (ts : List Thread) where
   unfolding segmentsOf eventsOf
   crew-none = (fill-none (λ k. threadAt ts k .segment) 0, fill-none (λ k. eventAwaited (awaitedBy (threadAt ts k .state))) 255)
 
-  pub segments-more : (xs : List ℕ) (k : ℕ) → k < 32 → xs ≡ segmentsOf k ts → set xs k (getD ts k noThread .segment) ≡ segmentsOf (k + 1) ts
+  pub segments-more : (xs : List ℕ) (k : ℕ) (y : Thread) → k < 32 → xs ≡ segmentsOf k ts → y ≡ getD ts k noThread → set xs k (y .segment) ≡ segmentsOf (k + 1) ts
   unfolding segmentsOf threadAt
-  segments-more xs k h e = rw e (fill-more (λ i. threadAt ts i .segment) 0 k h)
+  segments-more xs k y h e f = rw (e, f) (fill-more (λ i. threadAt ts i .segment) 0 k h)
 
-  pub events-more : (xs : List ℕ) (k x : ℕ) → k < 32 → xs ≡ eventsOf k ts → x ≡ eventAwaited (awaitedBy (getD ts k noThread .state)) → set xs k x ≡ eventsOf (k + 1) ts
+  pub events-more : (xs : List ℕ) (k x : ℕ) (y : Thread) → k < 32 → xs ≡ eventsOf k ts → y ≡ getD ts k noThread → x ≡ eventAwaited (awaitedBy (y .state)) → set xs k x ≡ eventsOf (k + 1) ts
   unfolding eventsOf threadAt
-  events-more xs k x h e f = rw (e, f) (fill-more (λ i. eventAwaited (awaitedBy (threadAt ts i .state))) 255 k h)
+  events-more xs k x y h e p f = rw (e, f, p) (fill-more (λ i. eventAwaited (awaitedBy (threadAt ts i .state))) 255 k h)
 
   pub crew-all : (xs es : List ℕ) (k t : ℕ) → k ≡ t → xs ≡ segmentsOf k ts → es ≡ eventsOf k ts → record { segments = xs; events = es } ≡ crewOf t ts
   unfolding crewOf
@@ -38,17 +38,17 @@ module _ (ts : List Thread) where
   unfolding firstLimits
   limits-none l = fill-none (λ k. firstLimit l (threadAt ts k .state)) allOnes
 
-  pub limits-more : (l : List Notification) (xs : List ℕ) (k x : ℕ) → k < 32 → xs ≡ firstLimits k l ts → x ≡ firstLimit l (getD ts k noThread .state) → set xs k x ≡ firstLimits (k + 1) l ts
+  pub limits-more : (l : List Notification) (xs : List ℕ) (k x : ℕ) (y : Thread) → k < 32 → xs ≡ firstLimits k l ts → y ≡ getD ts k noThread → x ≡ firstLimit l (y .state) → set xs k x ≡ firstLimits (k + 1) l ts
   unfolding firstLimits threadAt
-  limits-more l xs k x h e f = rw (e, f) (fill-more (λ i. firstLimit l (threadAt ts i .state)) allOnes k h)
+  limits-more l xs k x y h e p f = rw (e, f, p) (fill-more (λ i. firstLimit l (threadAt ts i .state)) allOnes k h)
 
   pub floor-none : Never ≡ floorBelow 0 ts
   unfolding floorBelow leastBelow
   floor-none = refl
 
-  pub floor-more : (b : Bound) (k : ℕ) → b ≡ floorBelow k ts → least b (readyCycle (getD ts k noThread .state)) ≡ floorBelow (k + 1) ts
+  pub floor-more : (b : Bound) (k : ℕ) (y : Thread) → b ≡ floorBelow k ts → y ≡ getD ts k noThread → least b (readyCycle (y .state)) ≡ floorBelow (k + 1) ts
   unfolding floorBelow leastBelow threadAt
-  floor-more b k e = rw (add-one, e) refl
+  floor-more b k y e p = rw (add-one, e, p) refl
 
 -- one delta later
 pub later-small : (x : ℕ) → x < top → x + 1 ≡ sumOf x 1

@@ -1,3 +1,4 @@
+pub mod NumberLaws
 pub mod FillLaws
 pub mod CrewLaws
 pub mod VariantLaws

@@ -9,7 +9,7 @@ use mathlib.Core.List.{List}
 use native.Mathlib.Omega.{arith}
 use native.Mathlib.Numerals.{add-one}
 use lib.Dec.{ltb}
-use lib.ListN.{set, getD}
+use lib.ListN.{length, set, getD}
 use lib.Seq.{set-getD}
 use borrow.Author.Tests.{lt-ltb, le-ltb}
 use Rattle.clock.specs.declared.Cycle.{Cycle}
@@ -20,7 +20,6 @@ use Rattle.clock.specs.Wait.{waitEnds, heldStep}
 use Rattle.model.specs.declared.State.{State}
 use Rattle.model.specs.declared.State.the-variants.{Waiting}
 use Rattle.model.specs.declared.Thread.{Thread}
-use Rattle.model.specs.declared.Threads.{Threads}
 use Rattle.model.specs.Record.{noThread, threadAt, nothing, awaitedBy, stateAfter}
 use Rattle.early.specs.declared.Notification.{Notification}
 use Rattle.early.specs.Log.{leastHeard}
@@ -29,7 +28,7 @@ use Rattle.reach.specs.declared.Limits.{Limits}
 use Rattle.reach.specs.Limit.{limitOfCycle}
 use Rattle.reach.specs.Ahead.{forecastAt, earliestLimits, segmentsOf, eventsOf}
 use Rattle.deliveries.specs.declared.Outlook.{Outlook}
-use Rattle.deliveries.specs.Awake.{crewOf, firstLimits, aheadOf, outlookOf, heardBy, lookedOn, sweptOn, settledOn}
+use Rattle.deliveries.specs.Awake.{recordsIn, RecordPut, Moved, crewOf, firstLimits, aheadOf, outlookOf, heardBy, lookedOn, sweptOn, settledOn}
 
 true-not-false : true ≡ false → ⊥
 true-not-false e = let z : _≡_ {A = ℕ} 0 1 = cc in omega arith
@@ -57,41 +56,48 @@ module _ (reach : List ℕ) (t : ℕ) (l : List Notification) where
       unfolding heardBy
       heardBy-now c h k = rw (waits, h, le-ltb (forecastAt reach segments xs t e) (limitOfCycle c) k) refl
 
-  -- what the code holds of records
-  pub outlook-made : (ts : Threads) (crew : Crew) (first limits : Limits) (heard : Bool) → crew ≡ crewOf t (ts .at) → first .at ≡ firstLimits t l (ts .at)
+  -- what is known of records
+  pub outlook-made : (ts : List Thread) (crew : Crew) (first limits : Limits) → crew ≡ crewOf t ts → first .at ≡ firstLimits t l ts
       → limits .at ≡ earliestLimits reach (crew .segments) (crew .events) t (first .at)
-      → record { threads = ts; crew = crew; limits = limits; heard = heard } ≡ outlookOf reach t l (ts .at) heard
+      → record { crew = crew; limits = limits } ≡ outlookOf reach t l ts
   unfolding outlookOf aheadOf crewOf
-  outlook-made ts crew first limits heard p q r =
-      let e : limits ≡ record { at = earliestLimits reach (segmentsOf t (ts .at)) (eventsOf t (ts .at)) t (firstLimits t l (ts .at)) } =
+  outlook-made ts crew first limits p q r =
+      let e : limits ≡ record { at = earliestLimits reach (segmentsOf t ts) (eventsOf t ts) t (firstLimits t l ts) } =
       ap (λ (xs : List ℕ). record { at = xs }) (r ∙ rw (p, q) refl) in
       rw (p, e) refl
 
-  -- one look, by what is heard on the limits that are held
-  module _ (o : Outlook) (kept : o ≡ outlookOf reach t l (o .threads .at) (o .heard)) where
-    held-segments : o .crew .segments ≡ segmentsOf t (o .threads .at)
-    unfolding outlookOf crewOf
-    held-segments = ap (λ (p : Outlook). p .crew .segments) kept
+  pub outlook-forecast : (o : Outlook) (ts : List Thread) (e : ℕ) → o ≡ outlookOf reach t l ts
+      → forecastAt reach (o .crew .segments) (o .limits .at) t e ≡ forecastAt reach (segmentsOf t ts) (aheadOf reach t l ts) t e
+  unfolding outlookOf crewOf
+  outlook-forecast o ts e p = ap (λ (q : Outlook). forecastAt reach (q .crew .segments) (q .limits .at) t e) p
 
-    held-limits : o .limits .at ≡ aheadOf reach t l (o .threads .at)
-    unfolding outlookOf
-    held-limits = ap (λ (p : Outlook). p .limits .at) kept
+  -- one look, by what is heard
+  module _ (ts : List Thread) (k : ℕ) (x : Thread) (b : Bound) (there : x ≡ getD ts k noThread) (hears : b ≡ heardBy reach t l (segmentsOf t ts) (aheadOf reach t l ts) (awaitedBy (x .state))) where
+    heard-there : b ≡ heardBy reach t l (segmentsOf t ts) (aheadOf reach t l ts) (awaitedBy (getD ts k noThread .state))
+    heard-there = hears ∙ ap (λ (y : Thread). heardBy reach t l (segmentsOf t ts) (aheadOf reach t l ts) (awaitedBy (y .state))) there
 
-    module _ (k : ℕ) (b : Bound) (hears : b ≡ heardBy reach t l (o .crew .segments) (o .limits .at) (awaitedBy (getD (o .threads .at) k noThread .state))) where
-      pub lookedOn-none : b ≡ Never → o ≡ outlookOf reach t l (lookedOn reach t l (o .threads .at) k) (o .heard)
-      unfolding lookedOn threadAt
-      lookedOn-none h =
-          let e : heardBy reach t l (segmentsOf t (o .threads .at)) (aheadOf reach t l (o .threads .at)) (awaitedBy (getD (o .threads .at) k noThread .state)) ≡ Never =
-          rw (← held-segments, ← held-limits) (sym hears ∙ h) in
-          rw (e, set-getD (o .threads .at) k noThread) kept
+    lookedOn-none : b ≡ Never → ts ≡ lookedOn reach t l ts k
+    unfolding lookedOn threadAt
+    lookedOn-none h = rw (sym heard-there ∙ h) (sym (set-getD ts k noThread))
 
-      pub lookedOn-heard : (c : Cycle) (s : State) → b ≡ At c → s ≡ stateAfter (heldStep (waitEnds wait.Event c))
-          → set (o .threads .at) k (record { segment = getD (o .threads .at) k noThread .segment; state = s }) ≡ lookedOn reach t l (o .threads .at) k
-      unfolding lookedOn threadAt
-      lookedOn-heard c s h f =
-          let e : heardBy reach t l (segmentsOf t (o .threads .at)) (aheadOf reach t l (o .threads .at)) (awaitedBy (getD (o .threads .at) k noThread .state)) ≡ At c =
-          rw (← held-segments, ← held-limits) (sym hears ∙ h) in
-          rw (e, f) refl
+    lookedOn-heard : (c : Cycle) (s : State) → b ≡ At c → s ≡ stateAfter (heldStep (waitEnds wait.Event c))
+        → set ts k (record { segment = x .segment; state = s }) ≡ lookedOn reach t l ts k
+    unfolding lookedOn threadAt
+    lookedOn-heard c s h f = rw (sym heard-there ∙ h, f, there) refl
+
+  -- for the code: a look that hears nothing, and one that does
+  module _ (ws : List ℕ) (k : ℕ) (x : Thread) (b : Bound) (there : x ≡ getD (recordsIn ws) k noThread) (hears : b ≡ heardBy reach t l (segmentsOf t (recordsIn ws)) (aheadOf reach t l (recordsIn ws)) (awaitedBy (x .state))) where
+    pub look-none : b ≡ Never → Moved ws ws false (lookedOn reach t l (recordsIn ws) k)
+    look-none h = record { size = refl; records = λ s. lookedOn-none (recordsIn ws) k x b there hears h; still = λ e. refl }
+
+    pub look-heard : (vs : List ℕ) (c : Cycle) (s : State) → b ≡ At c → s ≡ stateAfter (heldStep (waitEnds wait.Event c)) → RecordPut k (record { segment = x .segment; state = s }) ws vs
+        → Moved ws vs true (lookedOn reach t l (recordsIn ws) k)
+    look-heard vs c s h f put =
+        record {
+          size = put .size;
+          records = λ z. put .records z ∙ lookedOn-heard (recordsIn ws) k x b there hears c s h f;
+          still = λ e. absurd (true-not-false e);
+        }
 
   -- a sweep
   pub sweptOn-none : (ts : List Thread) → sweptOn reach t l ts 0 ≡ ts
@@ -117,50 +123,46 @@ module _ (reach : List ℕ) (t : ℕ) (l : List Notification) where
   settledOn-still ts zero h = refl
   settledOn-still ts (suc n) h = rw h (settledOn-still ts n h)
 
-  -- an outlook says what its records are
-  module _ (o : Outlook) (ts : List Thread) (heard : Bool) (e : o ≡ outlookOf reach t l ts heard) where
-    pub outlook-threads : o .threads .at ≡ ts
-    unfolding outlookOf
-    outlook-threads = ap (λ (p : Outlook). p .threads .at) e
+  -- for the code: a turn of the sweep
+  module _ (ws vs us : List ℕ) (k : ℕ) (heard : Bool) where
+    pub sweep-none : Moved ws ws false (sweptOn reach t l (recordsIn ws) 0)
+    sweep-none = record { size = refl; records = λ s. sym (sweptOn-none (recordsIn ws)); still = λ e. refl }
 
-    pub outlook-heard : o .heard ≡ heard
-    unfolding outlookOf
-    outlook-heard = ap (λ (p : Outlook). p .heard) e
+    module _ (so : Moved ws vs heard (sweptOn reach t l (recordsIn ws) k)) where
+      swept : {b : Bool} → Moved vs us b (lookedOn reach t l (recordsIn vs) k) → length ws ≡ 160 → recordsIn us ≡ sweptOn reach t l (recordsIn ws) (k + 1)
+      swept m s = m .records (so .size ∙ s) ∙ (ap (λ (ts : List Thread). lookedOn reach t l ts k) (so .records s) ∙ sweptOn-more (recordsIn ws) k)
 
-    pub outlook-own : o ≡ outlookOf reach t l (o .threads .at) (o .heard)
-    outlook-own =
-        e ∙ (ap (λ (us : List Thread). outlookOf reach t l us heard) (sym outlook-threads) ∙ ap (outlookOf reach t l (o .threads .at)) (sym outlook-heard))
+      pub sweep-heard : Moved vs us true (lookedOn reach t l (recordsIn vs) k) → Moved ws us true (sweptOn reach t l (recordsIn ws) (k + 1))
+      sweep-heard m = record { size = m .size ∙ so .size; records = swept m; still = λ e. absurd (true-not-false e) }
 
-  -- nothing heard so far
-  pub outlook-begun : (o : Outlook) → o ≡ outlookOf reach t l (o .threads .at) (o .heard)
-      → record { threads = o .threads; crew = o .crew; limits = o .limits; heard = false } ≡ outlookOf reach t l (o .threads .at) false
-  unfolding outlookOf
-  outlook-begun o e =
-      let p : o .crew ≡ crewOf t (o .threads .at) = ap (λ (q : Outlook). q .crew) e in
-      let q : o .limits ≡ record { at = aheadOf reach t l (o .threads .at) } = ap (λ (r : Outlook). r .limits) e in
-      rw (p, q) refl
+      pub sweep-still : Moved vs us false (lookedOn reach t l (recordsIn vs) k) → Moved ws us heard (sweptOn reach t l (recordsIn ws) (k + 1))
+      sweep-still m = record { size = m .size ∙ so .size; records = swept m; still = λ e. m .still refl ∙ so .still e }
 
-  -- for the code: a look that hears, and a turn of the sweep
-  pub look-heard : (r : Outlook) (us vs : List Thread) {Q : Type 0} → r ≡ outlookOf reach t l us true → us ≡ vs
-      → (r ≡ outlookOf reach t l vs (r .heard)) × (r .heard ≡ false → Q)
-  look-heard r us vs e f =
-      let h = outlook-heard r us true e in
-      (e ∙ (ap (outlookOf reach t l us) (sym h) ∙ ap (λ (ws : List Thread). outlookOf reach t l ws (r .heard)) f), λ g. let z : true ≡ false = sym h ∙ g in absurd (true-not-false z))
+  -- for the code: the sweeps that are left lead to the same records
+  pub record Settling (ws vs : List ℕ) (i : ℕ) : Type 0 where
+    pub size : length vs ≡ length ws
+    pub left : length ws ≡ 160 → settledOn reach t l (t - i) (recordsIn vs) ≡ settledOn reach t l t (recordsIn ws)
 
-  pub sweep-more : (o w : Outlook) (ts : List Thread) (k : ℕ) → o ≡ outlookOf reach t l (sweptOn reach t l ts k) (o .heard)
-      → w ≡ outlookOf reach t l (lookedOn reach t l (o .threads .at) k) (w .heard) → w ≡ outlookOf reach t l (sweptOn reach t l ts (k + 1)) (w .heard)
-  sweep-more o w ts k e f = f ∙ ap (λ (us : List Thread). outlookOf reach t l us (w .heard)) (ap (λ (us : List Thread). lookedOn reach t l us k) (outlook-threads o (sweptOn reach t l ts k) (o .heard) e) ∙ sweptOn-more ts k)
+  pub settling-start : (ws : List ℕ) → Settling ws ws 0
+  settling-start ws =
+      let e : t - 0 ≡ t = omega arith in
+      record { size = refl; left = λ s. rw e refl }
 
-  -- for the code: a turn of the sweeps, and the last
-  module _ (o w : Outlook) (swept : w ≡ outlookOf reach t l (sweptOn reach t l (o .threads .at) t) (w .heard)) (us : List Thread) (i : ℕ)
-      (left : settledOn reach t l (t - i) (o .threads .at) ≡ us)
-    where
-      pub settle-more : i < t → settledOn reach t l (t - (i + 1)) (w .threads .at) ≡ us
-      settle-more h =
-          ap (settledOn reach t l (t - (i + 1))) (outlook-threads w (sweptOn reach t l (o .threads .at) t) (w .heard) swept)
-          ∙ (settledOn-next (o .threads .at) t i h ∙ left)
+  module _ (ws vs : List ℕ) (i : ℕ) (so : Settling ws vs i) where
+    pub settling-more : (us : List ℕ) (b : Bool) → Moved vs us b (sweptOn reach t l (recordsIn vs) t) → i < t → Settling ws us (i + 1)
+    settling-more us b m h =
+        record {
+          size = m .size ∙ so .size;
+          left = λ s. ap (settledOn reach t l (t - (i + 1))) (m .records (so .size ∙ s)) ∙ (settledOn-next (recordsIn vs) t i h ∙ so .left s);
+        }
 
-      pub settle-still : w .threads .at ≡ o .threads .at → w .threads .at ≡ us
-      settle-still h =
-          let e = sym (outlook-threads w (sweptOn reach t l (o .threads .at) t) (w .heard) swept) ∙ h in
-          h ∙ (sym (settledOn-still (o .threads .at) (t - i) e) ∙ left)
+    settled : (us : List ℕ) → length us ≡ length ws → (length ws ≡ 160 → recordsIn us ≡ settledOn reach t l t (recordsIn ws)) → Moved ws us true (settledOn reach t l t (recordsIn ws))
+    settled us e f = record { size = e; records = f; still = λ z. absurd (true-not-false z) }
+
+    pub settling-still : (us : List ℕ) → Moved vs us false (sweptOn reach t l (recordsIn vs) t) → Moved ws us true (settledOn reach t l t (recordsIn ws))
+    settling-still us m =
+        settled us (m .size ∙ so .size)
+        (λ s. m .still refl ∙ (sym (settledOn-still (recordsIn vs) (t - i) (sym (m .records (so .size ∙ s)) ∙ m .still refl)) ∙ so .left s))
+
+    pub settling-done : t ≤ i → Moved ws vs true (settledOn reach t l t (recordsIn ws))
+    settling-done h = settled vs (so .size) (λ s. sym (settledOn-done (recordsIn vs) t i h) ∙ so .left s)

@@ -1,9 +1,10 @@
 -- Document 01, "Early issue": deliveries on limits, as the code makes them; the laws of this crate say that on a fit state they are those of `early`.
 use Prim.Native.Nat.{ℕ, zero, suc}
-use mathlib.Core.Bool.{Bool, cond}
+use mathlib.Core.Path.{_≡_}
+use mathlib.Core.Bool.{Bool, false, cond}
 use mathlib.Core.List.{List}
 use lib.Dec.{ltb}
-use lib.ListN.{set}
+use lib.ListN.{length, set}
 use Rattle.base.specs.Index.{tabulate}
 use Rattle.clock.specs.declared.Wait.the-variants as wait
 use Rattle.clock.specs.declared.Bound.{Bound}
@@ -18,9 +19,25 @@ use Rattle.tables.specs.Word.{allOnes}
 use Rattle.early.specs.declared.Notification.{Notification}
 use Rattle.early.specs.Log.{leastHeard}
 use Rattle.reach.specs.declared.Crew.{Crew}
-use Rattle.deliveries.specs.declared.Outlook.{Outlook}
 use Rattle.reach.specs.Limit.{limitOfCycle, sumOf}
 use Rattle.reach.specs.Ahead.{forecastAt, earliestLimits, segmentsOf, eventsOf}
+use Rattle.numbers.specs.Numbers.{threadFrom}
+use Rattle.deliveries.specs.declared.Outlook.{Outlook}
+
+-- thread records kept as numbers
+unfoldable pub recordsIn : List ℕ → List Thread
+recordsIn ws = tabulate 32 0 (threadFrom ws)
+
+-- x for thread k; records have 160 words
+pub record RecordPut (k : ℕ) (x : Thread) (from to : List ℕ) : Type 0 where
+  pub size : length to ≡ length from
+  pub records : length from ≡ 160 → recordsIn to ≡ set (recordsIn from) k x
+
+-- the records ts from now on, which are those from before where nobody has heard
+pub record Moved (from to : List ℕ) (heard : Bool) (ts : List Thread) : Type 0 where
+  pub size : length to ≡ length from
+  pub records : length from ≡ 160 → recordsIn to ≡ ts
+  pub still : heard ≡ false → recordsIn to ≡ recordsIn from
 
 -- the least cycle of a ready thread below t
 unfoldable pub floorBelow : ℕ → List Thread → Bound
@@ -73,6 +90,6 @@ unfoldable pub settledOn : List ℕ → ℕ → List Notification → ℕ → Li
 settledOn reach t l zero ts = ts
 settledOn reach t l (suc n) ts = settledOn reach t l n (sweptOn reach t l ts t)
 
--- what the code holds of the records ts
-unfoldable pub outlookOf : List ℕ → ℕ → List Notification → List Thread → Bool → Outlook
-outlookOf reach t l ts heard = record { threads = record { at = ts }; crew = crewOf t ts; limits = record { at = aheadOf reach t l ts }; heard = heard }
+-- what is known of the records ts
+unfoldable pub outlookOf : List ℕ → ℕ → List Notification → List Thread → Outlook
+outlookOf reach t l ts = record { crew = crewOf t ts; limits = record { at = aheadOf reach t l ts } }

@@ -317,7 +317,7 @@ fn threatens(
 }
 
 // Document 01: "another live thread could run, at a smaller stamp by earliest plus distance, a segment that conflicts". The row has the marks of thread i's segment.
-fn any_threatens(
+pub fn any_threatens(
     row: [bool; 64],
     words: &[u64],
     n: u8,

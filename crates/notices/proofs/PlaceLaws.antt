@@ -4,8 +4,8 @@ use mathlib.Core.Path.{_≡_, refl, subst}
 use mathlib.Core.List.{List, [], _∷_, _++_, append-assoc}
 use native.Mathlib.Omega.{arith}
 use native.Mathlib.Numerals.{add-one}
-use lib.ListN.{length, take, replicate, set, getD, length-append, length-replicate}
-use lib.Seq.{take-append-seam, set-append-seam, take-suc, length-take-le}
+use lib.ListN.{length, take, replicate, set, getD, length-append}
+use lib.Seq.{set-append-seam, take-suc, length-take-le}
 use Rattle.model.specs.declared.Variables.{Variables}
 use Rattle.early.specs.declared.Notification.{Notification}
 use Rattle.early.specs.Log.{places, siteOf}
@@ -17,14 +17,6 @@ padded l = l ++ replicate (places - length l) noPair
 pub padded-none : replicate places noPair ≡ padded []
 unfolding padded
 padded-none = refl
-
-pub padded-length : (l : List Notification) → length l ≤ places → length (padded l) ≡ places
-unfolding padded
-padded-length l h = simp (length-append, length-replicate) (omega arith)
-
-pub padded-take : (l : List Notification) → take (length l) (padded l) ≡ l
-unfolding padded
-padded-take l = take-append-seam l _
 
 pub padded-more : (l : List Notification) (x : Notification) → length l < places → set (padded l) (length l) x ≡ padded (l ++ (x ∷ []))
 unfolding padded

@@ -8,7 +8,10 @@ use mathlib.Core.Bool.{Bool, true, false}
 use mathlib.Core.List.{List, [], _∷_, _++_}
 use native.Mathlib.Omega.{arith}
 use native.Mathlib.Numerals.{add-one}
-use lib.ListN.{length, getD, drop, replicate, drop-of-length-le}
+use native.Mathlib.Decide.{decLe}
+use mir.Val.{Val}
+use denote.Laws.{Is}
+use lib.ListN.{length, getD, drop, replicate, drop-of-length-le, length-append, length-drop, length-replicate}
 use lib.Seq.{sets, length-sets, sets-eq, drop-cons}
 use borrow.Author.Tests.{lt-ltb, le-ltb}
 use Rattle.model.specs.declared.Model.{Model}
@@ -19,14 +22,27 @@ use Rattle.early.specs.declared.Answer.{Answer}
 use Rattle.early.specs.declared.Answer.the-variants.{Granted, Refused}
 use Rattle.early.specs.declared.After.{After}
 use Rattle.early.specs.Fit.{isUnfit}
+use Rattle.early.specs.Log.{logOf, siteOf}
 use Rattle.early.specs.Request.{Requested, Listed, refusedWith, grantedTo, requestOf, requestsOf}
+use Rattle.bounds.proofs.LogLaws.{logOf-siteOf, siteOf-variables}
 use Rattle.bounds.proofs.RequestLaws.{Asked, refused, granted, requestOf-asked}
 use Rattle.reach.proofs.StateLaws.{isUnfit→FitState}
 use Rattle.reach.proofs.DeliverLaws.{after-fit}
+use Rattle.model.proofs.Threads as threads′
+use Rattle.early.proofs.Site as site′
+use Rattle.numbers.specs.Numbers.{logWords, recordWords, wordsIn, siteFrom, threadsFrom}
+use Rattle.numbers.proofs.WordLaws.{wordsIn-short}
+use Rattle.numbers.proofs.TurnLaws.{wordsIn-room}
+use Rattle.numbers.proofs.RoundLaws.{site-read, threads-read}
+use Rattle.notices.specs.Noted.{placesIn, logIn}
+use Rattle.deliveries.specs.Awake.{recordsIn}
 use Rattle.scheduler.specs.declared.Outcome.{Outcome}
+use Rattle.scheduler.specs.declared.Reply.{Reply}
+use Rattle.scheduler.specs.Answered.{Left, Answers, siteLeft, afterLeft, siteNow}
 use Rattle.scheduler.specs.After.{afterOf}
 use Rattle.scheduler.specs.Answers.{answerWords, answersWords, grantsIn, grantedIn, isShort, leftBy, outcomeOf, answersIn}
 use Rattle.scheduler.proofs.AnswerWordLaws.{words-next}
+use Rattle.scheduler.proofs.AnsweredLaws.{Stays, siteNow-none, siteNow-some}
 
 pub grantsIn-≤ : {x : ℕ} (a : Answer) → x ≡ grantsIn a → x ≤ 1
 grantsIn-≤ (Granted s c) e = omega arith
@@ -120,6 +136,134 @@ module _ (m : Model) (marks : List (List Bool)) (ws : List ℕ) where
           let stay : us ≡ record { at = requestsOf m marks ws site₀ ts₀ ks .threads } =
           ap (λ (xs : List Thread). record { at = xs }) (f ∙ (ap (λ (y : Listed). y .threads) (sym e) ∙ so .same-threads)) in
           (rw (granted, left, stay) refl, ap (λ (y : Listed). sets b (4 * i) (answersWords (y .answers))) (sym e) ∙ so .words)
+
+-- the words that hold the state s, which g grants have left of site₀
+pub record Holding (site₀ : Site) (g : ℕ) (v : List ℕ) (ls rs : List ℕ) (s : Site) (ts : List Thread) : Type 0 where
+  pub now : s ≡ siteNow g site₀ v (logIn ls)
+  pub values : s .variables .at ≡ v
+  pub pairs : logOf s ≡ logIn ls
+  pub threads : recordsIn rs ≡ ts
+  pub log-size : length ls ≡ 385
+  pub records-size : length rs ≡ 160
+
+module _ (site₀ : Site) (g : ℕ) (v : List ℕ) (ls rs : List ℕ) (s : Site) (ts : List Thread) (h : Holding site₀ g v ls rs s ts) (a : Left) (r : Reply) (ms us : List ℕ) (k : Answers a r ms us) where
+  -- a refusal leaves the same state, a grant a new one
+  pub holding-more : (x : ℕ) → Stays (a .answer) a v (logIn ls) → x ≡ grantsIn (a .answer) → Holding site₀ (g + x) (r .variables .at) ms us (afterLeft s a .site) (a .threads)
+  holding-more x = go (a .answer)
+    where
+      go : (b : Answer) → Stays b a v (logIn ls) → x ≡ grantsIn b → Holding site₀ (g + x) (r .variables .at) ms us (siteLeft b (siteOf (a .variables) (a .log)) s) (a .threads)
+      go (Granted n c) st e =
+          record {
+            now = rw (← k .variables, ← k .log) (siteNow-some (g + x) site₀ (r .variables .at) (logIn ms) (λ z. omega arith));
+            values = siteOf-variables (a .variables) (a .log) ∙ sym (k .variables);
+            pairs = logOf-siteOf (a .variables) (a .log) ∙ sym (k .log);
+            threads = k .threads;
+            log-size = k .log-size;
+            records-size = k .records-size;
+          }
+      go (Refused n) st e =
+          let p : r .variables .at ≡ v = k .variables ∙ st .0 in
+          let q : logIn ms ≡ logIn ls = k .log ∙ st .1 in
+          let z : g + x ≡ g = omega arith in
+          record {
+            now = rw (p, q, z) (h .now);
+            values = h .values ∙ sym p;
+            pairs = h .pairs ∙ sym q;
+            threads = k .threads;
+            log-size = k .log-size;
+            records-size = k .records-size;
+          }
+
+-- the state and the records, written as words
+pub holding-start : (site₀ : Site) (g : ℕ) (v : List ℕ) (ls rs : List ℕ) (ts : List Thread) → g ≡ 0 → site₀ .variables .at ≡ v → logOf site₀ ≡ logIn ls → recordsIn rs ≡ ts → length ls ≡ 385 → length rs ≡ 160
+    → Holding site₀ g v ls rs site₀ ts
+holding-start site₀ g v ls rs ts z p q t m n = record { now = siteNow-none g site₀ v (logIn ls) z; values = p; pairs = q; threads = t; log-size = m; records-size = n }
+
+pub log-written : (s : Site) (vs ls : List ℕ) → siteFrom vs ls ≡ s → logOf s ≡ logIn ls
+unfolding siteFrom logOf logIn placesIn
+log-written s vs ls e = ap logOf (sym e)
+
+pub records-written : (x : Threads) (rs : List ℕ) → threadsFrom rs ≡ x → recordsIn rs ≡ x .at
+unfolding threadsFrom recordsIn
+records-written x rs e = ap (λ (y : Threads). y .at) e
+
+wordsIn-length : (ws out : List ℕ) → length (wordsIn ws out) ≡ length out
+wordsIn-length ws out = go (decLe (length ws) (length out))
+  where
+    go : Dec (length ws ≤ length out) → length (wordsIn ws out) ≡ length out
+    go (yes h) = rw (wordsIn-room ws out h) (simp (length-append, length-drop) (omega arith))
+    go (no h) = ap length (sym (wordsIn-short ws out (omega arith)))
+
+abbrev zeros : ℕ → List ℕ
+zeros n = replicate n 0
+
+zeros-length : (n : ℕ) → length (zeros n) ≡ n
+zeros-length n = length-replicate n _
+
+pub holding-written : (site : Site) (vals : List Val) → Is site′.the-row site vals → (threads : Threads) (others : List Val) → Is threads′.the-row threads others → (ls rs : List ℕ)
+    → ls ≡ wordsIn (logWords site) (zeros 385) → rs ≡ wordsIn (recordWords threads) (zeros 160) → Holding site 0 (site .variables .at) ls rs site (threads .at)
+holding-written site vals g threads others k ls rs p q =
+    let m : length (zeros 64) ≡ 64 = zeros-length 64 in
+    let n : length (zeros 385) ≡ 385 = zeros-length 385 in
+    let o : length (zeros 160) ≡ 160 = zeros-length 160 in
+    rw (p, q)
+    (holding-start site 0 (site .variables .at) (wordsIn (logWords site) (zeros 385)) (wordsIn (recordWords threads) (zeros 160)) (threads .at) refl refl
+    (log-written site (wordsIn (site .variables .at) (zeros 64)) (wordsIn (logWords site) (zeros 385)) (site-read site vals g (zeros 64) (zeros 385) (omega arith) (omega arith)))
+    (records-written threads (wordsIn (recordWords threads) (zeros 160)) (threads-read threads others k (zeros 160) (omega arith)))
+    (wordsIn-length (logWords site) (zeros 385) ∙ n)
+    (wordsIn-length (recordWords threads) (zeros 160) ∙ o))
+
+-- for the code: one request
+pub request-made : (m : Model) (marks : List (List Bool)) (ws : List ℕ) (site : Site) (ts : List Thread) (k : ℕ) (v ls rs : List ℕ) → Holding site 0 v ls rs site ts
+    → (a : Left) (r : Reply) (ms us : List ℕ) → Answers a r ms us → Stays (a .answer) a v (logIn ls) → afterLeft site a ≡ afterOf (requestOf m marks ws site ts k)
+    → (x : ℕ) (left : Site) (threads : Threads) → x ≡ grantsIn (r .answer) → left ≡ siteNow x site (r .variables .at) (logIn ms) → threads ≡ threadsFrom us
+    → record { answer = r .answer; site = left; threads = threads } ≡ afterOf (requestOf m marks ws site ts k)
+unfolding threadsFrom recordsIn
+request-made m marks ws site ts k v ls rs h a r ms us n st e x left threads p q t =
+    let next = holding-more site 0 v ls rs site ts h a r ms us n x st (p ∙ ap grantsIn (n .answer)) in
+    let z : 0 + x ≡ x = omega arith in
+    let there : left ≡ afterLeft site a .site = q ∙ sym (next .now ∙ ap (λ (i : ℕ). siteNow i site (r .variables .at) (logIn ms)) z) in
+    let moved : threads ≡ record { at = a .threads } = t ∙ ap (λ (xs : List Thread). record { at = xs }) (n .threads) in
+    rw (n .answer, there, moved) e
+
+-- for the code: the loop on words
+module _ (m : Model) (marks : List (List Bool)) (ws : List ℕ) (site₀ : Site) (ts₀ : List Thread) (ks b₀ : List ℕ) where
+  pub record Doing (b v ls rs : List ℕ) (g i : ℕ) : Type 0 where
+    pub going : Going m marks ws site₀ ts₀ ks b₀ b (siteNow g site₀ v (logIn ls)) (recordsIn rs) g i
+    pub holding : Holding site₀ g v ls rs (siteNow g site₀ v (logIn ls)) (recordsIn rs)
+
+  doing-start : (v ls rs : List ℕ) → isUnfit m ws site₀ ts₀ ≡ false → Holding site₀ 0 v ls rs site₀ ts₀ → Doing b₀ v ls rs 0 0
+  doing-start v ls rs e h =
+      let start : Going m marks ws site₀ ts₀ ks b₀ b₀ (siteNow 0 site₀ v (logIn ls)) (recordsIn rs) 0 0 = rw (← h .now, h .threads) (going-start m marks ws site₀ ts₀ ks b₀ e) in
+      record { going = start; holding = subst (λ (s : Site). Holding site₀ 0 v ls rs s (recordsIn rs)) (h .now) (rw (h .threads) h) }
+
+  pub doing-begin : (v ls rs : List ℕ) (ts : List Thread) → ts₀ ≡ recordsIn rs → isUnfit m ws site₀ ts ≡ false → Holding site₀ 0 v ls rs site₀ ts → Doing b₀ v ls rs 0 0
+  doing-begin v ls rs ts p e h =
+      let q = p ∙ h .threads in
+      doing-start v ls rs (ap (isUnfit m ws site₀) q ∙ e) (rw q h)
+
+  module _ (b v ls rs : List ℕ) (g i : ℕ) (so : Doing b v ls rs g i) where
+    abbrev here : Site
+    here = siteNow g site₀ v (logIn ls)
+
+    pub doing-more : (a : Left) (r : Reply) (ms us bs : List ℕ) (x : ℕ) → Answers a r ms us → Stays (a .answer) a v (logIn ls) → i < length ks
+        → afterLeft here a ≡ afterOf (requestOf m marks ws here (recordsIn rs) (getD ks i 0)) → bs ≡ sets b (4 * i) (answerWords (r .answer)) → x ≡ grantsIn (r .answer)
+        → Doing bs (r .variables .at) ms us (g + x) (i + 1)
+    doing-more a r ms us bs x n st below e p q =
+        let next = holding-more site₀ g v ls rs here (recordsIn rs) (so .holding) a r ms us n x st (q ∙ ap grantsIn (n .answer)) in
+        let gone = going-more m marks ws site₀ ts₀ ks b₀ b here (recordsIn rs) g i (so .going) (afterLeft here a) bs x below e (p ∙ ap (λ (y : Answer). sets b (4 * i) (answerWords y)) (n .answer)) (q ∙ ap grantsIn (n .answer)) in
+        let at = next .now in
+        let to = n .threads in
+        record {
+          going = rw (← at, to) gone;
+          holding = rw (← at, to) next;
+        }
+
+    pub doing-done : (site : Site) (us : Threads) → site ≡ here → us ≡ threadsFrom rs → length ks ≤ i
+        → (record { number = 0; granted = g; site = site; threads = us } ≡ leftBy (requestsOf m marks ws site₀ ts₀ ks))
+        × (b ≡ sets b₀ 0 (answersWords (requestsOf m marks ws site₀ ts₀ ks .answers)))
+    unfolding threadsFrom recordsIn
+    doing-done site us e f h = rw e (going-done m marks ws site₀ ts₀ ks b₀ b here (recordsIn rs) g i (so .going) us (ap (λ (x : Threads). x .at) f) h)
 
 -- 11 on an unfit state changes nothing, so that it is every answer
 module _ (m : Model) (marks : List (List Bool)) (ws : List ℕ) (site : Site) (ts : List Thread) (e : isUnfit m ws site ts ≡ true) where

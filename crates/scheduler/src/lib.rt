@@ -28,10 +28,18 @@ ghost use Rattle.plain.specs.Start.{freshThreads};
 ghost use Rattle.early.specs.Fit.{isUnfit};
 ghost use Rattle.early.specs.Request.{earlyPlaces, freshSite, requestOf, requestsOf};
 ghost use Rattle.reach.specs.Ahead.{reachOf};
-ghost use Rattle.scheduler.specs.Answered.{refusedOn, grantedOn, triedOn, clearOn, answeredOn};
+ghost use Rattle.notices.specs.Noted.{logIn};
+ghost use Rattle.deliveries.specs.Awake.{recordsIn};
+ghost use Rattle.scheduler.specs.Answered.{Answers, siteNow, grantedOn, triedOn, clearOn, answeredOn};
 ghost use Rattle.scheduler.specs.After.{afterOf};
 ghost use Rattle.scheduler.specs.Fresh.{freshOf};
 ghost use Rattle.scheduler.specs.Answers.{answerWords, answersWords, grantsIn, leftBy, outcomeOf, answersIn};
+
+// The answer to a request, with the variables after it.
+struct Reply {
+    answer: Answer,
+    variables: Variables,
+}
 
 // The number, 0 where the model is accepted; then the fresh state and the fresh records, all zero beside a number.
 pub struct FreshState {
@@ -54,18 +62,17 @@ fn wide(x: u8) -> usize
     x as usize
 }
 
-fn refused(number: u8, site: Site, threads: Threads) -> After
-    ensures { λ r. ⌜ r ≡ refusedOn number site (threads .at) ⌝ }
+fn refused(number: u8, variables: Variables) -> Reply
+    ensures { λ r. ⌜ (r .answer ≡ Answer.Refused number) × (r .variables .at ≡ variables .at) ⌝ }
 {
-    After {
+    Reply {
         answer: Answer::Refused(number),
-        site,
-        threads,
+        variables,
     }
 }
 
 // Document 01, 15: "cycle later than the floor and log plus new pairs above 96; or above 128 for any thread".
-fn is_full(over: bool, count: u8, floor: Bound, c: Cycle) -> bool
+fn is_full(over: bool, count: usize, floor: Bound, c: Cycle) -> bool
     ensures { λ r. ⌜ r ≡ (over || (isBoundBefore floor (Bound.At c) && ltb earlyPlaces count)) ⌝ }
 {
     if over {
@@ -78,17 +85,24 @@ fn is_full(over: bool, count: u8, floor: Bound, c: Cycle) -> bool
 }
 
 // Document 01, "After a grant": deliveries, and the drop before the floor.
-fn granted(reach: &[u64], t: u8, site: Site, threads: Threads, s: u8, c: Cycle) -> After
-    requires { ⌜ t ≤ 32 ⌝ }
-    ensures { λ r. ⌜ r ≡ grantedOn (now (reach .entry)) t site (threads .at) s c ⌝ }
+fn granted(
+    reach: &[u64],
+    t: u8,
+    variables: Variables,
+    log: &mut [u64; 385],
+    records: &mut [u64; 160],
+    s: u8,
+    c: Cycle,
+) -> Reply
+    requires { ⌜ (t ≤ 32) × ((length (now log) ≡ 385) × (length (now records) ≡ 160)) ⌝ }
+    ensures { λ r. ⌜ Answers (grantedOn (now (reach .entry)) t (variables .at) (logIn (now (log .entry))) (recordsIn (now (records .entry))) s c) r (now (log .exit)) (now (records .exit)) ⌝ }
 {
-    let after = deliveries::settle(reach, site, threads, t);
-    let floor = deliveries::floor_of(after, t);
-    let kept = notices::drop_before(site, floor);
-    After {
+    deliveries::settle(reach, log, records, t);
+    let floor = deliveries::floor_of(records, t);
+    notices::drop_before(log, floor);
+    Reply {
         answer: Answer::Granted(s, c),
-        site: kept,
-        threads: after,
+        variables,
     }
 }
 
@@ -97,68 +111,56 @@ fn tried(
     reach: &[u64],
     t: u8,
     g: Segment,
-    site: Site,
-    threads: Threads,
+    v: Variables,
+    log: &mut [u64; 385],
+    records: &mut [u64; 160],
     k: usize,
     c: Cycle,
-) -> After
-    requires { ⌜ t ≤ 32 ⌝ }
-    requires { ⌜ k < t ⌝ }
-    ensures { λ r. ⌜ r ≡ triedOn (now (reach .entry)) t g site (threads .at) k c ⌝ }
+) -> Reply
+    requires { ⌜ (t ≤ 32) × ((length (now log) ≡ 385) × (length (now records) ≡ 160)) ⌝ }
+    ensures { λ r. ⌜ Answers (triedOn (now (reach .entry)) t g (v .at) (logIn (now (log .entry))) (recordsIn (now (records .entry))) k c) r (now (log .exit)) (now (records .exit)) ⌝ }
 {
-    let x = threads.at[k];
+    let x = deliveries::record_at(records, k);
     let s = x.segment;
-    let v = site.variables;
     let ran = machine::effect_in(g, s, c, v);
     let variables = ran.variables;
     let events = ran.notified;
     let thread = ran.thread;
-    let log = site.log;
-    let noted = notices::note(
-        Site {
-            variables,
-            log,
-            count: site.count,
-        },
-        c,
-        events,
-    );
-    let over = noted.over;
-    let after = noted.site;
-    let count = after.count;
-    if is_full(over, count, deliveries::floor_of(threads, t), c) {
-        return refused(15, site, threads);
+    let noted = notices::note(log, c, events);
+    let count = noted.count;
+    if is_full(noted.over, count, deliveries::floor_of(records, t), c) {
+        return refused(15, v);
     }
-    let mut closed = threads;
-    closed.at[k] = thread;
-    granted(reach, t, after, closed, s, c)
+    notices::keep(log, count);
+    deliveries::put_record(records, k, thread);
+    granted(reach, t, variables, log, records, s, c)
 }
 
-// Hazards, before anything is run.
+// Hazards, before anything is run. The row has the marks of the thread's segment.
 fn clear(
     n: u8,
     t: u8,
     g: Segment,
-    marks: [[bool; 64]; 64],
+    row: [bool; 64],
     words: &[u64],
     reach: &[u64],
-    site: Site,
-    threads: Threads,
+    v: Variables,
+    log: &mut [u64; 385],
+    records: &mut [u64; 160],
     at: Stamp,
-) -> After
-    requires { ⌜ t ≤ 32 ⌝ }
-    requires { ⌜ at .thread .0 < t ⌝ }
-    ensures { λ r. ⌜ r ≡ clearOn n t g marks (now (words .entry)) (now (reach .entry)) site (threads .at) at ⌝ }
+) -> Reply
+    requires { ⌜ (t ≤ 32) × ((length (now log) ≡ 385) × (length (now records) ≡ 160)) ⌝ }
+    ensures { λ r. ⌜ Answers (clearOn n t g row (now (words .entry)) (now (reach .entry)) (v .at) (logIn (now (log .entry))) (recordsIn (now (records .entry))) at) r (now (log .exit)) (now (records .exit)) ⌝ }
 {
-    let o = deliveries::outlook_of(reach, site, threads, t);
+    let o = deliveries::outlook_of(reach, log, records, t);
     let crew = o.crew;
     let limits = o.limits;
-    if lookahead::hazard(marks, words, n, t, crew, limits, at) {
-        return refused(14, site, threads);
-    }
     let i = wide(at.thread.0);
     let c = at.cycle;
-    tried(reach, t, g, site, threads, i, c)
+    if lookahead::any_threatens(row, words, n, t, crew, limits, i, lookahead::limit_of(c)) {
+        return refused(14, v);
+    }
+    tried(reach, t, g, v, log, records, i, c)
 }
 
 // A request on a fit state, by the counts of its model and the segment that the thread is in.
@@ -167,46 +169,54 @@ fn answered(
     n: u8,
     t: u8,
     g: Segment,
-    marks: [[bool; 64]; 64],
+    row: [bool; 64],
     words: &[u64],
     reach: &[u64],
-    site: Site,
-    threads: Threads,
+    v: Variables,
+    log: &mut [u64; 385],
+    records: &mut [u64; 160],
     k: ThreadNo,
-) -> After
-    requires { ⌜ t ≤ 32 ⌝ }
-    ensures { λ r. ⌜ r ≡ answeredOn horizon n t g marks (now (words .entry)) (now (reach .entry)) site (threads .at) (k .0) ⌝ }
+) -> Reply
+    requires { ⌜ (t ≤ 32) × ((length (now log) ≡ 385) × (length (now records) ≡ 160)) ⌝ }
+    ensures { λ r. ⌜ Answers (answeredOn horizon n t g row (now (words .entry)) (now (reach .entry)) (v .at) (logIn (now (log .entry))) (recordsIn (now (records .entry))) (k .0)) r (now (log .exit)) (now (records .exit)) ⌝ }
 {
     if t <= k.0 {
-        return refused(10, site, threads);
+        return refused(10, v);
     }
-    let i = wide(k.0);
-    let x = threads.at[i];
+    let x = deliveries::record_at(records, wide(k.0));
     let s = x.state;
     let State::Ready(c) = s else {
-        return refused(12, site, threads);
+        return refused(12, v);
     };
     if horizon.0 <= c.time.0 {
-        return refused(13, site, threads);
+        return refused(13, v);
     }
     let at = Stamp {
         cycle: c,
         thread: k,
     };
-    clear(n, t, g, marks, words, reach, site, threads, at)
+    clear(n, t, g, row, words, reach, v, log, records, at)
 }
 
 // The segment that thread k is in, 0 where there is no such thread.
-fn segment_of(threads: Threads, t: u8, k: u8) -> usize
-    requires { ⌜ t ≤ 32 ⌝ }
-    ensures { λ r. ⌜ r ≡ cond (ltb k t) (threadAt (threads .at) k .segment) 0 ⌝ }
+fn segment_of(records: &[u64; 160], t: u8, k: u8) -> usize
+    ensures { λ r. ⌜ r ≡ cond (ltb k t) (threadAt (recordsIn (now (records .entry))) k .segment) 0 ⌝ }
 {
     if t <= k {
         return 0;
     }
-    let i = wide(k);
-    let x = threads.at[i];
+    let x = deliveries::record_at(records, wide(k));
     wide(x.segment)
+}
+
+// The state that so many grants have left: as handed in, where there was none.
+fn site_now(granted: u64, site: Site, v: Variables, log: &[u64; 385]) -> Site
+    ensures { λ r. ⌜ r ≡ siteNow granted site (v .at) (logIn (now (log .entry))) ⌝ }
+{
+    if granted == 0 {
+        return site;
+    }
+    notices::site_of(v, log)
 }
 
 // The variables and the log, all zero.
@@ -284,11 +294,17 @@ pub fn fresh(m: Model) -> FreshState
     }
 }
 
+// Whether an answer is a grant, as a number.
+fn grants_in(a: Answer) -> u64
+    ensures { λ r. ⌜ r ≡ grantsIn a ⌝ }
+{
+    match a {
+        Answer::Granted(_, _) => 1,
+        Answer::Refused(_) => 0,
+    }
+}
+
 // A request: 11, then 10, 12, 13, 14, 15.
-// Document 01 leaves free, and the definition fixes: the order in which threads are looked at (lowest first; any order leaves the
-// same, `settled-any` of bounds); marks that are not symmetric (the row of the asking thread's segment is read, `requestOf-row`);
-// equal pairs handed in (they stay and count as they stand, `siteAfter-front`); places past the log's count (kept on a refusal, not
-// read, 0 after a grant, `requestOf-held`); records past the threads (kept, `threadsAfter-past`).
 pub fn request(
     m: Model,
     marks: [[bool; 64]; 64],
@@ -300,25 +316,46 @@ pub fn request(
     ensures { λ r. ⌜ r ≡ afterOf (requestOf m marks (now (words .entry)) site (threads .at) (k .0)) ⌝ }
 {
     if fitness::is_unfit(m, words, site, threads) {
-        return refused(11, site, threads);
+        let answer = Answer::Refused(11);
+        return After {
+            answer,
+            site,
+            threads,
+        };
     }
     let mut reach = [0u64; 2048];
     lookahead::fill_reach(m, words, &mut reach);
+    let mut values = [0u32; 64];
+    let mut log = [0u64; 385];
+    let mut records = [0u64; 160];
+    numbers::site_into(site, &mut values, &mut log);
+    numbers::threads_into(threads, &mut records);
     let t = m.t;
     let n = m.n;
     let horizon = m.horizon;
-    let s = segment_of(threads, t, k.0);
+    let s = segment_of(&records, t, k.0);
     let g = m.segments[s];
-    answered(horizon, n, t, g, marks, words, &reach, site, threads, k)
-}
-
-// Whether an answer is a grant, as a number.
-fn grants_in(a: Answer) -> u64
-    ensures { λ r. ⌜ r ≡ grantsIn a ⌝ }
-{
-    match a {
-        Answer::Granted(_, _) => 1,
-        Answer::Refused(_) => 0,
+    let row = marks[s];
+    let v = site.variables;
+    let a = answered(
+        horizon,
+        n,
+        t,
+        g,
+        row,
+        words,
+        &reach,
+        v,
+        &mut log,
+        &mut records,
+        k,
+    );
+    let answer = a.answer;
+    let left = a.variables;
+    After {
+        answer,
+        site: site_now(grants_in(answer), site, left, &log),
+        threads: numbers::threads_from(&records),
     }
 }
 
@@ -377,32 +414,48 @@ fn answer_all(
     let t = m.t;
     let n = m.n;
     let horizon = m.horizon;
-    let mut s = site;
-    let mut ts = threads;
+    let mut values = [0u32; 64];
+    let mut log = [0u64; 385];
+    let mut records = [0u64; 160];
+    numbers::site_into(site, &mut values, &mut log);
+    numbers::threads_into(threads, &mut records);
+    let mut v = site.variables;
     let mut granted: u64 = 0;
     let mut i = 0;
     while i < ks.len() {
         let k = ks[i];
-        let j = segment_of(ts, t, k);
+        let j = segment_of(&records, t, k);
         let g = m.segments[j];
-        let a = answered(horizon, n, t, g, marks, words, reach, s, ts, ThreadNo(k));
+        let row = marks[j];
+        let a = answered(
+            horizon,
+            n,
+            t,
+            g,
+            row,
+            words,
+            reach,
+            v,
+            &mut log,
+            &mut records,
+            ThreadNo(k),
+        );
         let answer = a.answer;
         put_answer(answers, 4 * i, answer);
         granted += grants_in(answer);
-        s = a.site;
-        ts = a.threads;
+        v = a.variables;
         i += 1;
     }
+    let site = site_now(granted, site, v, &log);
     Outcome {
         number: 0,
         granted,
-        site: s,
-        threads: ts,
+        site,
+        threads: numbers::threads_from(&records),
     }
 }
 
-// A list of requests: 11 is asked once, and the answers are written four words each. What is left free is as in `request`; words of
-// the buffer past the answers stay.
+// A list of requests: 11 is asked once, and the answers are written four words each.
 pub fn requests(
     m: Model,
     marks: [[bool; 64]; 64],

@@ -3,29 +3,26 @@ use Prim.Native.Nat.{_≤_, _-_}
 use mathlib.Core.Path.{_≡_}
 use native.Mathlib.Omega.{arith}
 use borrow.Author.Needs.{needs}
-use Rattle.early.specs.Log.{logOf}
-use Rattle.deliveries.specs.Awake.{firstLimits}
+use Rattle.notices.specs.Noted.{logIn}
+use Rattle.deliveries.specs.Awake.{recordsIn, firstLimits}
 use Rattle.deliveries.proofs.CrewLaws.{limits-none, limits-more}
 use Rattle.deliveries.proofs.first_limits.Statement.{statement}
 use Rattle.deliveries.proofs.first_limits.Tie as tie
 
 abbrev Inv-loop : tie.InvT-loop
-Inv-loop site t threads n at₀ k₀ at k = (k ≤ n) × (at ≡ firstLimits k (logOf site) (threads .at))
+Inv-loop log records t n at₀ k₀ at k = (k ≤ n) × (at ≡ firstLimits k (logIn log) (recordsIn records))
 
 abbrev μ-loop : tie.MeasureT-loop
-μ-loop site t threads n at₀ k₀ at k = n - k
+μ-loop log records t n at₀ k₀ at k = n - k
 
 wide-requires : tie.Need-wide-requires Inv-loop μ-loop
 wide-requires c κs = search needs
 
 loop-holds : tie.Need-loop-holds Inv-loop μ-loop
-loop-holds c = (omega arith, limits-none (c .before .args .t2 .at) (logOf (c .before .args .site)))
+loop-holds c = (omega arith, limits-none (recordsIn (c .before .args .records .now)) (logIn (c .before .args .log .now)))
 
-mul-x : tie.Need-mul-x Inv-loop μ-loop
-mul-x c = omega arith
-
-element-copy-out-x : tie.Need-element-copy-out-x Inv-loop μ-loop
-element-copy-out-x c = omega arith
+record-at-requires : tie.Need-record-at-requires Inv-loop μ-loop
+record-at-requires c κs = search needs
 
 first-limit-requires : tie.Need-first-limit-requires Inv-loop μ-loop
 first-limit-requires c κs = search needs
@@ -37,16 +34,16 @@ array-write-at : tie.Need-array-write-at Inv-loop μ-loop
 array-write-at c = omega arith
 
 add-k : tie.Need-add-k Inv-loop μ-loop
-add-k c = omega arith
+add-k c = search needs
 
 loop-less : tie.Need-loop-less Inv-loop μ-loop
-loop-less c = omega arith
+loop-less c = search needs
 
 loop-again : tie.Need-loop-again Inv-loop μ-loop
 loop-again c =
     let start = c .before .before .before .before .before in
     let here = c .before .before .before .loop in
-    (omega arith, limits-more (start .args .t2 .at) (logOf (start .args .site)) (here .at) (here .k) _ (omega arith) (here .inv .1) (c .first-limit .ensures))
+    (omega arith, limits-more (recordsIn (start .args .records .now)) (logIn (start .args .log .now)) (here .at) (here .k) _ _ (omega arith) (here .inv .1) (c .before .record-at .ensures) (c .first-limit .ensures))
 
 returns : tie.Need-returns Inv-loop μ-loop
 returns c =
@@ -61,8 +58,7 @@ first-limits-spec =
     μ-loop
     wide-requires
     loop-holds
-    mul-x
-    element-copy-out-x
+    record-at-requires
     first-limit-requires
     mul-at
     array-write-at

@@ -5,16 +5,16 @@ use native.Mathlib.Omega.{arith}
 use borrow.Author.Needs.{needs}
 use Rattle.clock.specs.Advance.{least}
 use Rattle.reach.specs.Limit.{atMost}
-use Rattle.deliveries.specs.Awake.{floorBelow}
+use Rattle.deliveries.specs.Awake.{recordsIn, floorBelow}
 use Rattle.deliveries.proofs.CrewLaws.{floor-none, floor-more}
 use Rattle.deliveries.proofs.floor_of.Statement.{statement}
 use Rattle.deliveries.proofs.floor_of.Tie as tie
 
 abbrev Inv-loop : tie.InvT-loop
-Inv-loop t threads n least₀ k₀ least k = (k ≤ n) × (least ≡ floorBelow k (threads .at))
+Inv-loop records t n least₀ k₀ least k = (k ≤ n) × (least ≡ floorBelow k (recordsIn records))
 
 abbrev μ-loop : tie.MeasureT-loop
-μ-loop t threads n least₀ k₀ least k = n - k
+μ-loop records t n least₀ k₀ least k = n - k
 
 few-requires : tie.Need-few-requires Inv-loop μ-loop
 few-requires c κs = search needs
@@ -23,13 +23,10 @@ wide-requires : tie.Need-wide-requires Inv-loop μ-loop
 wide-requires c κs = search needs
 
 loop-holds : tie.Need-loop-holds Inv-loop μ-loop
-loop-holds c = (omega arith, floor-none (c .before .before .args .t1 .at))
+loop-holds c = (omega arith, floor-none (recordsIn (c .before .before .args .records .now)))
 
-mul-x : tie.Need-mul-x Inv-loop μ-loop
-mul-x c = omega arith
-
-element-copy-out-x : tie.Need-element-copy-out-x Inv-loop μ-loop
-element-copy-out-x c = omega arith
+record-at-requires : tie.Need-record-at-requires Inv-loop μ-loop
+record-at-requires c κs = search needs
 
 ready-cycle-requires : tie.Need-ready-cycle-requires Inv-loop μ-loop
 ready-cycle-requires c κs = search needs
@@ -38,16 +35,15 @@ least-of-requires : tie.Need-least-of-requires Inv-loop μ-loop
 least-of-requires c κs = search needs
 
 add-k : tie.Need-add-k Inv-loop μ-loop
-add-k c = omega arith
+add-k c = search needs
 
 loop-less : tie.Need-loop-less Inv-loop μ-loop
-loop-less c = omega arith
+loop-less c = search needs
 
 loop-again : tie.Need-loop-again Inv-loop μ-loop
 loop-again c =
-    let ts = c .before .before .before .before .before .before .before .args .t1 .at in
     let here = c .before .before .before .before .loop in
-    (omega arith, c .least-of .ensures ∙ ap (least (here .least)) (c .before .ready-cycle .ensures) ∙ floor-more ts (here .least) (here .k) (here .inv .1))
+    (omega arith, c .least-of .ensures ∙ (ap (least (here .least)) (c .before .ready-cycle .ensures) ∙ floor-more (recordsIn (c .before .before .before .before .before .before .before .args .records .now)) (here .least) (here .k) _ (here .inv .1) (c .before .before .record-at .ensures)))
 
 returns : tie.Need-returns Inv-loop μ-loop
 returns c =
@@ -63,8 +59,7 @@ floor-of-spec =
     few-requires
     wide-requires
     loop-holds
-    mul-x
-    element-copy-out-x
+    record-at-requires
     ready-cycle-requires
     least-of-requires
     add-k

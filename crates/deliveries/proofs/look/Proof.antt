@@ -1,16 +1,12 @@
--- `deliveries::look` meets its contract. Nothing is heard and nothing changes, or the outlook is made anew.
-use mathlib.Core.Path.{refl}
+-- `deliveries::look` meets its contract. Nothing is heard and nothing changes, or the thread is woken.
 use borrow.Author.Needs.{needs}
-use Rattle.early.specs.Log.{logOf}
-use Rattle.deliveries.proofs.SweepLaws.{lookedOn-none, lookedOn-heard, look-heard}
+use Rattle.notices.specs.Noted.{logIn}
+use Rattle.deliveries.proofs.SweepLaws.{look-none, look-heard}
 use Rattle.deliveries.proofs.look.Statement.{statement}
 use Rattle.deliveries.proofs.look.Tie as tie
 
-mul-x : tie.Need-mul-x
-mul-x c = search needs
-
-element-copy-out-x : tie.Need-element-copy-out-x
-element-copy-out-x c = search needs
+record-at-requires : tie.Need-record-at-requires
+record-at-requires c κs = search needs
 
 heard-by-requires : tie.Need-heard-by-requires
 heard-by-requires c κs = search needs
@@ -23,47 +19,29 @@ enum-told c = search needs
 
 returns : tie.Need-returns
 returns c =
-    let start = c .before .before .before .before .before .before .before .before in (
-      lookedOn-none (start .args .reach .now) (start .args .t) (logOf (start .args .site)) (start .args .o) (start .pre .1 .1) (start .args .k) _
-          (c .before .before .heard-by .ensures)
-          (c .enum-told .given .1),
-      λ h. (h, refl),
-    )
+    let x = c .before .before .before .before .before .before .before .args in
+    look-none (x .reach .now) (x .t) (logIn (x .log .now)) (x .records .now) (x .k) _ _ (c .before .before .before .before .record-at .ensures) (c .before .before .heard-by .ensures) (c .enum-told .given .1)
 
 woken-at-requires : tie.Need-woken-at-requires
 woken-at-requires c κs = search needs
 
-mul-t13 : tie.Need-mul-t13
-mul-t13 c = search needs
-
-element-set-from-threads : tie.Need-element-set-from-threads
-element-set-from-threads c = search needs
-
-outlook-with-requires : tie.Need-outlook-with-requires
-outlook-with-requires c κs = search needs
+put-record-requires : tie.Need-put-record-requires
+put-record-requires c κs = search needs
 
 returns-2 : tie.Need-returns-2
 returns-2 c =
-    let start = c .before .before .before .before .before .before .before .before .before .before .before in
-    look-heard (start .args .reach .now) (start .args .t) (logOf (start .args .site)) _ _ _
-    (c .outlook-with .ensures)
-    (lookedOn-heard (start .args .reach .now) (start .args .t) (logOf (start .args .site)) (start .args .o) (start .pre .1 .1) (start .args .k) _
-    (c .before .before .before .before .before .heard-by .ensures) _ _
-    (c .before .before .before .c .given .1)
-    (c .before .woken-at .ensures))
+    let x = c .before .before .before .before .before .before .before .before .before .before .before .args in
+    look-heard (x .reach .now) (x .t) (logIn (x .log .now)) (x .records .now) (x .k) _ _ (c .before .before .before .before .before .before .before .before .record-at .ensures) (c .before .before .before .before .before .before .heard-by .ensures) _ _ _ (c .before .before .before .before .c .given .1) (c .before .before .woken-at .ensures) (c .put-record .ensures)
 
 pub look-spec : {M : Type 1} → statement M
 look-spec =
     tie.close
     (tie.spec
-    mul-x
-    element-copy-out-x
+    record-at-requires
     heard-by-requires
     enum-known-c
     enum-told
     returns
     woken-at-requires
-    mul-t13
-    element-set-from-threads
-    outlook-with-requires
+    put-record-requires
     returns-2)

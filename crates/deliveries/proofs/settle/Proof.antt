@@ -1,8 +1,5 @@
 -- `deliveries::settle` meets its contract.
-use mathlib.Core.Path.{ap, _∙_}
 use borrow.Author.Needs.{needs}
-use Rattle.early.specs.Log.{logOf}
-use Rattle.deliveries.specs.Awake.{settledOn}
 use Rattle.deliveries.proofs.settle.Statement.{statement}
 use Rattle.deliveries.proofs.settle.Tie as tie
 
@@ -13,9 +10,7 @@ settle-below-requires : tie.Need-settle-below-requires
 settle-below-requires c κs = search needs
 
 returns : tie.Need-returns
-returns c =
-    let x = c .before .before .before .args in
-    c .settle-below .ensures ∙ ap (λ n. settledOn (x .reach .now) n (logOf (x .site)) n (x .threads .at)) (c .before .few .ensures .0)
+returns c = rw (c .before .few .ensures .0) at (c .settle-below .ensures)
 
 pub settle-spec : {M : Type 1} → statement M
 settle-spec = tie.close (tie.spec few-requires settle-below-requires returns)

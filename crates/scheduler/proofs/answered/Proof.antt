@@ -1,11 +1,13 @@
 -- `scheduler::answered` meets its contract. 10, 12, 13, or what comes after them.
+use borrow.Author.Needs.{needs}
 use mathlib.Core.Path.{ap, sym, _∙_}
 use native.Mathlib.Omega.{arith}
 use lib.ListN.{getD}
-use borrow.Author.Needs.{needs}
-use Rattle.model.specs.Record.{noThread, readyCycle}
+use Rattle.model.specs.Record.{noThread}
 use Rattle.machine.proofs.VariantLaws.{readyCycle-other}
-use Rattle.scheduler.proofs.AnsweredLaws.{answered-thread, answered-unready, answered-horizon, answered-clear}
+use Rattle.notices.specs.Noted.{logIn}
+use Rattle.deliveries.specs.Awake.{recordsIn}
+use Rattle.scheduler.proofs.AnsweredLaws.{refused-made, answers-same, answered-thread, answered-unready, answered-horizon, answered-clear}
 use Rattle.scheduler.proofs.answered.Statement.{statement}
 use Rattle.scheduler.proofs.answered.Tie as tie
 
@@ -15,16 +17,14 @@ refused-requires c κs = search needs
 returns : tie.Need-returns
 returns c =
     let x = c .before .before .before .before .before .args in
-    c .refused .ensures ∙ answered-thread (x .reach .now) (x .t) (x .n) (x .g) (x .marks) (x .words .now) (x .site) (x .t9 .at) (x .horizon) (x .k .0) (omega arith)
+    refused-made (x .v .at) (x .log .now) (x .records .now) _ (c .refused .ensures) (c .before .before .before .before .before .pre .1 .0) (c .before .before .before .before .before .pre .1 .1)
+    (answered-thread (x .reach .now) (x .t) (c .before .before .before .before .before .pre .0) (x .n) (x .g) (x .row) (x .words .now) (x .v .at) (logIn (x .log .now)) (recordsIn (x .records .now)) (x .horizon) (x .k .0) (omega arith))
 
 wide-requires : tie.Need-wide-requires
 wide-requires c κs = search needs
 
-mul-x : tie.Need-mul-x
-mul-x c = search needs
-
-element-copy-out-x : tie.Need-element-copy-out-x
-element-copy-out-x c = search needs
+record-at-requires : tie.Need-record-at-requires
+record-at-requires c κs = search needs
 
 enum-known-s : tie.Need-enum-known-s
 enum-known-s c = search needs
@@ -34,25 +34,31 @@ refused-requires-2 c κs = search needs
 
 returns-2 : tie.Need-returns-2
 returns-2 c =
-    let x = c .before .before .before .before .before .before .before .before .args in
-    c .refused2 .ensures ∙ answered-unready (x .reach .now) (x .t) (x .n) (x .g) (x .marks) (x .words .now) (x .site) (x .t9 .at) (x .horizon) (x .k .0) (omega arith)
-    (ap (λ i. readyCycle (getD (x .t9 .at) i noThread .state)) (sym (c .before .before .before .wide .ensures)) ∙ sym (readyCycle-other (getD (x .t9 .at) (c .before .before .before .wide .result) noThread .state) (c .before .match .keys2)))
+    let x = c .before .before .before .before .before .before .before .before .before .args in
+    refused-made (x .v .at) (x .log .now) (x .records .now) _ (c .refused2 .ensures) (c .before .before .before .before .before .before .before .before .before .pre .1 .0) (c .before .before .before .before .before .before .before .before .before .pre .1 .1)
+    (answered-unready (x .reach .now) (x .t) (c .before .before .before .before .before .before .before .before .before .pre .0) (x .n) (x .g) (x .row) (x .words .now) (x .v .at) (logIn (x .log .now)) (recordsIn (x .records .now)) (x .horizon) (x .k .0) (omega arith) _
+    (c .before .before .record-at .ensures ∙ ap (λ i. getD (recordsIn (x .records .now)) i noThread) (c .before .before .before .wide .ensures)) (sym (readyCycle-other (c .before .before .record-at .result .state) (c .before .match .keys2))))
 
 refused-requires-3 : tie.Need-refused-requires-3
 refused-requires-3 c κs = search needs
 
 returns-3 : tie.Need-returns-3
 returns-3 c =
-    let x = c .before .before .before .before .before .before .before .before .before .before .before .before .before .args in
-    c .refused3 .ensures ∙ answered-horizon (x .reach .now) (x .t) (x .n) (x .g) (x .marks) (x .words .now) (x .site) (x .t9 .at) (x .horizon) (x .k .0) (omega arith) _ (ap (λ i. getD (x .t9 .at) i noThread .state) (sym (c .before .before .before .before .before .before .before .before .wide .ensures)) ∙ c .before .before .before .before .before .s .given .1) (omega arith)
+    let x = c .before .before .before .before .before .before .before .before .before .before .before .before .before .before .args in
+    refused-made (x .v .at) (x .log .now) (x .records .now) _ (c .refused3 .ensures) (c .before .before .before .before .before .before .before .before .before .before .before .before .before .before .pre .1 .0) (c .before .before .before .before .before .before .before .before .before .before .before .before .before .before .pre .1 .1)
+    (answered-horizon (x .reach .now) (x .t) (c .before .before .before .before .before .before .before .before .before .before .before .before .before .before .pre .0) (x .n) (x .g) (x .row) (x .words .now) (x .v .at) (logIn (x .log .now)) (recordsIn (x .records .now)) (x .horizon) (x .k .0) (omega arith) _
+    (c .before .before .before .before .before .before .before .record-at .ensures ∙ ap (λ i. getD (recordsIn (x .records .now)) i noThread) (c .before .before .before .before .before .before .before .before .wide .ensures)) _ (c .before .before .before .before .before .s .given .1) (omega arith))
 
 clear-requires : tie.Need-clear-requires
 clear-requires c κs = search needs
 
 returns-4 : tie.Need-returns-4
 returns-4 c =
-    let x = c .before .before .before .before .before .before .before .before .before .before .before .before .before .args in
-    c .clear .ensures ∙ answered-clear (x .reach .now) (x .t) (x .n) (x .g) (x .marks) (x .words .now) (x .site) (x .t9 .at) (x .horizon) (x .k .0) (omega arith) _ (ap (λ i. getD (x .t9 .at) i noThread .state) (sym (c .before .before .before .before .before .before .before .before .wide .ensures)) ∙ c .before .before .before .before .before .s .given .1) (omega arith)
+    let x = c .before .before .before .before .before .before .before .before .before .before .before .before .before .before .before .before .args in
+    answers-same _ _ _
+    (answered-clear (x .reach .now) (x .t) (c .before .before .before .before .before .before .before .before .before .before .before .before .before .before .before .before .pre .0) (x .n) (x .g) (x .row) (x .words .now) (x .v .at) (logIn (x .log .now)) (recordsIn (x .records .now)) (x .horizon) (x .k .0) (omega arith) _
+    (c .before .before .before .before .before .before .before .before .before .record-at .ensures ∙ ap (λ i. getD (recordsIn (x .records .now)) i noThread) (c .before .before .before .before .before .before .before .before .before .before .wide .ensures)) _ (c .before .before .before .before .before .before .before .s .given .1) (omega arith))
+    (c .clear .ensures)
 
 pub answered-spec : {M : Type 1} → statement M
 answered-spec =
@@ -61,8 +67,7 @@ answered-spec =
     refused-requires
     returns
     wide-requires
-    mul-x
-    element-copy-out-x
+    record-at-requires
     enum-known-s
     refused-requires-2
     returns-2

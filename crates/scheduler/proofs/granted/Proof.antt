@@ -1,5 +1,4 @@
 -- `scheduler::granted` meets its contract.
-use native.Mathlib.Omega.{arith}
 use borrow.Author.Needs.{needs}
 use Rattle.scheduler.proofs.AnsweredLaws.{granted-made}
 use Rattle.scheduler.proofs.granted.Statement.{statement}
@@ -16,9 +15,8 @@ drop-before-requires c κs = search needs
 
 returns : tie.Need-returns
 returns c =
-    let start = c .before .before .before .before in
-    granted-made (start .args .reach .now) (start .args .t) (omega arith) (start .args .site) (c .drop-before .result) (start .args .threads) _ (start .args .s) (start .args .c) (c .before .floor-of .result)
-    (c .before .before .settle .ensures) (c .before .floor-of .ensures) (c .drop-before .ensures)
+    let x = c .before .before .before .before .before .before .before .before .args in
+    granted-made (x .reach .now) (x .t) (c .before .before .before .before .before .before .before .before .pre .0) (x .variables) (x .log .now) _ (x .records .now) _ (x .s) (x .c) _ (c .before .before .before .before .before .before .before .before .pre .1 .0) (c .before .before .before .before .before .before .before .before .pre .1 .1) (c .before .before .before .before .settle .ensures) (c .before .before .floor-of .ensures) (c .drop-before .ensures)
 
 pub granted-spec : {M : Type 1} → statement M
 granted-spec = tie.close (tie.spec settle-requires floor-of-requires drop-before-requires returns)

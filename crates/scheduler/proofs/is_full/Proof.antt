@@ -1,6 +1,6 @@
 -- `scheduler::is_full` meets its contract.
-use mathlib.Core.Path.{refl, sym, _∙_}
 use borrow.Author.Needs.{needs}
+use mathlib.Core.Path.{refl, sym, _∙_}
 use Rattle.scheduler.proofs.is_full.Statement.{statement}
 use Rattle.scheduler.proofs.is_full.Tie as tie
 

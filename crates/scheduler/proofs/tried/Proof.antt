@@ -1,16 +1,12 @@
 -- `scheduler::tried` meets its contract. 15, or the grant.
-use mathlib.Core.Path.{sym, _∙_}
-use native.Mathlib.Omega.{arith}
 use borrow.Author.Needs.{needs}
+use mathlib.Core.Path.{sym, _∙_}
 use Rattle.scheduler.proofs.AnsweredLaws.{tried-full, tried-granted}
 use Rattle.scheduler.proofs.tried.Statement.{statement}
 use Rattle.scheduler.proofs.tried.Tie as tie
 
-mul-x : tie.Need-mul-x
-mul-x c = search needs
-
-element-copy-out-x : tie.Need-element-copy-out-x
-element-copy-out-x c = search needs
+record-at-requires : tie.Need-record-at-requires
+record-at-requires c κs = search needs
 
 effect-in-requires : tie.Need-effect-in-requires
 effect-in-requires c κs = search needs
@@ -29,40 +25,36 @@ refused-requires c κs = search needs
 
 returns : tie.Need-returns
 returns c =
-    let start = c .before .before .before .before .before .before .before .before .before .before .before .before .before .before in
-    let x = start .args in
-    c .refused .ensures ∙ tried-full (x .reach .now) (x .t) (omega arith) (x .g) (x .site) (x .t5 .at) (x .k) (x .c) _ _ _
-    (c .before .before .before .before .before .before .before .before .before .before .effect-in .ensures) (c .before .before .before .before .before .note .ensures) (c .before .before .before .floor-of .ensures) (sym (c .before .before .is-full .ensures) ∙ c .before .if1 .taken)
+    let x = c .before .before .before .before .before .before .before .before .before .before .before .before .before .before .args in
+    tried-full (x .reach .now) (x .t) (c .before .before .before .before .before .before .before .before .before .before .before .before .before .before .pre .0) (x .g) (x .v .at) (x .log .now) _ (x .records .now) (c .before .before .before .before .before .before .before .before .before .before .before .before .before .before .pre .1 .0) (x .k) _ (x .c) _ _ _ (c .before .before .before .before .before .before .before .before .before .before .before .record-at .ensures) (c .before .before .before .before .before .before .before .before .before .before .effect-in .ensures) (c .before .before .before .before .before .note .ensures) (c .before .before .before .floor-of .ensures) (c .before .before .before .before .before .before .before .before .before .before .before .before .before .before .pre .1 .1) _ (c .refused .ensures) (sym (c .before .before .is-full .ensures) ∙ c .before .if1 .taken)
 
-mul-thread : tie.Need-mul-thread
-mul-thread c = search needs
+keep-requires : tie.Need-keep-requires
+keep-requires c κs = search needs
 
-element-set-from-thread : tie.Need-element-set-from-thread
-element-set-from-thread c = search needs
+put-record-requires : tie.Need-put-record-requires
+put-record-requires c κs = search needs
 
 granted-requires : tie.Need-granted-requires
-granted-requires c κs = search needs
+granted-requires c κs =
+    (c .before .before .before .before .before .before .before .before .before .before .before .before .before .before .before .before .before .before .before .pre .0, (c .before .before .before .before .keep .ensures .size ∙ (c .before .before .before .before .before .before .before .before .before .before .note .ensures .size ∙ c .before .before .before .before .before .before .before .before .before .before .before .before .before .before .before .before .before .before .before .pre .1 .0), c .before .before .put-record .ensures .size ∙ c .before .before .before .before .before .before .before .before .before .before .before .before .before .before .before .before .before .before .before .pre .1 .1))
 
 returns-2 : tie.Need-returns-2
 returns-2 c =
-    let start = c .before .before .before .before .before .before .before .before .before .before .before .before .before .before in
-    let x = start .args in
-    c .granted .ensures ∙ tried-granted (x .reach .now) (x .t) (omega arith) (x .g) (x .site) (x .t5 .at) (x .k) (x .c) _ _ _
-    (c .before .before .before .before .before .before .before .before .before .before .effect-in .ensures) (c .before .before .before .before .before .note .ensures) (c .before .before .before .floor-of .ensures) (sym (c .before .before .is-full .ensures) ∙ c .before .if1 .left)
+    let x = c .before .before .before .before .before .before .before .before .before .before .before .before .before .before .before .before .before .before .before .before .args in
+    tried-granted (x .reach .now) (x .t) (c .before .before .before .before .before .before .before .before .before .before .before .before .before .before .before .before .before .before .before .before .pre .0) (x .g) (x .v .at) (x .log .now) _ (x .records .now) (c .before .before .before .before .before .before .before .before .before .before .before .before .before .before .before .before .before .before .before .before .pre .1 .0) (x .k) _ (x .c) _ _ _ (c .before .before .before .before .before .before .before .before .before .before .before .before .before .before .before .before .before .record-at .ensures) (c .before .before .before .before .before .before .before .before .before .before .before .before .before .before .before .before .effect-in .ensures) (c .before .before .before .before .before .before .before .before .before .before .before .note .ensures) (c .before .before .before .before .before .before .before .before .before .floor-of .ensures) _ _ _ _ _ (c .before .before .before .before .before .before .before .before .before .before .before .before .before .before .before .before .before .before .before .before .pre .1 .1) (sym (c .before .before .before .before .before .before .before .before .is-full .ensures) ∙ c .before .before .before .before .before .before .before .if1 .left) (c .before .before .before .before .before .keep .ensures) (c .before .before .before .put-record .ensures) (c .granted .ensures)
 
 pub tried-spec : {M : Type 1} → statement M
 tried-spec =
     tie.close
     (tie.spec
-    mul-x
-    element-copy-out-x
+    record-at-requires
     effect-in-requires
     note-requires
     floor-of-requires
     is-full-requires
     refused-requires
     returns
-    mul-thread
-    element-set-from-thread
+    keep-requires
+    put-record-requires
     granted-requires
     returns-2)
