@@ -34,11 +34,11 @@ due-idle t ws now from to d k h e =
     let c = d .due k (omega arith) e .0 in
     omega arith
 
-pub begins-start : (t : ℕ) (rs : List ℕ) → t ≤ 32 → length rs ≡ 66 → Begins t (replicate 32 0) (replicate 32 false) rs 0 0 t
+pub begins-start : (t now from to : ℕ) (rs : List ℕ) → t ≤ 32 → length rs ≡ 66 → IsDue t (replicate 32 0) now from to → Begins t (replicate 32 0) (replicate 32 false) rs now from to
 unfolding has
-begins-start t rs few size =
+begins-start t now from to rs few size due =
     record {
-      threads = record { order = omega arith; inside = omega arith; due = λ k h e. (omega arith, h); late = λ k h l. (omega arith, h) };
+      threads = due;
       size = size;
       awaited = λ k e h l w. let z : _≡_ {A = ℕ} (getD (replicate 32 0) k 0) 0 = getD-replicate 32 k 0 0 (omega arith) in let a = w .0 in absurd (omega arith);
       quiet = λ e h. let f : false ≡ true = sym (tells-none e) ∙ h in let z : _≡_ {A = ℕ} 0 1 = cc in absurd (omega arith);

@@ -30,12 +30,6 @@ const ENDED: u64 = 9223372036854775808;
 
 const OVERRUN: u64 = 13835058055282163712;
 
-fn wide(x: u8) -> usize
-    ensures { λ r. ⌜ r ≡ x ⌝ }
-{
-    x as usize
-}
-
 // Document 01: "ready at the next delta"; "A thread whose next delta would be 1,024 is overrun".
 fn next_delta(key: u64) -> u64
     requires { ⌜ key < 2 ^ 44 ⌝ }
@@ -238,27 +232,25 @@ fn end_cycle(
     state: &mut [u64; 32],
     told: &[bool; 32],
     ranges: &[usize; 66],
-    key: u64,
-    from: usize,
-    to: usize,
+    due: Due,
     t: usize,
 ) -> Due
     requires { ⌜ t ≤ 32 ⌝ }
-    requires { ⌜ key < 2 ^ 44 ⌝ }
+    requires { ⌜ due .key < 2 ^ 44 ⌝ }
     requires { ⌜ length (now told) ≡ 32 ⌝ }
     requires { ⌜ length (now state) ≡ 32 ⌝ }
-    requires { ⌜ Ends t (now state) (now told) (now ranges) key from to ⌝ }
-    requires { ⌜ ((k : ℕ) → k < t → key < getD (now state) k 0) ⌝ }
+    requires { ⌜ Ends t (now state) (now told) (now ranges) (due .key) (due .from) (due .to) ⌝ }
+    requires { ⌜ ((k : ℕ) → k < t → due .key < getD (now state) k 0) ⌝ }
     ensures places { λ _. ⌜ length (now (state .exit)) ≡ 32 ⌝ }
     ensures least { λ r. ⌜ r .key ≡ leastWord t (now (state .exit)) ⌝ }
-    ensures words { λ _. ⌜ ((k : ℕ) → k < t → getD (now (state .exit)) k 0 ≡ wakeWord (now (told .entry)) key (getD (now (state .entry)) k 0)) ⌝ }
+    ensures words { λ _. ⌜ ((k : ℕ) → k < t → getD (now (state .exit)) k 0 ≡ wakeWord (now (told .entry)) (due .key) (getD (now (state .entry)) k 0)) ⌝ }
     ensures threads { λ r. ⌜ IsDue t (now (state .exit)) (r .key) (r .from) (r .to) ⌝ }
 {
-    let first = packed::lesser(from, ranges[32]);
-    let most = packed::greater(to, ranges[65]);
+    let first = packed::lesser(due.from, ranges[32]);
+    let most = packed::greater(due.to, ranges[65]);
     let past = packed::lesser(t, most);
-    let near = wake(state, told, key, first, past);
-    let least = least_of(state, key, near, first, past, t);
+    let near = wake(state, told, due.key, first, past);
+    let least = least_of(state, due.key, near, first, past, t);
     due_of(state, least, first, past, t)
 }
 
@@ -387,9 +379,7 @@ fn look_at(
 // Document 01: "In each cycle the ready threads of that cycle run their segment whole, lowest number first".
 fn run_cycle(
     code: &[u64; 2176],
-    from: usize,
-    to: usize,
-    key: u64,
+    due: Due,
     budget: u64,
     ran: u64,
     v: &mut [u32; 64],
@@ -398,12 +388,15 @@ fn run_cycle(
     told: &mut [bool; 32],
     ranges: &mut [usize; 66],
 ) -> u64
-    requires { ⌜ from ≤ to ⌝ }
-    requires { ⌜ to ≤ 32 ⌝ }
-    requires { ⌜ key < 2 ^ 44 ⌝ }
-    requires { ⌜ ((k : ℕ) → k < from → getD (now state) k 0 ≡ key → ⊥) ⌝ }
-    ensures { λ r. ⌜ locals (now (v .exit)) (now (state .exit)) (now (segments .exit)) (now (told .exit)) (now (ranges .exit)) r ≡ turnsTo (now (code .entry)) key budget to (locals (now (v .entry)) (now (state .entry)) (now (segments .entry)) (now (told .entry)) (now (ranges .entry)) ran) ⌝ }
+    requires { ⌜ due .from ≤ due .to ⌝ }
+    requires { ⌜ due .to ≤ 32 ⌝ }
+    requires { ⌜ due .key < 2 ^ 44 ⌝ }
+    requires { ⌜ ((k : ℕ) → k < due .from → getD (now state) k 0 ≡ due .key → ⊥) ⌝ }
+    ensures { λ r. ⌜ locals (now (v .exit)) (now (state .exit)) (now (segments .exit)) (now (told .exit)) (now (ranges .exit)) r ≡ turnsTo (now (code .entry)) (due .key) budget (due .to) (locals (now (v .entry)) (now (state .entry)) (now (segments .entry)) (now (told .entry)) (now (ranges .entry)) ran) ⌝ }
 {
+    let key = due.key;
+    let from = due.from;
+    let to = due.to;
     let mut n = ran;
     let mut turn = from;
     while turn < to {
@@ -452,26 +445,20 @@ fn cycles(m: Model, budget: u64) -> PlainRun
     requires { ⌜ modelFault m ≡ 0 ⌝ }
     ensures { λ r. ⌜ r ≡ reported m (runFor m budget (lastStep m) (startOf m)) ⌝ }
 {
-    let count = m.t;
-    let t = wide(count);
-    let horizon = m.horizon;
-    let limit = 1024 * horizon.0;
+    let t = m.t as usize;
+    let limit = 1024 * m.horizon.0;
     let code = packed::pack(m);
     let mut segments = first_segments(m);
     let mut v = [0u32; 64];
     let mut state = [0u64; 32];
     let mut told = [false; 32];
     let mut ranges = no_ranges();
-    let mut key = 0;
-    let mut from = 0;
-    let mut to = t;
+    let mut due = due_of(&state, 0, 0, t, t);
     let mut n = 0;
     loop {
         n = run_cycle(
             &code,
-            from,
-            to,
-            key,
+            due,
             budget,
             n,
             &mut v,
@@ -480,16 +467,13 @@ fn cycles(m: Model, budget: u64) -> PlainRun
             &mut told,
             &mut ranges,
         );
-        if is_out(&state, t, key, budget, n) {
+        if is_out(&state, t, due.key, budget, n) {
             return result(v, &state, &segments, t, n, true);
         }
-        let due = end_cycle(&mut state, &told, &ranges, key, from, to, t);
+        due = end_cycle(&mut state, &told, &ranges, due, t);
         if limit <= due.key {
             return result(v, &state, &segments, t, n, false);
         }
-        key = due.key;
-        from = due.from;
-        to = due.to;
         told = [false; 32];
         ranges[32] = 32;
         ranges[65] = 0;

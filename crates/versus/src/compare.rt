@@ -1,118 +1,167 @@
-// Both simulators' answers held against each other: the number, n, spent, every variable and every record.
+// What both sides hold as words, against each other. The second side's desk is laid out as the library's numbers are.
+use crate::issue::Reply;
+use crate::log;
 use crate::number;
+use crate::number::at;
+use crate::number::put;
+use crate::print;
 use crate::second;
-use crate::second::Outcome;
-use model::State;
-use model::Thread;
-use model::Threads;
-use model::Variables;
-use plain::PlainRun;
 
-pub const NOTHING: u64 = 0;
+// Five words for each thread: segment, state, event, time, delta.
+// Then the variables, how many segments were run and whether the budget was spent.
+pub const VARIABLES: u64 = 160;
 
-pub const NUMBER: u64 = 1;
+pub const RAN: usize = 224;
 
-pub const COUNT: u64 = 2;
+pub const SPENT: usize = 225;
 
-pub const SPENT: u64 = 3;
+// The log's count, and three words for each place: event, time, delta.
+pub const LOG: usize = 226;
 
-pub const VARIABLE: u64 = 4;
+const PAIRS: u64 = 227;
 
-pub const RECORD: u64 = 5;
+// The answer: number, segment, time, delta.
+pub const ANSWER: usize = 611;
 
-// What differs first, and what stands there in both.
-pub struct Difference {
-    pub kind: u64,
-    pub place: u64,
-    pub plain: u64,
-    pub second: u64,
+// So many words hold all; so many up to the log.
+pub const ALL: usize = 615;
+
+pub const PLAIN: usize = 226;
+
+// Segment, state, event, time, delta.
+pub fn put_five(out: &mut [u64; 640], i: u64, a: u64, b: u64, c: u64, d: u64, e: u64) {
+    put(out, i, 0, a);
+    put(out, i, 1, b);
+    put(out, i, 2, c);
+    put(out, i, 3, d);
+    put(out, i, 4, e);
 }
 
-fn differing(kind: u64, place: u64, plain: u64, second: u64) -> Difference {
-    Difference {
-        kind,
-        place,
-        plain,
-        second,
+fn put_record(out: &mut [u64; 640], k: u64, x: u64) {
+    let s = second::segment_of(x);
+    let e = second::event_of(x);
+    let key = second::key_of(x);
+    put_five(out, k % 32 * 5, s, x % 4, e, key / 1024, key % 1024);
+}
+
+// Event, time, delta.
+pub fn put_three(out: &mut [u64; 640], i: u64, a: u64, b: u64, c: u64) {
+    put(out, PAIRS, i, a);
+    put(out, PAIRS, number::sum(i, 1), b);
+    put(out, PAIRS, number::sum(i, 2), c);
+}
+
+fn put_pair(out: &mut [u64; 640], i: u64, w: u64) {
+    let key = log::key_of(w);
+    put_three(out, 3 * (i % 128), log::event_of(w), key / 1024, key % 1024);
+}
+
+fn copy(desk: &[u64; 640], part: u64, out: &mut [u64; 640], to: u64, size: u64) {
+    let mut i: u64 = 0;
+    while i < size {
+        put(out, to, i, at(desk, part, i));
+        i += 1;
     }
 }
 
-// A thread as the second simulator's word; one that no record of it has where the cycle is out of range.
-fn word(kind: u64, segment: u8, event: u8, time: u64, delta: u32) -> u64 {
-    let d = number::word(delta);
-    if 4294967296 <= time {
-        return 18446744073709551615;
-    }
-    if 1024 <= d {
-        return 18446744073709551615;
-    }
-    second::record(
-        kind,
-        number::wide(segment),
-        number::wide(event),
-        time * 1024 + d,
-    )
-}
-
-fn word_of(x: Thread) -> u64 {
-    let s = x.state;
-    match s {
-        State::Ended(c) => word(second::ENDED, x.segment, 0, c.time.0, c.delta.0),
-        State::Overrun(c) => word(second::OVERRUN, x.segment, 0, c.time.0, c.delta.0),
-        State::Ready(c) => word(second::READY, x.segment, 0, c.time.0, c.delta.0),
-        State::Waiting(e, c) => word(second::WAITING, x.segment, e, c.time.0, c.delta.0),
-    }
-}
-
-// All 32 records: those past T are zero in both.
-fn between_records(a: Threads, b: &[u64; 32]) -> Difference {
-    let mut k: usize = 0;
-    while k < 32 {
-        let x = a.at[k];
-        let w = word_of(x);
-        if w != b[k] {
-            return differing(RECORD, k as u64, w, b[k]);
+// Records, and the log in the order of insertion. Past the count all are 0.
+fn put_lists(desk: &[u64; 640], out: &mut [u64; 640]) {
+    let n = at(desk, log::COUNT, 0);
+    let mut i: u64 = 0;
+    while i < 128 {
+        if i < 32 {
+            put_record(out, i, at(desk, second::RECORDS, i));
         }
-        k += 1;
-    }
-    differing(NOTHING, 0, 0, 0)
-}
-
-// All 64 variables: those past V are zero in both.
-fn between_variables(a: Variables, b: &[u64; 96]) -> Difference {
-    let mut i: usize = 0;
-    while i < 64 {
-        let x = number::word(a.at[i]);
-        if x != b[i] {
-            return differing(VARIABLE, i as u64, x, b[i]);
+        if i < n {
+            put_pair(out, i, at(desk, log::ORDER, i));
         }
         i += 1;
     }
-    differing(NOTHING, 0, 0, 0)
 }
 
-fn flag(b: bool) -> u64 {
-    if b { 1 } else { 0 }
+// The words of a desk.
+pub fn words_of(desk: &[u64; 640]) -> [u64; 640] {
+    let mut out = [0u64; 640];
+    put_lists(desk, &mut out);
+    copy(desk, second::VARIABLES, &mut out, VARIABLES, 64);
+    copy(desk, second::RAN, &mut out, 224, 3);
+    out
 }
 
-// The first difference, where the plain run is to answer this number.
-pub fn compared(number: u8, r: PlainRun, o: Outcome) -> Difference {
-    if r.number != number {
-        return differing(NUMBER, 0, number::wide(r.number), number::wide(number));
+pub fn put_reply(words: &mut [u64; 640], r: Reply) {
+    words[611] = r.number;
+    words[612] = r.segment;
+    words[613] = r.time;
+    words[614] = r.delta;
+}
+
+fn word(words: &[u64], i: usize) -> u64 {
+    if i < words.len() {
+        return words[i];
     }
-    if r.n != o.n {
-        return differing(COUNT, 0, r.n, o.n);
+    0
+}
+
+// The first place that differs, or n.
+fn differs_at(a: &[u64], b: &[u64], n: usize) -> usize {
+    let mut i: usize = 0;
+    while i < n {
+        if word(a, i) != word(b, i) {
+            return i;
+        }
+        i += 1;
     }
-    if r.spent != o.spent {
-        return differing(SPENT, 0, flag(r.spent), flag(o.spent));
+    n
+}
+
+// The first n words of the library's side and of the second; a difference is written and counted, with three numbers that say where.
+// Whether there is none.
+fn hold_words(
+    totals: &mut [u64; 16],
+    x: u64,
+    y: u64,
+    z: u64,
+    a: &[u64],
+    b: &[u64],
+    n: usize,
+) -> bool {
+    let i = differs_at(a, b, n);
+    if n <= i {
+        return true;
     }
-    let cells = o.cells;
-    let variables = r.variables;
-    let d = between_variables(variables, &cells);
-    if d.kind != NOTHING {
-        return d;
+    crate::add(totals, crate::DIFFERENCES, 1);
+    print::difference(x, y, z, i as u64, word(a, i), word(b, i));
+    false
+}
+
+pub fn hold(
+    totals: &mut [u64; 16],
+    x: u64,
+    y: u64,
+    z: u64,
+    a: &[u64; 640],
+    b: &[u64; 640],
+    n: usize,
+) -> bool {
+    hold_words(totals, x, y, z, a, b, n)
+}
+
+// Two lists of answers.
+pub fn hold_answers(
+    totals: &mut [u64; 16],
+    x: u64,
+    y: u64,
+    z: u64,
+    a: &[u64; 16384],
+    b: &[u64; 16384],
+) -> bool {
+    hold_words(totals, x, y, z, a, b, 16384)
+}
+
+// An answer's number. It stands at a place of its own.
+pub fn hold_number(totals: &mut [u64; 16], x: u64, y: u64, z: u64, a: u64, b: u64) {
+    if a != b {
+        crate::add(totals, crate::DIFFERENCES, 1);
+        print::difference(x, y, z, 611, a, b);
     }
-    let records = o.records;
-    let threads = r.threads;
-    between_records(threads, &records)
 }

@@ -307,7 +307,7 @@ struct Shape {
 }
 
 // A number from 0 to 2,147,483,646, one for each seed and place.
-fn mixed(seed: u64, place: u64) -> u64 {
+pub fn mixed(seed: u64, place: u64) -> u64 {
     let x = (seed % 2147483647) * 48271 + (place % 65536) * 69621 + 12345;
     let y = (x % 2147483647) * 16807 + 1;
     ((y % 2147483647) * 48271) % 2147483647
@@ -323,7 +323,7 @@ pub fn pick(seed: u64, place: u64, n: u64) -> u64 {
 
 // One number of a row.
 fn choice(seed: u64, row: u64) -> u64 {
-    TABLE[number::place((row % 35) * 8 + mixed(seed, row) / 16 % 8)]
+    TABLE[((row % 35) * 8 + mixed(seed, row) / 16 % 8) as usize]
 }
 
 // So many bytes of a number, lowest first, at a place of the file; the place behind them.
@@ -335,7 +335,7 @@ pub fn put(file: &mut [u8; 16384], i: u64, size: u64, x: u64) -> u64 {
         if 16384 <= at {
             return at;
         }
-        file[number::place(at)] = (rest % 256) as u8;
+        file[at as usize] = (rest % 256) as u8;
         rest = rest / 256;
         at += 1;
         n -= 1;
@@ -515,15 +515,19 @@ pub fn model_of(seed: u64, file: &mut [u8; 16384]) -> u64 {
         0
     };
     let mut s = fitted(shape_of(seed, family));
-    let a = put(file, 0, 4, 65546);
-    let b = put(file, a, 4, choice(seed, family));
-    let c = put(file, b, 2, s.v % 256 + s.e % 256 * 256);
+    let a = put(
+        file,
+        0,
+        8,
+        65546 + choice(seed, family) % 4294967296 * 4294967296,
+    );
+    let mut at = put(file, a, 2, s.v % 256 + s.e % 256 * 256);
+    let mut first: u64 = 0;
     if is_long(seed) {
         s.w = number::less(s.v);
-        let d = put_counters(file, c, seed, s.w);
-        let e = put_segments(file, d, 2, seed, s);
-        return put_threads(file, e, seed, s.t, s.n);
+        at = put_counters(file, at, seed, s.w);
+        first = 2;
     }
-    let d = put_segments(file, c, 0, seed, s);
-    put_threads(file, d, seed, s.t, s.n)
+    at = put_segments(file, at, first, seed, s);
+    put_threads(file, at, seed, s.t, s.n)
 }

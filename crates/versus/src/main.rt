@@ -1,82 +1,73 @@
 // The plain run against a second simulator: stored models (model M, cases 2 and 3, examples of the source documents), whose sheets
-// are written, and generated ones. The counts follow; every difference is a line of its own, with the seed and what differs first.
+// are written, and generated ones; then lists of requests against a second scheduler, on generated models. Counts follow each; every
+// difference is a line of its own.
 mod compare;
 mod draw;
+mod graph;
+mod issue;
+mod library;
+mod log;
 mod number;
+mod orders;
 mod print;
 mod second;
+mod start;
 
 use libc::STDIN_FILENO;
-use model::Model;
-use second::Outcome;
-ghost use Prim.Native.Nat.{_≤_};
+use number::at;
 
 // The first seed, and how many models.
 const SEED: u64 = 24000;
 
 const MODELS: u64 = 2400;
 
-// Places of the counts.
-const OF_MODELS: usize = 0;
+// Places of the counts. Records ended, overrun, ready and waiting stand from 6 on.
+const OF_MODELS: u64 = 0;
 
-const REFUSALS: usize = 1;
+const REFUSALS: u64 = 1;
 
-const RUNS: usize = 2;
+const RUNS: u64 = 2;
 
-const SEGMENTS: usize = 3;
+const SEGMENTS: u64 = 3;
 
-const DONE: usize = 4;
+const DONE: u64 = 4;
 
-const SPENT: usize = 5;
+const RECORDS: u64 = 6;
 
-const RECORDS: usize = 6;
+pub const DIFFERENCES: u64 = 15;
 
-const DIFFERENCES: usize = 10;
-
-fn add(totals: &mut [u64; 11], i: usize, x: u64) {
-    if i < 11 {
-        totals[i] = number::sum(totals[i], x);
-    }
+pub fn add(totals: &mut [u64; 16], i: u64, x: u64) {
+    let k = (i % 16) as usize;
+    totals[k] = number::sum(totals[k], x);
 }
 
-fn count(totals: &mut [u64; 11], o: Outcome) {
-    add(totals, RUNS, 1);
-    add(totals, SEGMENTS, o.n);
-    add(totals, if o.spent { SPENT } else { DONE }, 1);
-    let t = o.t;
+fn count_records(totals: &mut [u64; 16], desk: &[u64; 640]) {
+    let t = at(desk, second::THREADS, 0);
     let mut k: u64 = 0;
     while k < t {
-        if 32 <= k {
-            return;
-        }
-        let r = o.records[number::place(k)];
-        add(totals, RECORDS + number::place(r % 4), 1);
+        add(totals, RECORDS + at(desk, second::RECORDS, k) % 4, 1);
         k += 1;
     }
 }
 
-fn smaller(a: usize, b: usize) -> usize
-    ensures { λ r. ⌜ r ≤ b ⌝ }
-{
-    if a < b { a } else { b }
-}
-
-// The model in the first n bytes.
-fn model_in(file: &[u8], n: usize) -> Model {
-    let k = smaller(n, file.len());
-    let x = parser::read_file(&file[..k]);
-    x.model
+fn count(totals: &mut [u64; 16], desk: &[u64; 640]) {
+    add(totals, RUNS, 1);
+    add(totals, SEGMENTS, at(desk, second::RAN, 0));
+    add(totals, DONE + at(desk, second::SPENT, 0) % 2, 1);
+    count_records(totals, desk);
 }
 
 // One run of both.
-fn hold(totals: &mut [u64; 11], seed: u64, file: &[u8], size: usize, budget: u64) {
-    let o = second::simulate(file, budget);
-    let d = compare::compared(0, runner::plain_run(model_in(file, size), budget), o);
-    count(totals, o);
-    if d.kind != compare::NOTHING {
-        print::difference(seed, second::field(file, 4, 4), budget, d);
-        add(totals, DIFFERENCES, 1);
-    }
+fn hold(totals: &mut [u64; 16], seed: u64, bytes: &[u8; 16384], size: usize, budget: u64) {
+    let file = number::first(bytes, size);
+    let mut desk = [0u64; 640];
+    second::simulate(file, budget, &mut desk);
+    count(totals, &desk);
+    let mut held = [0u64; 640];
+    library::run(library::model_in(file), budget, &mut held);
+    let h = second::field(file, 4, 0, 4);
+    let words = compare::words_of(&desk);
+    compare::hold(totals, seed, h, budget, &held, &words, compare::ALL);
 }
 
 // Budgets inside and at the end of a run of n segments.
@@ -111,24 +102,38 @@ fn horizon(i: u64, own: u64, time: u64) -> u64 {
     h
 }
 
-// A model at its horizons and budgets.
-fn hold_all(totals: &mut [u64; 11], seed: u64, file: &mut [u8; 16384], size: usize, most: u64) {
-    let o = second::simulate(file, most);
-    let own = second::field(file, 4, 4);
-    let k = number::place(draw::pick(seed, 8, o.t) % 32);
-    let time = o.records[k] / 268435456;
+// A model of which a run takes n segments and a thread ends at a time, at its horizons and budgets.
+fn hold_each(
+    totals: &mut [u64; 16],
+    seed: u64,
+    file: &mut [u8; 16384],
+    size: usize,
+    n: u64,
+    time: u64,
+    most: u64,
+) {
+    let own = second::field(file, 4, 0, 4);
     let mut i: u64 = 0;
     while i < 16 {
         draw::put(file, 4, 4, horizon(i, own, time));
-        hold(totals, seed, file, size, budget(i, seed, o.n, most));
+        hold(totals, seed, file, size, budget(i, seed, n, most));
         i += 1;
     }
+}
+
+fn hold_all(totals: &mut [u64; 16], seed: u64, file: &mut [u8; 16384], size: usize, most: u64) {
+    let mut desk = [0u64; 640];
+    second::simulate(file, most, &mut desk);
+    let k = draw::pick(seed, 8, at(&desk, second::THREADS, 0));
+    let time = at(&desk, second::RECORDS, k) / 268435456;
+    let n = at(&desk, second::RAN, 0);
+    hold_each(totals, seed, file, size, n, time, most);
     add(totals, OF_MODELS, 1);
 }
 
 // A model against the file rules, by its counts: 11, and nothing run.
-fn refuse(totals: &mut [u64; 11], seed: u64, file: &[u8; 16384], size: usize) {
-    let mut x = model_in(file, size);
+fn refuse(totals: &mut [u64; 16], seed: u64, file: &[u8; 16384], size: usize) {
+    let mut x = library::model_in(number::first(file, size));
     match seed % 5 {
         0 => x.t = 0,
         1 => x.t = 33,
@@ -136,38 +141,48 @@ fn refuse(totals: &mut [u64; 11], seed: u64, file: &[u8; 16384], size: usize) {
         3 => x.v = 65,
         _ => x.e = 33,
     }
-    let o = Outcome {
-        cells: [0u64; 96],
-        records: [0u64; 32],
-        t: 0,
-        n: 0,
-        spent: false,
-    };
-    let d = compare::compared(11, runner::plain_run(x, 300), o);
-    if d.kind == compare::NOTHING {
+    let mut held = [0u64; 640];
+    library::run(x, 300, &mut held);
+    let mut refused = [0u64; 640];
+    refused[compare::ANSWER] = 11;
+    if compare::hold(totals, seed, 0, 300, &held, &refused, compare::ALL) {
         add(totals, REFUSALS, 1);
-        return;
     }
-    print::difference(seed, 0, 300, d);
-    add(totals, DIFFERENCES, 1);
 }
 
-fn hold_drawn(totals: &mut [u64; 11], seed: u64) {
+fn hold_drawn(totals: &mut [u64; 16], seed: u64) {
     let mut file = [0u8; 16384];
-    let size = number::place(draw::model_of(seed, &mut file));
+    let size = draw::model_of(seed, &mut file) as usize;
     let most = if draw::is_long(seed) { 3300 } else { 300 };
     hold_all(totals, seed, &mut file, size, most);
     refuse(totals, seed, &file, size);
 }
 
 fn all_drawn() {
-    let mut totals = [0u64; 11];
+    let mut totals = [0u64; 16];
     let mut i: u64 = 0;
     while i < MODELS {
         hold_drawn(&mut totals, SEED + i);
         i += 1;
     }
-    print::counts(&totals);
+    print::run_counts(&totals);
+}
+
+// Lists of requests.
+fn hold_orders(totals: &mut [u64; 16], seed: u64) {
+    let mut file = [0u8; 16384];
+    let size = draw::model_of(seed, &mut file) as usize;
+    orders::hold_lists(totals, seed, &file, size);
+}
+
+fn all_orders() {
+    let mut totals = [0u64; 16];
+    let mut i: u64 = 0;
+    while i < MODELS {
+        hold_orders(&mut totals, SEED + i);
+        i += 1;
+    }
+    print::list_counts(&totals);
 }
 
 // Reads n bytes to the front of the buffer, and answers how many came.
@@ -184,47 +199,42 @@ fn next_part(buffer: &mut [u8]) -> usize {
     if io::read_full(STDIN_FILENO, &mut head) < 2 {
         return 0;
     }
-    read_part(buffer, number::place(second::field(&head, 0, 2)))
-}
-
-fn write_part(buffer: &[u8], n: usize) {
-    if n <= buffer.len() {
-        print::text(&buffer[..n]);
-    }
+    read_part(buffer, second::field(&head, 0, 0, 2) as usize)
 }
 
 // The sheet of a stored model.
-fn write_sheet(file: &[u8], n: usize) {
-    let m = model_in(file, n);
+fn write_sheet(file: &[u8]) {
+    let m = library::model_in(file);
     let mut out = [0u8; 8192];
     let size = printer::sheet(m.v, m.t, runner::plain_run(m, 1000000), &mut out);
-    write_part(&out, size);
+    print::text(number::first(&out, size));
 }
 
 // A name and a model; whether there was one.
-fn hold_next(totals: &mut [u64; 11]) -> bool {
+fn hold_next(totals: &mut [u64; 16]) -> bool {
     let mut file = [0u8; 16384];
     let n = next_part(&mut file);
     if n == 0 {
         return false;
     }
-    write_part(&file, n);
+    print::text(number::first(&file, n));
     let size = next_part(&mut file);
-    write_sheet(&file, size);
+    write_sheet(number::first(&file, size));
     hold_all(totals, 0, &mut file, size, 1000000);
     true
 }
 
 fn all_stored() {
-    let mut totals = [0u64; 11];
+    let mut totals = [0u64; 16];
     let mut turns: u64 = 1000;
     while 0 < turns && hold_next(&mut totals) {
         turns -= 1;
     }
-    print::counts(&totals);
+    print::run_counts(&totals);
 }
 
 fn main() {
     all_stored();
     all_drawn();
+    all_orders();
 }

@@ -1,7 +1,11 @@
 // A second simulator of the plain run, written anew from document 01: an agenda of activations, kept sorted by time, delta and thread.
 // It works on the bytes of an accepted model file, and shares no code with the reader and the plain run.
 // A cycle is one key, time × 1,024 + delta. An activation is key × 32 + thread; that of a waiting thread stands above all others, by event.
+// All it knows stands in one array, the desk, each part from a place of its own. The second scheduler has parts of its own there.
 use crate::number;
+use crate::number::at;
+use crate::number::put;
+ghost use Prim.Native.Nat.{_<_};
 
 pub const ENDED: u64 = 0;
 
@@ -12,26 +16,63 @@ pub const READY: u64 = 2;
 pub const WAITING: u64 = 3;
 
 // No activation: the thread has ended or is overrun.
-const NEVER: u64 = 18446744073709551615;
+pub const NEVER: u64 = 18446744073709551615;
 
 const WAITS: u64 = 1125899906842624;
 
-// Cells 0 to 63 hold the variables, cells 64 to 95 for each event one more than the key of the cycle that notified it last.
-pub struct Outcome {
-    pub cells: [u64; 96],
-    pub records: [u64; 32],
-    pub t: u64,
-    pub n: u64,
-    pub spent: bool,
-}
+pub const VARIABLES: u64 = 0;
+
+// For each event one more than the key of the cycle that notified it last.
+const MARKS: u64 = 64;
+
+// Counts of the file's records, by their kind: 2 is a segment, 3 a thread.
+const COUNTS: u64 = 96;
+
+pub const SEGMENTS: u64 = 98;
+
+pub const THREADS: u64 = 99;
+
+// The horizon's key.
+pub const END: u64 = 100;
+
+// How many segments were run, and whether the budget was spent.
+pub const RAN: u64 = 101;
+
+pub const SPENT: u64 = 102;
+
+// The place of each segment's closer, 64 × its kind; then that of each thread's first segment.
+pub const CLOSERS: u64 = 128;
+
+const STARTS: u64 = 192;
+
+pub const RECORDS: u64 = 224;
+
+const AGENDA: u64 = 256;
 
 // A thread record in one word.
 pub fn record(kind: u64, segment: u64, event: u64, key: u64) -> u64 {
     kind % 4 + segment % 256 * 4 + event % 256 * 1024 + key % 4398046511104 * 262144
 }
 
-fn byte(file: &[u8], i: u64) -> u64 {
-    let k = number::place(i);
+pub fn segment_of(x: u64) -> u64 {
+    x / 4 % 256
+}
+
+pub fn event_of(x: u64) -> u64 {
+    x / 1024 % 256
+}
+
+pub fn key_of(x: u64) -> u64
+    ensures { λ r. ⌜ r < 70368744177665 ⌝ }
+{
+    x / 262144
+}
+
+// The byte so far behind a place of the file.
+pub fn byte(file: &[u8], i: u64, far: u64) -> u64
+    ensures { λ r. ⌜ r < 256 ⌝ }
+{
+    let k = number::sum(i, far) as usize;
     if k < file.len() {
         return number::wide(file[k]);
     }
@@ -39,27 +80,15 @@ fn byte(file: &[u8], i: u64) -> u64 {
 }
 
 // A number of so many bytes, lowest first.
-pub fn field(file: &[u8], i: u64, size: u64) -> u64 {
-    let mut x = 0;
+pub fn field(file: &[u8], i: u64, far: u64, size: u64) -> u64 {
+    let first = number::sum(i, far);
+    let mut x: u64 = 0;
     let mut n = size;
     while 0 < n {
         n -= 1;
-        x = number::sum(x % 281474976710656 * 256, byte(file, number::sum(i, n)));
+        x = x % 281474976710656 * 256 + byte(file, first, n);
     }
     x
-}
-
-fn cell(cells: &[u64; 96], i: u64) -> u64 {
-    if i < 96 {
-        return cells[number::place(i)];
-    }
-    0
-}
-
-fn store(cells: &mut [u64; 96], i: u64, x: u64) {
-    if i < 96 {
-        cells[number::place(i)] = x;
-    }
 }
 
 // What a variable is given: b, x the variable's own value, y that of variable b. "Sums and differences are taken modulo 4,294,967,296."
@@ -74,49 +103,35 @@ fn value(op: u64, b: u64, x: u64, y: u64) -> u64 {
 }
 
 // The statement at a place of the file.
-fn execute(file: &[u8], i: u64, now: u64, cells: &mut [u64; 96]) {
-    let op = byte(file, i);
-    let a = byte(file, number::sum(i, 1));
+fn execute(file: &[u8], i: u64, now: u64, desk: &mut [u64; 640]) {
+    let op = byte(file, i, 0);
+    let a = byte(file, i, 1);
     if op == 6 {
-        store(cells, number::sum(64, a), number::sum(now, 1));
+        put(desk, MARKS, a, number::sum(now, 1));
         return;
     }
-    let b = field(file, number::sum(i, 2), 4);
-    let x = cell(cells, a);
-    let y = cell(cells, b);
-    store(cells, a, value(op, b, x, y));
-}
-
-fn execute_all(file: &[u8], first: u64, n: u64, now: u64, cells: &mut [u64; 96]) {
-    let mut i = first;
-    let mut left = n;
-    while 0 < left {
-        execute(file, i, now, cells);
-        i = number::sum(i, 6);
-        left -= 1;
-    }
+    let b = field(file, i, 2, 4);
+    let x = at(desk, VARIABLES, a);
+    let y = at(desk, VARIABLES, b);
+    put(desk, VARIABLES, a, value(op, b, x, y));
 }
 
 // "The next segment is A if the variable is below the limit after the statements, else B." The closer stands at a place of the file.
-fn chosen(file: &[u8], closer: u64, cells: &[u64; 96]) -> u64 {
-    let test = byte(file, number::sum(closer, 8));
+fn chosen(file: &[u8], closer: u64, desk: &[u64; 640]) -> u64 {
+    let test = byte(file, closer, 8);
     if test < 255 {
-        if field(file, number::sum(closer, 9), 4) <= cell(cells, test) {
-            return byte(file, number::sum(closer, 7));
+        if field(file, closer, 9, 4) <= at(desk, VARIABLES, test) {
+            return byte(file, closer, 7);
         }
     }
-    byte(file, number::sum(closer, 6))
+    byte(file, closer, 6)
 }
 
 // The record of a thread that goes on after so many units; overrun where its next delta would be 1,024.
-fn resumed(segment: u64, now: u64, units: u64) -> u64 {
+pub fn resumed(segment: u64, now: u64, units: u64) -> u64 {
     if 0 < units {
-        return record(
-            READY,
-            segment,
-            0,
-            number::sum(now / 1024, units) % 4294967296 * 1024,
-        );
+        let time = number::sum(now / 1024, units) % 4294967296;
+        return record(READY, segment, 0, time * 1024);
     }
     if now % 1024 == 1023 {
         return record(OVERRUN, segment, 0, now);
@@ -126,14 +141,14 @@ fn resumed(segment: u64, now: u64, units: u64) -> u64 {
 
 // The record after the closer, of a thread that ran segment s and has the next to run.
 fn closed(file: &[u8], closer: u64, s: u64, next: u64, now: u64) -> u64 {
-    let kind = byte(file, closer);
+    let kind = byte(file, closer, 0);
     if kind == 0 {
         return record(ENDED, s, 0, now);
     }
     if kind == 2 {
-        return record(WAITING, next, byte(file, number::sum(closer, 1)), now);
+        return record(WAITING, next, byte(file, closer, 1), now);
     }
-    resumed(next, now, field(file, number::sum(closer, 2), 4))
+    resumed(next, now, field(file, closer, 2, 4))
 }
 
 fn activation(x: u64, k: u64) -> u64 {
@@ -146,153 +161,158 @@ fn activation(x: u64, k: u64) -> u64 {
     NEVER
 }
 
-fn drop_first(agenda: &mut [u64; 32]) {
-    let mut i = 0;
-    while i < 31 {
-        agenda[i] = agenda[i + 1];
-        i += 1;
-    }
-    agenda[31] = NEVER;
-}
-
-// One activation more, in its place.
-fn insert(agenda: &mut [u64; 32], entry: u64) {
-    let mut x = entry;
-    let mut i = 0;
-    while i < 32 {
-        let y = agenda[i];
+// One word more in a sorted part of so many words; the greatest goes.
+pub fn insert(desk: &mut [u64; 640], part: u64, size: u64, word: u64) {
+    let mut x = word;
+    let mut i: u64 = 0;
+    while i < size {
+        let y = at(desk, part, i);
         if x < y {
-            agenda[i] = x;
+            put(desk, part, i, x);
             x = y;
         }
         i += 1;
     }
 }
 
-// An activation after the cycle `now`: a thread that waits on an event notified in it goes on at the next delta.
-fn heard(x: u64, records: &mut [u64; 32], cells: &[u64; 96], now: u64) -> u64 {
-    if x < WAITS {
-        return x;
-    }
-    if cell(cells, number::sum(64, (x - WAITS) / 32)) != number::sum(now, 1) {
-        return x;
-    }
-    let k = x % 32;
-    let r = resumed(records[number::place(k)] / 4 % 256, now, 0);
-    records[number::place(k)] = r;
-    activation(r, k)
-}
-
-fn woken(agenda: [u64; 32], records: &mut [u64; 32], cells: &[u64; 96], now: u64) -> [u64; 32] {
-    let mut fresh = [NEVER; 32];
-    let mut i = 0;
-    while i < 32 {
-        let x = agenda[i];
-        if x == NEVER {
-            return fresh;
-        }
-        insert(&mut fresh, heard(x, records, cells, now));
+// So many nevers.
+pub fn clear(desk: &mut [u64; 640], part: u64, size: u64) {
+    let mut i: u64 = 0;
+    while i < size {
+        put(desk, part, i, NEVER);
         i += 1;
     }
-    fresh
 }
 
-// The place of each segment's closer, and from 64 on that of each thread's first segment; the number of threads.
-fn survey(file: &[u8], places: &mut [u64; 96]) -> u64 {
-    let mut i = 10;
-    let mut n = 0;
-    let mut t = 0;
+// The agenda with another activation in place of its first.
+fn replace_first(desk: &mut [u64; 640], entry: u64) {
+    let mut i: u64 = 0;
+    while i < 31 {
+        let y = at(desk, AGENDA, i + 1);
+        if entry <= y {
+            put(desk, AGENDA, i, entry);
+            return;
+        }
+        put(desk, AGENDA, i, y);
+        i += 1;
+    }
+    put(desk, AGENDA, 31, entry);
+}
+
+// Thread k after the cycle `now`: where it waits on an event notified in it, it goes on at the next delta.
+fn heard(desk: &mut [u64; 640], k: u64, now: u64) -> u64 {
+    let x = at(desk, RECORDS, k);
+    if x % 4 != WAITING {
+        return x;
+    }
+    if at(desk, MARKS, event_of(x)) != number::sum(now, 1) {
+        return x;
+    }
+    let r = resumed(segment_of(x), now, 0);
+    put(desk, RECORDS, k, r);
+    r
+}
+
+// The agenda after the cycle `now`; its first activation.
+fn wake(desk: &mut [u64; 640], now: u64) -> u64 {
+    clear(desk, AGENDA, 32);
+    let mut k: u64 = 0;
+    while k < 32 {
+        let x = heard(desk, k, now);
+        insert(desk, AGENDA, 32, activation(x, k));
+        k += 1;
+    }
+    at(desk, AGENDA, 0)
+}
+
+// The places of segments and threads, their counts, and the horizon.
+pub fn survey(file: &[u8], desk: &mut [u64; 640]) {
+    put(desk, END, 0, field(file, 0, 4, 4) % 4294967296 * 1024);
+    let mut i: u64 = 10;
     let mut left: u64 = 97;
     while 0 < left {
-        let kind = byte(file, number::sum(i, 2));
+        let kind = byte(file, i, 2);
         if kind == 4 {
-            return t;
+            return;
         }
-        if kind == 3 {
-            store(places, number::sum(64, t), number::sum(i, 4));
-            t = number::sum(t, 1);
-        } else {
-            store(places, n, number::sum(i, 4));
-            n = number::sum(n, 1);
-        }
-        i = number::sum(i, field(file, i, 2));
+        let n = at(desk, COUNTS, kind);
+        put(desk, 64 * kind, n, number::sum(i, 4));
+        put(desk, COUNTS, kind, number::sum(n, 1));
+        i = number::sum(i, field(file, i, 0, 2));
         left -= 1;
     }
-    t
 }
 
 // "All threads start ready at (0, 0)."
-fn start(file: &[u8], places: &[u64; 96], t: u64, records: &mut [u64; 32]) -> [u64; 32] {
-    let mut agenda = [NEVER; 32];
+pub fn start(file: &[u8], desk: &mut [u64; 640]) {
+    let t = at(desk, THREADS, 0);
     let mut k: u64 = 0;
     while k < t {
-        if 32 <= k {
-            return agenda;
-        }
-        let first = byte(file, cell(places, number::sum(64, k)));
-        records[number::place(k)] = record(READY, first, 0, 0);
-        insert(&mut agenda, k);
+        let first = byte(file, at(desk, STARTS, k), 0);
+        put(desk, RECORDS, k, record(READY, first, 0, 0));
         k += 1;
     }
-    agenda
+}
+
+// How many statements stand behind a closer.
+pub fn statements(file: &[u8], closer: u64) -> u64 {
+    let size = field(file, std::num::wrapping_sub_u64(closer, 4), 0, 2);
+    number::less(number::less(size / 6))
+}
+
+// Segment s whole; the record after it.
+pub fn run(file: &[u8], s: u64, now: u64, desk: &mut [u64; 640]) -> u64 {
+    let closer = at(desk, CLOSERS, s);
+    let mut i = number::sum(closer, 13);
+    let mut left = statements(file, closer);
+    while 0 < left {
+        execute(file, i, now, desk);
+        i = number::sum(i, 6);
+        left -= 1;
+    }
+    closed(file, closer, s, chosen(file, closer, desk), now)
 }
 
 // The soonest activation: its thread runs its segment whole, and is put on the agenda again.
-fn step(
-    file: &[u8],
-    places: &[u64; 96],
-    agenda: &mut [u64; 32],
-    records: &mut [u64; 32],
-    cells: &mut [u64; 96],
-    now: u64,
-) {
-    let k = agenda[0] % 32;
-    let s = records[number::place(k)] / 4 % 256;
-    let closer = cell(places, s);
-    let size = field(file, std::num::wrapping_sub_u64(closer, 4), 2);
-    let n = number::less(number::less(size / 6));
-    execute_all(file, number::sum(closer, 13), n, now, cells);
-    let r = closed(file, closer, s, chosen(file, closer, cells), now);
-    records[number::place(k)] = r;
-    drop_first(agenda);
-    insert(agenda, activation(r, k));
+fn step(file: &[u8], desk: &mut [u64; 640], now: u64) {
+    let k = at(desk, AGENDA, 0) % 32;
+    let s = segment_of(at(desk, RECORDS, k));
+    let r = run(file, s, now, desk);
+    put(desk, RECORDS, k, r);
+    replace_first(desk, activation(r, k));
 }
 
-// The run of an accepted file, of at most so many segments.
-pub fn simulate(file: &[u8], budget: u64) -> Outcome {
-    let end = field(file, 4, 4) % 4294967296 * 1024;
-    let mut places = [0u64; 96];
-    let t = survey(file, &mut places);
-    let mut records = [0u64; 32];
-    let mut agenda = start(file, &places, t, &mut records);
-    let mut cells = [0u64; 96];
-    let mut now = 0;
-    let mut left = budget;
+// At most so many segments before the horizon's key; how many. One more for a budget that was spent.
+fn run_all(file: &[u8], budget: u64, end: u64, desk: &mut [u64; 640]) -> u64 {
+    let mut now: u64 = 0;
+    let mut n: u64 = 0;
     loop {
-        if now < agenda[0] / 32 {
-            agenda = woken(agenda, &mut records, &cells, now);
-            now = agenda[0] / 32;
-            if end <= now {
-                let n = std::num::wrapping_sub_u64(budget, left);
-                return Outcome {
-                    cells,
-                    records,
-                    t,
-                    n,
-                    spent: false,
-                };
-            }
+        let next = at(desk, AGENDA, 0) / 32;
+        if now < next {
+            now = wake(desk, now) / 32;
         }
-        if left == 0 {
-            return Outcome {
-                cells,
-                records,
-                t,
-                n: budget,
-                spent: true,
-            };
+        if end <= now {
+            return n;
         }
-        step(file, &places, &mut agenda, &mut records, &mut cells, now);
-        left -= 1;
+        if budget <= n {
+            return number::sum(n, 1);
+        }
+        step(file, desk, now);
+        n += 1;
     }
+}
+
+// The run of an accepted file on an empty desk, of at most so many segments.
+pub fn simulate(file: &[u8], budget: u64, desk: &mut [u64; 640]) {
+    survey(file, desk);
+    start(file, desk);
+    wake(desk, 0);
+    let end = at(desk, END, 0);
+    let n = run_all(file, budget, end, desk);
+    if budget < n {
+        put(desk, RAN, 0, budget);
+        put(desk, SPENT, 0, 1);
+        return;
+    }
+    put(desk, RAN, 0, n);
 }

@@ -14,16 +14,16 @@ use Rattle.runner.proofs.cycles.Statement.{statement}
 use Rattle.runner.proofs.cycles.Tie as tie
 
 abbrev Inv-loop : tie.InvT-loop
-Inv-loop budget count t limit code segments₀ v₀ state₀ told₀ ranges₀ key₀ from₀ to₀ n₀ segments v state told ranges key from to n = Begins t state told ranges key from to × ((m : Model) → Runs m t limit code segments₀ → Loop m budget v state segments told key 0 n)
+Inv-loop budget t limit code segments₀ v₀ state₀ told₀ ranges₀ due₀ n₀ segments v state told ranges due n = Begins t state told ranges (due .key) (due .from) (due .to) × ((m : Model) → Runs m t limit code segments₀ → Loop m budget v state segments told (due .key) 0 n)
 
 abbrev μ-loop : tie.MeasureT-loop
-μ-loop budget count t limit code segments₀ v₀ state₀ told₀ ranges₀ key₀ from₀ to₀ n₀ segments v state told ranges key from to n = limit * (t + 1) - countAt t key 0
+μ-loop budget t limit code segments₀ v₀ state₀ told₀ ranges₀ due₀ n₀ segments v state told ranges due n = limit * (t + 1) - countAt t (due .key) 0
 
-wide-requires : tie.Need-wide-requires Inv-loop μ-loop
-wide-requires c κs = search needs
+cast-t : tie.Need-cast-t Inv-loop μ-loop
+cast-t c = search needs
 
 mul-limit : tie.Need-mul-limit Inv-loop μ-loop
-mul-limit c = omega (arith, modelFault-horizon (c .before .before .before .args .m) (c .before .before .before .pre) .1)
+mul-limit c = omega (arith, modelFault-horizon (c .before .before .args .m) (c .before .before .pre) .1)
 
 pack-requires : tie.Need-pack-requires Inv-loop μ-loop
 pack-requires c κs = search needs
@@ -34,71 +34,70 @@ first-segments-requires c κs = search needs
 no-ranges-requires : tie.Need-no-ranges-requires Inv-loop μ-loop
 no-ranges-requires c κs = search needs
 
-loop-holds : tie.Need-loop-holds Inv-loop μ-loop
-loop-holds c = let first = c .before in
-    let start = first .before .before .before .before .before in
+due-of-requires : tie.Need-due-of-requires Inv-loop μ-loop
+due-of-requires c κs = let first = c .before .before in
+    let start = first .before .before .before .before in
     let few = modelFault-counts (start .args .m) (start .pre) .threads in
-    let threads = first .before .before .before .before .wide .ensures in
-    (begins-start _ _ (omega arith) (c .no-ranges .ensures), λ m r. let few = modelFault-counts m (r .fit) .threads in loop-start m (r .fit) (start .args .budget) _ (first .first-segments .ensures .0) (λ k h. r .first k (omega arith)))
+    (omega arith, (omega arith, (omega arith, λ k h l. (omega arith, h))))
+
+loop-holds : tie.Need-loop-holds Inv-loop μ-loop
+loop-holds c = let first = c .before .before .before in
+    let start = first .before .before .before .before in
+    let few = modelFault-counts (start .args .m) (start .pre) .threads in
+    let (now, due) = c .due-of .ensures in
+    (begins-start _ _ _ _ _ (omega arith) (c .before .before .no-ranges .ensures) (rw now due), λ m r. let few = modelFault-counts m (r .fit) .threads in rw now (loop-start m (r .fit) (start .args .budget) _ (first .first-segments .ensures .0) (λ k h. r .first k (omega arith))))
 
 run-cycle-requires : tie.Need-run-cycle-requires Inv-loop μ-loop
-run-cycle-requires c κs = let first = c .before .before .before .before .before .before .before .before in
-    let start = first .before .before .before .before .before in
+run-cycle-requires c κs = let first = c .before .before .before .before .before .before .before .before .before .before in
+    let start = first .before .before .before .before in
     let few = modelFault-counts (start .args .m) (start .pre) .threads in
-    let threads = first .before .before .before .before .wide .ensures in
     let inv = c .before .before .before .before .before .before .loop .inv in
-    let here = inv .1 (start .args .m) (record { fit = start .pre; code = first .before .pack .ensures; threads = threads; limit = refl; first = first .first-segments .ensures .1 }) in
+    let here = inv .1 (start .args .m) (record { fit = start .pre; code = first .before .pack .ensures; threads = refl; limit = refl; first = first .first-segments .ensures .1 }) in
     (inv .0 .threads .order, (omega (arith, inv .0 .threads .inside), (loop-small (start .args .m) (start .pre) (start .args .budget) _ _ _ _ _ _ _ here, due-idle _ _ _ _ _ (inv .0 .threads))))
 
 is-out-requires : tie.Need-is-out-requires Inv-loop μ-loop
-is-out-requires c κs = let first = c .before .before .before .before .before .before .before .before .before .before in
-    let start = first .before .before .before .before .before in
+is-out-requires c κs = let first = c .before .before .before .before .before .before .before .before .before .before .before .before in
+    let start = first .before .before .before .before in
     let few = modelFault-counts (start .args .m) (start .pre) .threads in
-    let threads = first .before .before .before .before .wide .ensures in
     omega arith
 
 result-requires : tie.Need-result-requires Inv-loop μ-loop
-result-requires c κs = let first = c .before .before .before .before .before .before .before .before .before .before .before .before .before .before in
-    let start = first .before .before .before .before .before in
+result-requires c κs = let first = c .before .before .before .before .before .before .before .before .before .before .before .before .before .before .before .before in
+    let start = first .before .before .before .before in
     let few = modelFault-counts (start .args .m) (start .pre) .threads in
-    let threads = first .before .before .before .before .wide .ensures in
     omega arith
 
 returns : tie.Need-returns Inv-loop μ-loop
-returns c = let first = c .before .before .before .before .before .before .before .before .before .before .before .before .before .before .before in
-    let start = first .before .before .before .before .before in
+returns c = let first = c .before .before .before .before .before .before .before .before .before .before .before .before .before .before .before .before .before in
+    let start = first .before .before .before .before in
     let few = modelFault-counts (start .args .m) (start .pre) .threads in
-    let threads = first .before .before .before .before .wide .ensures in
     let inv = c .before .before .before .before .before .before .before .before .before .before .before .before .before .loop .inv in
-    let here = inv .1 (start .args .m) (record { fit = start .pre; code = first .before .pack .ensures; threads = threads; limit = refl; first = first .first-segments .ensures .1 }) in
-    c .result .ensures ∙ cycle-out (start .args .m) (start .pre) (start .args .budget) _ (first .before .pack .ensures) _ _ _ _ _ _ threads here (inv .0) (c .before .before .before .before .before .before .run-cycle .ensures) (sym (c .before .before .before .before .is-out .ensures) ∙ c .before .before .before .if1 .taken)
+    let here = inv .1 (start .args .m) (record { fit = start .pre; code = first .before .pack .ensures; threads = refl; limit = refl; first = first .first-segments .ensures .1 }) in
+    c .result .ensures ∙ cycle-out (start .args .m) (start .pre) (start .args .budget) _ (first .before .pack .ensures) _ _ _ _ _ _ refl here (inv .0) (c .before .before .before .before .before .before .run-cycle .ensures) (sym (c .before .before .before .before .is-out .ensures) ∙ c .before .before .before .if1 .taken)
 
 end-cycle-requires : tie.Need-end-cycle-requires Inv-loop μ-loop
-end-cycle-requires c κs = let first = c .before .before .before .before .before .before .before .before .before .before .before .before .before .before .before in
-    let start = first .before .before .before .before .before in
+end-cycle-requires c κs = let first = c .before .before .before .before .before .before .before .before .before .before .before .before .before .before .before .before .before in
+    let start = first .before .before .before .before in
     let few = modelFault-counts (start .args .m) (start .pre) .threads in
-    let threads = first .before .before .before .before .wide .ensures in
     let inv = c .before .before .before .before .before .before .before .before .before .before .before .before .before .loop .inv in
-    let here = inv .1 (start .args .m) (record { fit = start .pre; code = first .before .pack .ensures; threads = threads; limit = refl; first = first .first-segments .ensures .1 }) in
-    let over = cycle-in (start .args .m) (start .pre) (start .args .budget) _ (first .before .pack .ensures) _ _ _ _ _ _ threads here (inv .0) (c .before .before .before .before .before .before .run-cycle .ensures) (sym (c .before .before .before .before .is-out .ensures) ∙ c .before .before .before .if1 .left) in
-    (omega arith, (loop-small (start .args .m) (start .pre) (start .args .budget) _ _ _ _ _ _ _ here, (over .marks-size, (over .words-size, (cycle-ends (start .args .m) (start .pre) (start .args .budget) _ (first .before .pack .ensures) _ _ _ _ _ _ threads here (inv .0) (c .before .before .before .before .before .before .run-cycle .ensures), cycle-ahead (start .args .m) (start .pre) (start .args .budget) _ (first .before .pack .ensures) _ _ _ _ _ _ threads here (inv .0) (c .before .before .before .before .before .before .run-cycle .ensures) (sym (c .before .before .before .before .is-out .ensures) ∙ c .before .before .before .if1 .left))))))
+    let here = inv .1 (start .args .m) (record { fit = start .pre; code = first .before .pack .ensures; threads = refl; limit = refl; first = first .first-segments .ensures .1 }) in
+    let over = cycle-in (start .args .m) (start .pre) (start .args .budget) _ (first .before .pack .ensures) _ _ _ _ _ _ refl here (inv .0) (c .before .before .before .before .before .before .run-cycle .ensures) (sym (c .before .before .before .before .is-out .ensures) ∙ c .before .before .before .if1 .left) in
+    (omega arith, (loop-small (start .args .m) (start .pre) (start .args .budget) _ _ _ _ _ _ _ here, (over .marks-size, (over .words-size, (cycle-ends (start .args .m) (start .pre) (start .args .budget) _ (first .before .pack .ensures) _ _ _ _ _ _ refl here (inv .0) (c .before .before .before .before .before .before .run-cycle .ensures), cycle-ahead (start .args .m) (start .pre) (start .args .budget) _ (first .before .pack .ensures) _ _ _ _ _ _ refl here (inv .0) (c .before .before .before .before .before .before .run-cycle .ensures) (sym (c .before .before .before .before .is-out .ensures) ∙ c .before .before .before .if1 .left))))))
 
 result-requires-2 : tie.Need-result-requires-2 Inv-loop μ-loop
-result-requires-2 c κs = let first = c .before .before .before .before .before .before .before .before .before .before .before .before .before .before .before .before .before .before .before .before in
-    let start = first .before .before .before .before .before in
+result-requires-2 c κs = let first = c .before .before .before .before .before .before .before .before .before .before .before .before .before .before .before .before .before .before .before .before .before .before in
+    let start = first .before .before .before .before in
     let few = modelFault-counts (start .args .m) (start .pre) .threads in
-    let threads = first .before .before .before .before .wide .ensures in
     omega arith
 
 returns-2 : tie.Need-returns-2 Inv-loop μ-loop
-returns-2 c = let first = c .before .before .before .before .before .before .before .before .before .before .before .before .before .before .before .before .before .before .before .before .before in
-    let start = first .before .before .before .before .before in
+returns-2 c = let first = c .before .before .before .before .before .before .before .before .before .before .before .before .before .before .before .before .before .before .before .before .before .before .before in
+    let start = first .before .before .before .before in
     let few = modelFault-counts (start .args .m) (start .pre) .threads in
-    let threads = first .before .before .before .before .wide .ensures in
     let inv = c .before .before .before .before .before .before .before .before .before .before .before .before .before .before .before .before .before .before .before .loop .inv in
-    let here = inv .1 (start .args .m) (record { fit = start .pre; code = first .before .pack .ensures; threads = threads; limit = refl; first = first .first-segments .ensures .1 }) in
+    let here = inv .1 (start .args .m) (record { fit = start .pre; code = first .before .pack .ensures; threads = refl; limit = refl; first = first .first-segments .ensures .1 }) in
     let end = c .before .before .before .before .before .end-cycle .ensures in
-    c .result2 .ensures ∙ cycle-rest (start .args .m) (start .pre) (start .args .budget) _ (first .before .pack .ensures) _ _ _ _ _ _ threads here (inv .0) (c .before .before .before .before .before .before .before .before .before .before .before .before .run-cycle .ensures) (sym (c .before .before .before .before .before .before .before .before .before .before .is-out .ensures) ∙ c .before .before .before .before .before .before .before .before .before .if1 .left) _ (end .0) _ (end .1 .0) (end .1 .1 .0) (c .before .before .before .if2 .taken)
+    c .result2 .ensures ∙ cycle-rest (start .args .m) (start .pre) (start .args .budget) _ (first .before .pack .ensures) _ _ _ _ _ _ refl here (inv .0) (c .before .before .before .before .before .before .before .before .before .before .before .before .run-cycle .ensures) (sym (c .before .before .before .before .before .before .before .before .before .before .is-out .ensures) ∙ c .before .before .before .before .before .before .before .before .before .if1 .left) _ (end .0) _ (end .1 .0) (end .1 .1 .0) (c .before .before .before .if2 .taken)
 
 array-write-ranges : tie.Need-array-write-ranges Inv-loop μ-loop
 array-write-ranges c = omega arith
@@ -107,24 +106,22 @@ array-write-ranges-2 : tie.Need-array-write-ranges-2 Inv-loop μ-loop
 array-write-ranges-2 c = omega arith
 
 loop-less : tie.Need-loop-less Inv-loop μ-loop
-loop-less c = let first = c .before .before .before .before .before .before .before .before .before .before .before .before .before .before .before .before .before .before in
-    let start = first .before .before .before .before .before in
+loop-less c = let first = c .before .before .before .before .before .before .before .before .before .before .before .before .before .before .before .before .before .before .before .before in
+    let start = first .before .before .before .before in
     let few = modelFault-counts (start .args .m) (start .pre) .threads in
-    let threads = first .before .before .before .before .wide .ensures in
     let inv = c .before .before .before .before .before .before .before .before .before .before .before .before .before .before .before .before .loop .inv in
-    let here = inv .1 (start .args .m) (record { fit = start .pre; code = first .before .pack .ensures; threads = threads; limit = refl; first = first .first-segments .ensures .1 }) in
+    let here = inv .1 (start .args .m) (record { fit = start .pre; code = first .before .pack .ensures; threads = refl; limit = refl; first = first .first-segments .ensures .1 }) in
     let end = c .before .before .end-cycle .ensures in
-    falls-later _ _ _ (cycle-later (start .args .m) (start .pre) (start .args .budget) _ (first .before .pack .ensures) _ _ _ _ _ _ threads here (inv .0) (c .before .before .before .before .before .before .before .before .before .run-cycle .ensures) (sym (c .before .before .before .before .before .before .before .is-out .ensures) ∙ c .before .before .before .before .before .before .if1 .left) _ (end .0) _ (end .1 .0) (end .1 .1 .0) (c .if2 .left)) (cycle-room (start .args .m) (start .pre) (start .args .budget) _ (first .before .pack .ensures) _ _ _ _ _ _ threads here (inv .0) (c .before .before .before .before .before .before .before .before .before .run-cycle .ensures))
+    falls-later _ _ _ (cycle-later (start .args .m) (start .pre) (start .args .budget) _ (first .before .pack .ensures) _ _ _ _ _ _ refl here (inv .0) (c .before .before .before .before .before .before .before .before .before .run-cycle .ensures) (sym (c .before .before .before .before .before .before .before .is-out .ensures) ∙ c .before .before .before .before .before .before .if1 .left) _ (end .0) _ (end .1 .0) (end .1 .1 .0) (c .if2 .left)) (cycle-room (start .args .m) (start .pre) (start .args .budget) _ (first .before .pack .ensures) _ _ _ _ _ _ refl here (inv .0) (c .before .before .before .before .before .before .before .before .before .run-cycle .ensures))
 
 loop-again : tie.Need-loop-again Inv-loop μ-loop
-loop-again c = let first = c .before .before .before .before .before .before .before .before .before .before .before .before .before .before .before .before .before .before in
-    let start = first .before .before .before .before .before in
+loop-again c = let first = c .before .before .before .before .before .before .before .before .before .before .before .before .before .before .before .before .before .before .before .before in
+    let start = first .before .before .before .before in
     let few = modelFault-counts (start .args .m) (start .pre) .threads in
-    let threads = first .before .before .before .before .wide .ensures in
     let inv = c .before .before .before .before .before .before .before .before .before .before .before .before .before .before .before .before .loop .inv in
-    let here = inv .1 (start .args .m) (record { fit = start .pre; code = first .before .pack .ensures; threads = threads; limit = refl; first = first .first-segments .ensures .1 }) in
+    let here = inv .1 (start .args .m) (record { fit = start .pre; code = first .before .pack .ensures; threads = refl; limit = refl; first = first .first-segments .ensures .1 }) in
     let end = c .before .before .end-cycle .ensures in
-    (cycle-next (start .args .m) (start .pre) (start .args .budget) _ (first .before .pack .ensures) _ _ _ _ _ _ threads here (inv .0) (c .before .before .before .before .before .before .before .before .before .run-cycle .ensures) (sym (c .before .before .before .before .before .before .before .is-out .ensures) ∙ c .before .before .before .before .before .before .if1 .left) _ (end .0) _ (end .1 .0) (end .1 .1 .0) _ _ (end .1 .1 .1), λ m r. cycle-begun m (r .fit) (start .args .budget) _ (r .code) _ _ _ _ _ _ (r .threads) (inv .1 m r) (inv .0) (c .before .before .before .before .before .before .before .before .before .run-cycle .ensures) (sym (c .before .before .before .before .before .before .before .is-out .ensures) ∙ c .before .before .before .before .before .before .if1 .left) _ (end .0) _ (end .1 .0) (end .1 .1 .0) (omega (arith, r .limit, c .if2 .left)))
+    (cycle-next (start .args .m) (start .pre) (start .args .budget) _ (first .before .pack .ensures) _ _ _ _ _ _ refl here (inv .0) (c .before .before .before .before .before .before .before .before .before .run-cycle .ensures) (sym (c .before .before .before .before .before .before .before .is-out .ensures) ∙ c .before .before .before .before .before .before .if1 .left) _ (end .0) _ (end .1 .0) (end .1 .1 .0) _ _ (end .1 .1 .1), λ m r. cycle-begun m (r .fit) (start .args .budget) _ (r .code) _ _ _ _ _ _ (r .threads) (inv .1 m r) (inv .0) (c .before .before .before .before .before .before .before .before .before .run-cycle .ensures) (sym (c .before .before .before .before .before .before .before .is-out .ensures) ∙ c .before .before .before .before .before .before .if1 .left) _ (end .0) _ (end .1 .0) (end .1 .1 .0) (omega (arith, r .limit, c .if2 .left)))
 
 pub cycles-spec : {M : Type 1} → statement M
 cycles-spec =
@@ -132,11 +129,12 @@ cycles-spec =
     (tie.spec
     Inv-loop
     μ-loop
-    wide-requires
+    cast-t
     mul-limit
     pack-requires
     first-segments-requires
     no-ranges-requires
+    due-of-requires
     loop-holds
     run-cycle-requires
     is-out-requires

@@ -25,29 +25,29 @@ wake-requires : tie.Need-wake-requires
 wake-requires c κs = let p = c .before .before .before .before .before .before .pre in
     let a = c .before .before .before .before .before .before .args in
     let ends = p .1 .1 .1 .1 .0 in
-    let hull = hull-of (a .t) (a .ranges .now) (a .from) (a .to) _ _ _ (ends .order) (ends .inside) (c .before .before .before .before .lesser .ensures) (c .before .before .greater .ensures) (c .before .lesser2 .ensures) in
+    let hull = hull-of (a .t) (a .ranges .now) (a .due .from) (a .due .to) _ _ _ (ends .order) (ends .inside) (c .before .before .before .before .lesser .ensures) (c .before .before .greater .ensures) (c .before .lesser2 .ensures) in
     (hull .order, (omega (arith, hull .inside, p .0), (p .1 .0, (p .1 .1 .0, p .1 .1 .1 .0))))
 
 least-of-requires : tie.Need-least-of-requires
 least-of-requires c κs = let p = c .before .before .before .before .before .before .before .before .pre in
     let a = c .before .before .before .before .before .before .before .before .args in
     let ends = p .1 .1 .1 .1 .0 in
-    let hull = hull-of (a .t) (a .ranges .now) (a .from) (a .to) _ _ _ (ends .order) (ends .inside) (c .before .before .before .before .before .before .lesser .ensures) (c .before .before .before .before .greater .ensures) (c .before .before .before .lesser2 .ensures) in
-    (hull .order, (hull .inside, (p .0, (p .1 .0, (c .before .wake .ensures .least, hull-ahead (a .t) (a .state .now) (a .told .now) (a .ranges .now) (a .key) (a .from) (a .to) _ _ ends hull (p .1 .0) (p .1 .1 .0) _ _ (c .before .wake .ensures) (p .1 .1 .1 .1 .1))))))
+    let hull = hull-of (a .t) (a .ranges .now) (a .due .from) (a .due .to) _ _ _ (ends .order) (ends .inside) (c .before .before .before .before .before .before .lesser .ensures) (c .before .before .before .before .greater .ensures) (c .before .before .before .lesser2 .ensures) in
+    (hull .order, (hull .inside, (p .0, (p .1 .0, (c .before .wake .ensures .least, hull-ahead (a .t) (a .state .now) (a .told .now) (a .ranges .now) (a .due .key) (a .due .from) (a .due .to) _ _ ends hull (p .1 .0) (p .1 .1 .0) _ _ (c .before .wake .ensures) (p .1 .1 .1 .1 .1))))))
 
 due-of-requires : tie.Need-due-of-requires
 due-of-requires c κs = let p = c .before .before .before .before .before .before .before .before .before .before .pre in
     let a = c .before .before .before .before .before .before .before .before .before .before .args in
     let ends = p .1 .1 .1 .1 .0 in
-    let hull = hull-of (a .t) (a .ranges .now) (a .from) (a .to) _ _ _ (ends .order) (ends .inside) (c .before .before .before .before .before .before .before .before .lesser .ensures) (c .before .before .before .before .before .before .greater .ensures) (c .before .before .before .before .before .lesser2 .ensures) in
-    (hull .order, (hull .inside, (p .0, hull-late (a .t) (a .state .now) (a .told .now) (a .ranges .now) (a .key) (a .from) (a .to) _ _ ends hull (p .1 .0) (p .1 .1 .0) _ _ (c .before .before .before .wake .ensures))))
+    let hull = hull-of (a .t) (a .ranges .now) (a .due .from) (a .due .to) _ _ _ (ends .order) (ends .inside) (c .before .before .before .before .before .before .before .before .lesser .ensures) (c .before .before .before .before .before .before .greater .ensures) (c .before .before .before .before .before .lesser2 .ensures) in
+    (hull .order, (hull .inside, (p .0, hull-late (a .t) (a .state .now) (a .told .now) (a .ranges .now) (a .due .key) (a .due .from) (a .due .to) _ _ ends hull (p .1 .0) (p .1 .1 .0) _ _ (c .before .before .before .wake .ensures))))
 
 returns : tie.Need-returns
 returns c = let p = c .before .before .before .before .before .before .before .before .before .before .before .pre in
     let a = c .before .before .before .before .before .before .before .before .before .before .before .args in
     let ends = p .1 .1 .1 .1 .0 in
-    let hull = hull-of (a .t) (a .ranges .now) (a .from) (a .to) _ _ _ (ends .order) (ends .inside) (c .before .before .before .before .before .before .before .before .before .lesser .ensures) (c .before .before .before .before .before .before .before .greater .ensures) (c .before .before .before .before .before .before .lesser2 .ensures) in
-    (c .before .before .before .before .wake .ensures .places, (c .due-of .ensures .0 ∙ c .before .before .least-of .ensures, (hull-woken (a .t) (a .state .now) (a .told .now) (a .ranges .now) (a .key) (a .from) (a .to) _ _ ends hull (p .1 .0) (p .1 .1 .0) _ _ (c .before .before .before .before .wake .ensures), rw (c .due-of .ensures .0) (c .due-of .ensures .1))))
+    let hull = hull-of (a .t) (a .ranges .now) (a .due .from) (a .due .to) _ _ _ (ends .order) (ends .inside) (c .before .before .before .before .before .before .before .before .before .lesser .ensures) (c .before .before .before .before .before .before .before .greater .ensures) (c .before .before .before .before .before .before .lesser2 .ensures) in
+    (c .before .before .before .before .wake .ensures .places, (c .due-of .ensures .0 ∙ c .before .before .least-of .ensures, (hull-woken (a .t) (a .state .now) (a .told .now) (a .ranges .now) (a .due .key) (a .due .from) (a .due .to) _ _ ends hull (p .1 .0) (p .1 .1 .0) _ _ (c .before .before .before .before .wake .ensures), rw (c .due-of .ensures .0) (c .due-of .ensures .1))))
 
 pub end-cycle-spec : {M : Type 1} → statement M
 end-cycle-spec =

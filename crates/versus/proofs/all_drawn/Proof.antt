@@ -29,8 +29,8 @@ loop-less c = omega arith
 loop-again : tie.Need-loop-again Inv-loop μ-loop
 loop-again c = tt
 
-counts-requires : tie.Need-counts-requires Inv-loop μ-loop
-counts-requires c κs = search needs
+run-counts-requires : tie.Need-run-counts-requires Inv-loop μ-loop
+run-counts-requires c κs = search needs
 
 returns : tie.Need-returns Inv-loop μ-loop
 returns c = tt
@@ -47,5 +47,5 @@ all-drawn-spec =
     add-i
     loop-less
     loop-again
-    counts-requires
+    run-counts-requires
     returns)

@@ -19,9 +19,6 @@ returns c = tt
 cast-file : tie.Need-cast-file Inv-loop μ-loop
 cast-file c = search needs
 
-place-requires : tie.Need-place-requires Inv-loop μ-loop
-place-requires c κs = search needs
-
 element-write-file : tie.Need-element-write-file Inv-loop μ-loop
 element-write-file c = search needs
 
@@ -49,7 +46,6 @@ put-spec =
     loop-holds
     returns
     cast-file
-    place-requires
     element-write-file
     add-at
     sub-n

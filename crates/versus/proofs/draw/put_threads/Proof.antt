@@ -21,7 +21,7 @@ sum-requires : tie.Need-sum-requires Inv-loop μ-loop
 sum-requires c κs = search needs
 
 rem-own : tie.Need-rem-own Inv-loop μ-loop
-rem-own c = omega arith
+rem-own c = search needs
 
 sum-requires-2 : tie.Need-sum-requires-2 Inv-loop μ-loop
 sum-requires-2 c κs = search needs

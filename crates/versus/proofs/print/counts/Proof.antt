@@ -6,16 +6,10 @@ use Rattle.versus.proofs.print.counts.Statement.{statement}
 use Rattle.versus.proofs.print.counts.Tie as tie
 
 abbrev Inv-loop : tie.InvT-loop
-Inv-loop totals i₀ t4 i = Unit {0}
+Inv-loop totals n i₀ line i = Unit {0}
 
 abbrev μ-loop : tie.MeasureT-loop
-μ-loop totals i₀ t4 i = 11 - i
-
-slice-aggregate-text : tie.Need-slice-aggregate-text Inv-loop μ-loop
-slice-aggregate-text c = search needs
-
-text-requires : tie.Need-text-requires Inv-loop μ-loop
-text-requires c κs = search needs
+μ-loop totals n i₀ line i = 15 - i
 
 loop-holds : tie.Need-loop-holds Inv-loop μ-loop
 loop-holds c = tt
@@ -38,11 +32,17 @@ loop-less c = omega arith
 loop-again : tie.Need-loop-again Inv-loop μ-loop
 loop-again c = tt
 
-slice-aggregate-text-2 : tie.Need-slice-aggregate-text-2 Inv-loop μ-loop
-slice-aggregate-text-2 c = search needs
+element-copy-out-spaced-2 : tie.Need-element-copy-out-spaced-2 Inv-loop μ-loop
+element-copy-out-spaced-2 c = search needs
 
-text-requires-2 : tie.Need-text-requires-2 Inv-loop μ-loop
-text-requires-2 c κs = search needs
+spaced-requires-2 : tie.Need-spaced-requires-2 Inv-loop μ-loop
+spaced-requires-2 c κs = search needs
+
+slice-aggregate-text : tie.Need-slice-aggregate-text Inv-loop μ-loop
+slice-aggregate-text c = search needs
+
+text-requires : tie.Need-text-requires Inv-loop μ-loop
+text-requires c κs = search needs
 
 returns : tie.Need-returns Inv-loop μ-loop
 returns c = tt
@@ -53,8 +53,6 @@ counts-spec =
     (tie.spec
     Inv-loop
     μ-loop
-    slice-aggregate-text
-    text-requires
     loop-holds
     mul-spaced
     element-copy-out-spaced
@@ -62,6 +60,8 @@ counts-spec =
     add-i
     loop-less
     loop-again
-    slice-aggregate-text-2
-    text-requires-2
+    element-copy-out-spaced-2
+    spaced-requires-2
+    slice-aggregate-text
+    text-requires
     returns)

@@ -5,10 +5,13 @@ use Rattle.versus.proofs.second.field.Statement.{statement}
 use Rattle.versus.proofs.second.field.Tie as tie
 
 abbrev Inv-loop : tie.InvT-loop
-Inv-loop file i size x₀ n₀ x n = Unit {0}
+Inv-loop file i far size first x₀ n₀ x n = Unit {0}
 
 abbrev μ-loop : tie.MeasureT-loop
-μ-loop file i size x₀ n₀ x n = n
+μ-loop file i far size first x₀ n₀ x n = n
+
+sum-requires : tie.Need-sum-requires Inv-loop μ-loop
+sum-requires c κs = search needs
 
 loop-holds : tie.Need-loop-holds Inv-loop μ-loop
 loop-holds c = tt
@@ -16,17 +19,14 @@ loop-holds c = tt
 sub-n : tie.Need-sub-n Inv-loop μ-loop
 sub-n c = omega arith
 
-mul-sum : tie.Need-mul-sum Inv-loop μ-loop
-mul-sum c = omega arith
-
-sum-requires : tie.Need-sum-requires Inv-loop μ-loop
-sum-requires c κs = search needs
+mul-x : tie.Need-mul-x Inv-loop μ-loop
+mul-x c = omega arith
 
 byte-requires : tie.Need-byte-requires Inv-loop μ-loop
 byte-requires c κs = search needs
 
-sum-requires-2 : tie.Need-sum-requires-2 Inv-loop μ-loop
-sum-requires-2 c κs = search needs
+add-x : tie.Need-add-x Inv-loop μ-loop
+add-x c = omega arith
 
 loop-less : tie.Need-loop-less Inv-loop μ-loop
 loop-less c = omega arith
@@ -43,12 +43,12 @@ field-spec =
     (tie.spec
     Inv-loop
     μ-loop
+    sum-requires
     loop-holds
     sub-n
-    mul-sum
-    sum-requires
+    mul-x
     byte-requires
-    sum-requires-2
+    add-x
     loop-less
     loop-again
     returns)

@@ -6,25 +6,19 @@ use Rattle.versus.proofs.second.insert.Statement.{statement}
 use Rattle.versus.proofs.second.insert.Tie as tie
 
 abbrev Inv-loop : tie.InvT-loop
-Inv-loop agenda₀ entry x₀ i₀ agenda x i = Unit {0}
+Inv-loop desk₀ part size word x₀ i₀ desk x i = Unit {0}
 
 abbrev μ-loop : tie.MeasureT-loop
-μ-loop agenda₀ entry x₀ i₀ agenda x i = 32 - i
+μ-loop desk₀ part size word x₀ i₀ desk x i = size - i
 
 loop-holds : tie.Need-loop-holds Inv-loop μ-loop
 loop-holds c = tt
 
-mul-y : tie.Need-mul-y Inv-loop μ-loop
-mul-y c = omega arith
+at-requires : tie.Need-at-requires Inv-loop μ-loop
+at-requires c κs = search needs
 
-element-copy-out-y : tie.Need-element-copy-out-y Inv-loop μ-loop
-element-copy-out-y c = search needs
-
-mul-agenda : tie.Need-mul-agenda Inv-loop μ-loop
-mul-agenda c = omega arith
-
-element-write-agenda : tie.Need-element-write-agenda Inv-loop μ-loop
-element-write-agenda c = search needs
+put-requires : tie.Need-put-requires Inv-loop μ-loop
+put-requires c κs = search needs
 
 add-i : tie.Need-add-i Inv-loop μ-loop
 add-i c = omega arith
@@ -45,10 +39,8 @@ insert-spec =
     Inv-loop
     μ-loop
     loop-holds
-    mul-y
-    element-copy-out-y
-    mul-agenda
-    element-write-agenda
+    at-requires
+    put-requires
     add-i
     loop-less
     loop-again

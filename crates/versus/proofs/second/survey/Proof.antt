@@ -5,16 +5,22 @@ use Rattle.versus.proofs.second.survey.Statement.{statement}
 use Rattle.versus.proofs.second.survey.Tie as tie
 
 abbrev Inv-loop : tie.InvT-loop
-Inv-loop file places₀ i₀ n₀ t₀ left₀ places i n t left = Unit {0}
+Inv-loop file desk₀ i₀ left₀ desk i left = Unit {0}
 
 abbrev μ-loop : tie.MeasureT-loop
-μ-loop file places₀ i₀ n₀ t₀ left₀ places i n t left = left
+μ-loop file desk₀ i₀ left₀ desk i left = left
+
+field-requires : tie.Need-field-requires Inv-loop μ-loop
+field-requires c κs = search needs
+
+mul-put : tie.Need-mul-put Inv-loop μ-loop
+mul-put c = omega arith
+
+put-requires : tie.Need-put-requires Inv-loop μ-loop
+put-requires c κs = search needs
 
 loop-holds : tie.Need-loop-holds Inv-loop μ-loop
 loop-holds c = tt
-
-sum-requires : tie.Need-sum-requires Inv-loop μ-loop
-sum-requires c κs = search needs
 
 byte-requires : tie.Need-byte-requires Inv-loop μ-loop
 byte-requires c κs = search needs
@@ -22,32 +28,29 @@ byte-requires c κs = search needs
 returns : tie.Need-returns Inv-loop μ-loop
 returns c = tt
 
+at-requires : tie.Need-at-requires Inv-loop μ-loop
+at-requires c κs = search needs
+
+mul-put-2 : tie.Need-mul-put-2 Inv-loop μ-loop
+mul-put-2 c = omega arith
+
+sum-requires : tie.Need-sum-requires Inv-loop μ-loop
+sum-requires c κs = search needs
+
+put-requires-2 : tie.Need-put-requires-2 Inv-loop μ-loop
+put-requires-2 c κs = search needs
+
 sum-requires-2 : tie.Need-sum-requires-2 Inv-loop μ-loop
 sum-requires-2 c κs = search needs
 
+put-requires-3 : tie.Need-put-requires-3 Inv-loop μ-loop
+put-requires-3 c κs = search needs
+
+field-requires-2 : tie.Need-field-requires-2 Inv-loop μ-loop
+field-requires-2 c κs = search needs
+
 sum-requires-3 : tie.Need-sum-requires-3 Inv-loop μ-loop
 sum-requires-3 c κs = search needs
-
-store-requires : tie.Need-store-requires Inv-loop μ-loop
-store-requires c κs = search needs
-
-sum-requires-4 : tie.Need-sum-requires-4 Inv-loop μ-loop
-sum-requires-4 c κs = search needs
-
-sum-requires-5 : tie.Need-sum-requires-5 Inv-loop μ-loop
-sum-requires-5 c κs = search needs
-
-store-requires-2 : tie.Need-store-requires-2 Inv-loop μ-loop
-store-requires-2 c κs = search needs
-
-sum-requires-6 : tie.Need-sum-requires-6 Inv-loop μ-loop
-sum-requires-6 c κs = search needs
-
-field-requires : tie.Need-field-requires Inv-loop μ-loop
-field-requires c κs = search needs
-
-sum-requires-7 : tie.Need-sum-requires-7 Inv-loop μ-loop
-sum-requires-7 c κs = search needs
 
 sub-left : tie.Need-sub-left Inv-loop μ-loop
 sub-left c = omega arith
@@ -67,19 +70,20 @@ survey-spec =
     (tie.spec
     Inv-loop
     μ-loop
+    field-requires
+    mul-put
+    put-requires
     loop-holds
-    sum-requires
     byte-requires
     returns
+    at-requires
+    mul-put-2
+    sum-requires
+    put-requires-2
     sum-requires-2
+    put-requires-3
+    field-requires-2
     sum-requires-3
-    store-requires
-    sum-requires-4
-    sum-requires-5
-    store-requires-2
-    sum-requires-6
-    field-requires
-    sum-requires-7
     sub-left
     loop-less
     loop-again

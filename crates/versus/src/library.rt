@@ -1,0 +1,134 @@
+// The library's side: its functions on models in files and on states as words, laid out as in compare.rt.
+use crate::compare;
+use crate::issue::Reply;
+use crate::number;
+use crate::number::at;
+use crate::number::put;
+use clock::ThreadNo;
+use early::Answer;
+use early::Site;
+use model::Model;
+use model::Threads;
+
+pub fn model_in(file: &[u8]) -> Model {
+    let x = parser::read_file(file);
+    x.model
+}
+
+fn hold_values(held: &mut [u64; 640], values: &[u32; 64]) {
+    let mut i: usize = 0;
+    while i < 64 {
+        put(held, compare::VARIABLES, i as u64, number::word(values[i]));
+        i += 1;
+    }
+}
+
+fn values_in(held: &[u64; 640]) -> [u32; 64] {
+    let mut values = [0u32; 64];
+    let mut i: usize = 0;
+    while i < 64 {
+        values[i] = (at(held, compare::VARIABLES, i as u64) % 4294967296) as u32;
+        i += 1;
+    }
+    values
+}
+
+// The log's words.
+fn log_in(held: &[u64]) -> &[u64] {
+    if compare::LOG <= held.len() {
+        return &held[compare::LOG..];
+    }
+    held
+}
+
+fn site_in(held: &[u64; 640]) -> Site {
+    let values = values_in(held);
+    numbers::site_from(&values, log_in(held))
+}
+
+fn hold_site(held: &mut [u64], site: Site, values: &mut [u32; 64]) {
+    if compare::LOG <= held.len() {
+        numbers::site_into(site, values, &mut held[compare::LOG..]);
+    }
+}
+
+fn hold_state(held: &mut [u64; 640], site: Site, threads: Threads) {
+    let mut values = [0u32; 64];
+    hold_site(held, site, &mut values);
+    numbers::threads_into(threads, held);
+    hold_values(held, &values);
+}
+
+// The plain run of a model, of at most so many segments.
+pub fn run(m: Model, budget: u64, held: &mut [u64; 640]) {
+    let r = runner::plain_run(m, budget);
+    let variables = r.variables;
+    let values = variables.at;
+    let threads = r.threads;
+    hold_values(held, &values);
+    numbers::threads_into(threads, held);
+    held[compare::ANSWER] = number::wide(r.number);
+    held[compare::RAN] = r.n;
+    held[compare::SPENT] = if r.spent { 1 } else { 0 };
+}
+
+fn reply(number: u8, segment: u8, time: u64, delta: u32) -> Reply {
+    Reply {
+        number: number::wide(number),
+        segment: number::wide(segment),
+        time,
+        delta: number::word(delta),
+        overruns: 0,
+    }
+}
+
+fn reply_of(a: Answer) -> Reply {
+    match a {
+        Answer::Granted(s, c) => reply(0, s, c.time.0, c.delta.0),
+        Answer::Refused(n) => reply(n, 0, 0, 0),
+    }
+}
+
+// A request of thread k. The model is read again: whoever hands it on is dear to prove.
+pub fn ask(file: &[u8], words: &[u64; 4096], held: &mut [u64; 640], k: u64) -> Reply {
+    let m = model_in(file);
+    let marks = conflicts::conflict_marks(m);
+    let site = site_in(held);
+    let threads = numbers::threads_from(held);
+    let after = scheduler::request(m, marks, words, site, threads, ThreadNo((k % 256) as u8));
+    let answer = after.answer;
+    let left = after.site;
+    let records = after.threads;
+    hold_state(held, left, records);
+    reply_of(answer)
+}
+
+// A list of requests in one call.
+pub fn ask_all(
+    file: &[u8],
+    words: &[u64; 4096],
+    held: &mut [u64; 640],
+    ks: &[u8],
+    answers: &mut [u64; 16384],
+) {
+    let m = model_in(file);
+    let marks = conflicts::conflict_marks(m);
+    let site = site_in(held);
+    let threads = numbers::threads_from(held);
+    let o = scheduler::requests(m, marks, words, site, threads, ks, answers);
+    let left = o.site;
+    let records = o.threads;
+    hold_state(held, left, records);
+}
+
+// The fresh state.
+pub fn fresh(file: &[u8], held: &mut [u64; 640]) {
+    let f = scheduler::fresh(model_in(file));
+    let site = f.site;
+    let threads = f.threads;
+    hold_state(held, site, threads);
+}
+
+pub fn fill_words(file: &[u8], words: &mut [u64; 4096]) {
+    distances::distances(model_in(file), words);
+}
