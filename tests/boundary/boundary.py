@@ -23,6 +23,8 @@ def library():
     subprocess.run(["cc", "-shared", "-o", out, "-Wl,--whole-archive", archive, "-Wl,--no-whole-archive"], check=True)
     lib = ctypes.CDLL(out)
     lib.teaselauger_sheet.restype = ctypes.c_size_t
+    for name in ["read", "load", "fresh", "request", "replay"]:
+        getattr(lib, "teaselauger_" + name).restype = ctypes.c_uint8
     return lib
 
 
