@@ -1,17 +1,17 @@
 // The kit for programs in C and Rust: numbers, and slices of numbers as a pointer and a count.
 ghost use mathlib.Core.Path.{_≡_};
 ghost use Rattle.reader.specs.File.{readFile};
-ghost use Rattle.loader.specs.Load.{loadOf, loadBuffer};
+ghost use Rattle.reader_load.specs.Load.{loadOf, loadBuffer};
 ghost use Rattle.sheet.specs.Sheet.{sheetIn, bytesIn};
-ghost use Rattle.report.specs.Report.{printed};
-ghost use Rattle.steps.specs.Step.{keeps, Freshens, Requests, Replays};
+ghost use Rattle.sheet_file.specs.Report.{printed};
+ghost use Rattle.export_state.specs.Step.{keeps, Freshens, Requests, Replays};
 
 // The reader's number of a model file, 0 where it is accepted.
 #[no_mangle]
 pub extern "C" fn teaselauger_read(file: &[u8]) -> u8
     ensures { λ r. ⌜ r ≡ readFile (now (file .entry)) .number ⌝ }
 {
-    parser::file_number(file)
+    reader_file::file_number(file)
 }
 
 // A model file's distance table in a buffer of words, N × N of them: the number, 0 where it is accepted.
@@ -20,7 +20,7 @@ pub extern "C" fn teaselauger_load(file: &[u8], words: &mut [u64]) -> u8
     ensures { λ r. ⌜ r ≡ loadOf (now (file .entry)) (now (words .entry)) .number ⌝ }
     ensures { λ _. ⌜ now (words .exit) ≡ loadBuffer (now (file .entry)) (now (words .entry)) ⌝ }
 {
-    let loaded = loader::load(file, words);
+    let loaded = reader_load::load(file, words);
     loaded.number
 }
 
@@ -30,7 +30,7 @@ pub extern "C" fn teaselauger_sheet(file: &[u8], budget: u64, out: &mut [u8]) ->
     ensures { λ r. ⌜ r ≡ bytesIn (printed budget (now (file .entry))) (now (out .entry)) ⌝ }
     ensures { λ _. ⌜ now (out .exit) ≡ sheetIn (printed budget (now (file .entry))) (now (out .entry)) ⌝ }
 {
-    report::plain_sheet(file, budget, out)
+    sheet_file::plain_sheet(file, budget, out)
 }
 
 // A file's fresh state in the caller's buffers: the number, 0 where it is there. 11 where a buffer is too short.
@@ -43,7 +43,7 @@ pub extern "C" fn teaselauger_fresh(
 ) -> u8
     ensures { λ r. ⌜ Freshens (now (file .entry)) (keeps (now (variables .entry)) (now (log .entry)) (now (records .entry))) r (keeps (now (variables .exit)) (now (log .exit)) (now (records .exit))) ⌝ }
 {
-    steps::fresh_into(file, variables, log, records)
+    export_state::fresh_into(file, variables, log, records)
 }
 
 // One request of a thread on the state that the caller keeps, with the file's words: the number, 0 where it is granted, and then segment, time and delta in the answer.
@@ -60,7 +60,7 @@ pub extern "C" fn teaselauger_request(
 ) -> u8
     ensures { λ r. ⌜ Requests (now (file .entry)) (now (words .entry)) (keeps (now (variables .entry)) (now (log .entry)) (now (records .entry))) thread (now (answer .entry)) r (keeps (now (variables .exit)) (now (log .exit)) (now (records .exit))) (now (answer .exit)) ⌝ }
 {
-    steps::request_into(file, words, variables, log, records, thread, answer)
+    export_state::request_into(file, words, variables, log, records, thread, answer)
 }
 
 // A list of requests from the file's fresh state on, its answers in four words each and its tables in the words, and the state that it leaves in the caller's buffers.
@@ -77,5 +77,5 @@ pub extern "C" fn teaselauger_replay(
 ) -> u8
     ensures { λ r. ⌜ Replays (now (file .entry)) (now (words .entry)) (now (threads .entry)) (now (answers .entry)) (keeps (now (variables .entry)) (now (log .entry)) (now (records .entry))) r (keeps (now (variables .exit)) (now (log .exit)) (now (records .exit))) (now (words .exit)) (now (answers .exit)) ⌝ }
 {
-    steps::replay_into(file, words, threads, answers, variables, log, records)
+    export_state::replay_into(file, words, threads, answers, variables, log, records)
 }

@@ -21,8 +21,8 @@ use Rattle.model.specs.Footprint.{has}
 use Rattle.early.specs.declared.Notification.{Notification}
 use Rattle.early.specs.Log.{places, withPairs, dropBefore}
 use Rattle.early.specs.Request.{earlyPlaces}
-use Rattle.bounds.proofs.OnceLaws.{Once, dropBefore-length}
-use Rattle.bounds.proofs.RoomLaws.{later, later-≤, later-mono, later-withPairs, later-dropBefore, withPairs-room}
+use Rattle.early_laws.proofs.OnceLaws.{Once, dropBefore-length}
+use Rattle.early_laws.proofs.RoomLaws.{later, later-≤, later-mono, later-withPairs, later-dropBefore, withPairs-room}
 
 -- at most 96 pairs are later than a bound
 abbrev pub Roomy : Bound → List Notification → Type 0

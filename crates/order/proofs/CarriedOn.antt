@@ -14,10 +14,10 @@ use Rattle.model.specs.declared.Thread.{Thread}
 use Rattle.plain.specs.Step.{placeAt}
 use Rattle.plain.specs.Wake.{someReady}
 use Rattle.plain.specs.History.{Item, historyAt, itemsAt}
-use Rattle.cycles.proofs.HappenLaws.{historyAt-more}
+use Rattle.plain_laws.proofs.HappenLaws.{historyAt-more}
 use Rattle.early.specs.declared.Site.{Site}
 use Rattle.early.specs.Request.{Requested, grantedTo, requestOf, requestsOf}
-use Rattle.bounds.proofs.GrantLaws.{itemsAfter-self}
+use Rattle.early_laws.proofs.GrantLaws.{itemsAfter-self}
 use Rattle.order.proofs.PlainFacts.{PlainFacts}
 use Rattle.order.proofs.KitLaws.{KitLaws}
 use Rattle.order.proofs.Reached.{Reached}

@@ -21,7 +21,7 @@ use Rattle.model.specs.declared.State.{State}
 use Rattle.model.specs.declared.State.the-variants.{Ended, Overrun, Ready, Waiting}
 use Rattle.model.specs.declared.Thread.{Thread}
 use Rattle.model.specs.Record.{threadAt, isLive, Awaited, nothing, awaits, awaitedBy}
-use Rattle.paths.proofs.PathLaws.{At-not-Never}
+use Rattle.tables_laws.proofs.PathLaws.{At-not-Never}
 use Rattle.plain.specs.Wake.{floorOf}
 use Rattle.plain.specs.History.{Item}
 use Rattle.tables.specs.Word.{distanceIn}
@@ -29,10 +29,10 @@ use Rattle.early.specs.declared.Notification.{Notification}
 use Rattle.early.specs.Log.{pairOf, leastHeard, dropBefore}
 use Rattle.early.specs.Forecast.{forecastOf}
 use Rattle.early.specs.Deliver.{heardNow}
-use Rattle.bounds.proofs.LogLaws.{leastHeard-≼, dropBefore-kept, dropBefore-only}
-use Rattle.bounds.proofs.OnceLaws.{dropBefore-once}
-use Rattle.bounds.proofs.LookLaws.{heardNow-none}
-use Rattle.bounds.proofs.RestLaws.{Rest}
+use Rattle.early_laws.proofs.LogLaws.{leastHeard-≼, dropBefore-kept, dropBefore-only}
+use Rattle.early_laws.proofs.OnceLaws.{dropBefore-once}
+use Rattle.early_laws.proofs.LookLaws.{heardNow-none}
+use Rattle.early_laws.proofs.RestLaws.{Rest}
 use Rattle.order.proofs.Places.{nowAt}
 use Rattle.order.proofs.KitLaws.{KitLaws}
 use Rattle.order.proofs.Invariant.{Gone, IsCut}

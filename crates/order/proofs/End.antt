@@ -28,9 +28,9 @@ use Rattle.plain.specs.Step.{placeAt}
 use Rattle.plain.specs.Wake.{floorOf, someReady}
 use Rattle.plain.specs.History.{Item, historyAt, itemsAt}
 use Rattle.tables.specs.Word.{distanceIn}
-use Rattle.cycles.proofs.RecordLaws.{horizon-mono}
-use Rattle.cycles.proofs.HappenLaws.{historyAt-more}
-use Rattle.cycles.proofs.WakeLaws.{floorOf-attained}
+use Rattle.plain_laws.proofs.RecordLaws.{horizon-mono}
+use Rattle.plain_laws.proofs.HappenLaws.{historyAt-more}
+use Rattle.plain_laws.proofs.WakeLaws.{floorOf-attained}
 use Rattle.early.specs.declared.Notification.{Notification}
 use Rattle.early.specs.Log.{pairOf}
 use Rattle.order.proofs.Places.{nowAt, recordAt, Runs, Says, Hears, Happens, idle, runs, hears}

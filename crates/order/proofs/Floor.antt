@@ -15,7 +15,7 @@ use Rattle.model.specs.declared.State.the-variants.{Ended, Overrun, Ready, Wait
 use Rattle.model.specs.declared.Thread.{Thread}
 use Rattle.model.specs.Record.{threadAt, readyCycle}
 use Rattle.plain.specs.Wake.{floorOf}
-use Rattle.cycles.proofs.WakeLaws.{floorOf-≼}
+use Rattle.plain_laws.proofs.WakeLaws.{floorOf-≼}
 
 -- a finite bound below a cycle
 pub finite-below : (b : Bound) (c : Cycle) → b ≼ At c → (d : Cycle) × (b ≡ At d) × (d ⊑ c)

@@ -28,7 +28,7 @@ use Rattle.plain.specs.History.{Item}
 use Rattle.tables.specs.Word.{distanceIn}
 use Rattle.early.specs.declared.Notification.{Notification}
 use Rattle.early.specs.Hazard.{marksConflict, isSooner, hazard}
-use Rattle.bounds.proofs.HazardLaws.{→isSooner}
+use Rattle.early_laws.proofs.HazardLaws.{→isSooner}
 use Rattle.order.proofs.Places.{nowAt, recordAt, effectThere, Runs}
 use Rattle.order.proofs.PlainFacts.{PlainFacts, NextRun}
 use Rattle.order.proofs.KitLaws.{KitLaws}

@@ -23,12 +23,12 @@ use Rattle.model.specs.Record.{threadAt}
 use Rattle.model.specs.Effect.{Effect, effectOf}
 use Rattle.model.specs.Footprint.{has}
 use Rattle.plain.specs.History.{Item, ran, historyAt}
-use Rattle.cycles.proofs.RecordLaws.{threadAt-set, threadAt-other}
+use Rattle.plain_laws.proofs.RecordLaws.{threadAt-set, threadAt-other}
 use Rattle.early.specs.declared.Notification.{Notification}
 use Rattle.early.specs.Log.{pairOf, withPairs}
 use Rattle.early.specs.Hazard.{hazard}
-use Rattle.bounds.proofs.LogLaws.{withPairs-kept, withPairs-new, withPairs-only}
-use Rattle.bounds.proofs.OnceLaws.{withPairs-once}
+use Rattle.early_laws.proofs.LogLaws.{withPairs-kept, withPairs-new, withPairs-only}
+use Rattle.early_laws.proofs.OnceLaws.{withPairs-once}
 use Rattle.order.proofs.Places.{nowAt, recordAt, effectThere, Says}
 use Rattle.order.proofs.PlainFacts.{PlainFacts, NextRun}
 use Rattle.order.proofs.KitLaws.{KitLaws}

@@ -24,14 +24,14 @@ use Rattle.model.specs.Record.{threadAt, awaits, stateAfter}
 use Rattle.plain.specs.Step.{placeAt}
 use Rattle.plain.specs.History.{Item, heard, historyAt}
 use Rattle.tables.specs.Word.{distanceIn}
-use Rattle.cycles.proofs.RecordLaws.{Ready-not-Waiting}
-use Rattle.cycles.proofs.HappenLaws.{historyAt-more}
+use Rattle.plain_laws.proofs.RecordLaws.{Ready-not-Waiting}
+use Rattle.plain_laws.proofs.HappenLaws.{historyAt-more}
 use Rattle.early.specs.declared.Notification.{Notification}
 use Rattle.early.specs.Log.{pairOf, leastHeard}
 use Rattle.early.specs.Forecast.{forecastOf}
 use Rattle.early.specs.Deliver.{heardNow}
-use Rattle.bounds.proofs.LogLaws.{leastHeard-≼, leastHeard-at}
-use Rattle.bounds.proofs.LookLaws.{heardNow-at}
+use Rattle.early_laws.proofs.LogLaws.{leastHeard-≼, leastHeard-at}
+use Rattle.early_laws.proofs.LookLaws.{heardNow-at}
 use Rattle.order.proofs.Places.{nowAt, recordAt, Runs, Says, Hears, Happens, idle, runs, hears}
 use Rattle.order.proofs.PlainFacts.{PlainFacts, NextHearing}
 use Rattle.order.proofs.KitLaws.{KitLaws}

@@ -22,12 +22,12 @@ use Rattle.model.specs.declared.State.the-variants.{Ready, Waiting}
 use Rattle.model.specs.declared.Thread.{Thread}
 use Rattle.model.specs.Record.{threadAt, awaits, stateAfter}
 use Rattle.plain.specs.History.{Item, heard, historyAt}
-use Rattle.cycles.proofs.RecordLaws.{threadAt-set, threadAt-other, stateAfter-Ready, stateAfter-not-Waiting}
+use Rattle.plain_laws.proofs.RecordLaws.{threadAt-set, threadAt-other, stateAfter-Ready, stateAfter-not-Waiting}
 use Rattle.early.specs.declared.Notification.{Notification}
 use Rattle.early.specs.Log.{pairOf}
 use Rattle.early.specs.Deliver.{heardNow, lookedAt, lookItems}
-use Rattle.bounds.proofs.LogLaws.{leastHeard-at}
-use Rattle.bounds.proofs.LookLaws.{Looked, unheard, hears, looked, heardNow-at, heardAt-waits, lookedAt-none, lookedAt-heard, lookItems-none, lookItems-other, lookItems-heard}
+use Rattle.early_laws.proofs.LogLaws.{leastHeard-at}
+use Rattle.early_laws.proofs.LookLaws.{Looked, unheard, hears, looked, heardNow-at, heardAt-waits, lookedAt-none, lookedAt-heard, lookItems-none, lookItems-other, lookItems-heard}
 use Rattle.order.proofs.Places.{nowAt, recordAt, Says}
 use Rattle.order.proofs.PlainFacts.{PlainFacts}
 use Rattle.order.proofs.KitLaws.{KitLaws}

@@ -24,7 +24,7 @@ use Rattle.plain.specs.History.{Item, historyAt}
 use Rattle.tables.specs.Word.{distanceIn}
 use Rattle.early.specs.declared.Notification.{Notification}
 use Rattle.early.specs.Log.{pairOf}
-use Rattle.bounds.proofs.OnceLaws.{Once}
+use Rattle.early_laws.proofs.OnceLaws.{Once}
 use Rattle.order.proofs.Places.{nowAt, recordAt, Runs, Says}
 
 -- place q runs thread k, and k has passed it

@@ -30,24 +30,24 @@ use Rattle.model.specs.Values.{segmentAt}
 use Rattle.model.specs.Effect.{nextOf, closedAt, effectOf}
 use Rattle.model.specs.Footprint.{has, writesIn, usesIn, notifiesIn}
 use Rattle.model.specs.Rules.{modelFault}
-use Rattle.machine.proofs.FrameLaws.{Agree, writesIn→usesIn, effectOf-frame, effectOf-length, notified-listed, effectOf-local}
-use Rattle.rules.proofs.RuleLaws.{modelFault-horizon, modelFault-counts}
+use Rattle.model_effect.proofs.FrameLaws.{Agree, writesIn→usesIn, effectOf-frame, effectOf-length, notified-listed, effectOf-local}
+use Rattle.model_rules.proofs.RuleLaws.{modelFault-horizon, modelFault-counts}
 use Rattle.tables.specs.Conflict.{marksOf}
 use Rattle.tables.specs.Distance.{stepOf, goesTo, edge, distanceOf}
 use Rattle.tables.specs.Word.{wordsOf, distanceIn}
-use Rattle.paths.proofs.ConflictLaws.{shared→marked}
-use Rattle.paths.proofs.DistanceLaws.{distanceOf-self, distanceOf-after, goesTo-next}
-use Rattle.paths.proofs.WordLaws.{wordsOf-length, distanceIn-wordsOf, wordsOf-fit}
-use Rattle.cycles.proofs.RecordLaws.{stateAfter-Ready, stateAfter-not-Waiting, effectOf-thread, effectOf-waits, horizon→<}
-use Rattle.cycles.proofs.RangeLaws as range
-use Rattle.cycles.proofs.KeepLaws.{effectOf-notifies, modelFault-keeps}
+use Rattle.tables_laws.proofs.ConflictLaws.{shared→marked}
+use Rattle.tables_laws.proofs.DistanceLaws.{distanceOf-self, distanceOf-after, goesTo-next}
+use Rattle.tables_laws.proofs.WordLaws.{wordsOf-length, distanceIn-wordsOf, wordsOf-fit}
+use Rattle.plain_laws.proofs.RecordLaws.{stateAfter-Ready, stateAfter-not-Waiting, effectOf-thread, effectOf-waits, horizon→<}
+use Rattle.plain_laws.proofs.RangeLaws as range
+use Rattle.plain_laws.proofs.KeepLaws.{effectOf-notifies, modelFault-keeps}
 use Rattle.early.specs.declared.Notification.{Notification}
 use Rattle.early.specs.Hazard.{marksConflict}
 use Rattle.early.specs.Fit.{isFitWord}
-use Rattle.bounds.proofs.EarliestLaws.{earliestAt, earliest-ready, earliest-heard, earliest-linked, earliest-attained}
-use Rattle.bounds.proofs.ForecastLaws as forecast
-use Rattle.bounds.proofs.HazardLaws as danger
-use Rattle.bounds.proofs.FitLaws.{→isFitThread, →isFitCycle, →isUnfitWords}
+use Rattle.early_laws.proofs.EarliestLaws.{earliestAt, earliest-ready, earliest-heard, earliest-linked, earliest-attained}
+use Rattle.early_laws.proofs.ForecastLaws as forecast
+use Rattle.early_laws.proofs.HazardLaws as danger
+use Rattle.early_laws.proofs.FitLaws.{→isFitThread, →isFitCycle, →isUnfitWords}
 use Rattle.order.proofs.Places.{recordAt, nowAt}
 use Rattle.order.proofs.KitLaws.{Footprints, Distances, Ranges, Forecasts, KitLaws}
 use Rattle.order.proofs.PlainInstance.{plain-facts}

@@ -23,8 +23,8 @@ use Rattle.model.specs.declared.Thread.{Thread}
 use Rattle.model.specs.Limits.{isBeforeHorizon}
 use Rattle.model.specs.Record.{threadAt}
 use Rattle.plain.specs.Wake.{floorOf, someReady}
-use Rattle.cycles.proofs.RecordLaws.{horizon-mono}
-use Rattle.cycles.proofs.WakeLaws.{floorOf-attained, someReady-some, someReady-found}
+use Rattle.plain_laws.proofs.RecordLaws.{horizon-mono}
+use Rattle.plain_laws.proofs.WakeLaws.{floorOf-attained, someReady-some, someReady-found}
 use Rattle.order.proofs.Floor.{floor-below, floor-glb, finite-below}
 
 -- where none is ready before the horizon, a ready thread is not before it

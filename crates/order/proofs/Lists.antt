@@ -21,8 +21,8 @@ use Rattle.plain.specs.Start.{freshThreads, freshVariables, startOf}
 use Rattle.plain.specs.Step.{placeAt}
 use Rattle.plain.specs.Wake.{floorOf}
 use Rattle.plain.specs.History.{Item, ran, historyAt}
-use Rattle.cycles.proofs.RecordLaws.{readyCycle-Ready}
-use Rattle.cycles.proofs.StartLaws.{shape}
+use Rattle.plain_laws.proofs.RecordLaws.{readyCycle-Ready}
+use Rattle.plain_laws.proofs.StartLaws.{shape}
 use Rattle.early.specs.declared.Notification.{Notification}
 use Rattle.early.specs.declared.Site.{Site}
 use Rattle.early.specs.Log.{logOf, countedPlaces, dropBefore}
@@ -30,9 +30,9 @@ use Rattle.early.specs.Hazard.{hazard}
 use Rattle.early.specs.Deliver.{settledItems}
 use Rattle.early.specs.Grant.{effectAt, logAfter, closedThreads, threadsAfter, siteAfter, itemsAfter}
 use Rattle.early.specs.Request.{Requested, isFull, grantedTo, requestOf, freshSite, requestsOf}
-use Rattle.bounds.proofs.OnceLaws.{none, dropBefore-length, withPairs-shorter}
-use Rattle.bounds.proofs.GrantLaws.{isFull-none, isFull-early, threadsAfter-rest}
-use Rattle.bounds.proofs.RequestLaws.{Asked, refused, granted, requestOf-asked, requestsOf-carries}
+use Rattle.early_laws.proofs.OnceLaws.{none, dropBefore-length, withPairs-shorter}
+use Rattle.early_laws.proofs.GrantLaws.{isFull-none, isFull-early, threadsAfter-rest}
+use Rattle.early_laws.proofs.RequestLaws.{Asked, refused, granted, requestOf-asked, requestsOf-carries}
 use Rattle.order.proofs.PlainFacts.{PlainFacts, NextRun}
 use Rattle.order.proofs.KitLaws.{KitLaws}
 use Rattle.order.proofs.Invariant.{IsCut, moved, adding}

@@ -29,7 +29,7 @@ use Rattle.model.specs.Record.{threadAt, isLive, stateAfter}
 use Rattle.plain.specs.History.{Item}
 use Rattle.plain.specs.Step.{placeAt}
 use Rattle.tables.specs.Word.{distanceIn}
-use Rattle.cycles.proofs.RecordLaws.{stateAfter-not-Waiting}
+use Rattle.plain_laws.proofs.RecordLaws.{stateAfter-not-Waiting}
 use Rattle.early.specs.declared.Notification.{Notification}
 use Rattle.early.specs.Log.{pairOf}
 use Rattle.order.proofs.Places.{nowAt, recordAt, effectThere, Runs, Says, Hears, Happens, idle, runs, hears}

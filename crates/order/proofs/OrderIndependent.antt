@@ -3,7 +3,7 @@
 -- Assumes nothing.
 use Rattle.order.specs.Claim.{OrderIndependence}
 use Rattle.reader.specs.File.{readFile}
-use Rattle.files.proofs.Accepted.{accepted-kept}
+use Rattle.reader_laws.proofs.Accepted.{accepted-kept}
 use Rattle.order.proofs.PlainInstance.{plain-facts}
 use Rattle.order.proofs.KitInstance.{kit-laws}
 use Rattle.order.proofs.Theorem.{claims-hold}

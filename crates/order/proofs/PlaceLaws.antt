@@ -28,8 +28,8 @@ use Rattle.model.specs.Limits.{isBeforeHorizon}
 use Rattle.model.specs.Record.{isLive, stateAfter}
 use Rattle.plain.specs.Step.{placeAt}
 use Rattle.plain.specs.History.{Item, ran, itemsAt, historyAt}
-use Rattle.cycles.proofs.RecordLaws.{Ready-not-Waiting, stateAfter-Ready, horizon-mono}
-use Rattle.cycles.proofs.HappenLaws.{historyAt-more}
+use Rattle.plain_laws.proofs.RecordLaws.{Ready-not-Waiting, stateAfter-Ready, horizon-mono}
+use Rattle.plain_laws.proofs.HappenLaws.{historyAt-more}
 use Rattle.order.proofs.Places.{nowAt, recordAt, effectThere, Runs, Happens, idle, runs, hears}
 use Rattle.order.proofs.PlainFacts.{PlainFacts}
 

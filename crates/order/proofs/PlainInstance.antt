@@ -19,17 +19,17 @@ use Rattle.model.specs.Rules.{modelFault}
 use Rattle.plain.specs.Start.{Place}
 use Rattle.plain.specs.Step.{stepped, placeAt}
 use Rattle.plain.specs.Run.{lastStep}
-use Rattle.cycles.proofs.RecordLaws.{has-none}
-use Rattle.cycles.proofs.StepLaws.{Sees, sees, sees-ran, sees-passed, sees-begun, sees-rested, ran-not-closed, closed→turned, turned→closed, ready→ran, placeAt-more, stepped-variables-ran, stepped-variables-other}
-use Rattle.cycles.proofs.HappenLaws as happen
-use Rattle.cycles.proofs.SteadyLaws as steady
-use Rattle.cycles.proofs.NotifyLaws as notify
-use Rattle.cycles.proofs.HearLaws as hear
-use Rattle.cycles.proofs.RangeLaws as range
-use Rattle.cycles.proofs.StampLaws as stamp
-use Rattle.cycles.proofs.EndLaws as end
-use Rattle.cycles.proofs.DoneLaws.{Done, isDone-parts, placeAt-stands, isDone-closed}
-use Rattle.cycles.proofs.KeepLaws.{modelFault-keeps}
+use Rattle.plain_laws.proofs.RecordLaws.{has-none}
+use Rattle.plain_laws.proofs.StepLaws.{Sees, sees, sees-ran, sees-passed, sees-begun, sees-rested, ran-not-closed, closed→turned, turned→closed, ready→ran, placeAt-more, stepped-variables-ran, stepped-variables-other}
+use Rattle.plain_laws.proofs.HappenLaws as happen
+use Rattle.plain_laws.proofs.SteadyLaws as steady
+use Rattle.plain_laws.proofs.NotifyLaws as notify
+use Rattle.plain_laws.proofs.HearLaws as hear
+use Rattle.plain_laws.proofs.RangeLaws as range
+use Rattle.plain_laws.proofs.StampLaws as stamp
+use Rattle.plain_laws.proofs.EndLaws as end
+use Rattle.plain_laws.proofs.DoneLaws.{Done, isDone-parts, placeAt-stands, isDone-closed}
+use Rattle.plain_laws.proofs.KeepLaws.{modelFault-keeps}
 use Rattle.order.proofs.Places.{nowAt, recordAt, Runs, effectThere, Says, Hears, Happens, idle, runs, hears}
 use Rattle.order.proofs.PlainFacts.{NextRun, NextHearing, Ending, PlainFacts}
 

@@ -34,10 +34,10 @@ use Rattle.early.specs.declared.Site.{Site}
 use Rattle.early.specs.Log.{places, siteOf, countedPlaces}
 use Rattle.early.specs.Hazard.{isSooner, hazard}
 use Rattle.early.specs.Request.{isFull, grantedTo, requestOf}
-use Rattle.bounds.proofs.LogLaws.{logOf-siteOf}
-use Rattle.bounds.proofs.HazardLaws.{isSooner→}
-use Rattle.bounds.proofs.GrantLaws.{isFull-floor}
-use Rattle.bounds.proofs.RequestLaws.{requestOf-granted}
+use Rattle.early_laws.proofs.LogLaws.{logOf-siteOf}
+use Rattle.early_laws.proofs.HazardLaws.{isSooner→}
+use Rattle.early_laws.proofs.GrantLaws.{isFull-floor}
+use Rattle.early_laws.proofs.RequestLaws.{requestOf-granted}
 use Rattle.order.proofs.PlainFacts.{PlainFacts}
 use Rattle.order.proofs.KitLaws.{KitLaws}
 use Rattle.order.proofs.Invariant.{IsCut}

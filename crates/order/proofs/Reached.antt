@@ -19,8 +19,8 @@ use Rattle.early.specs.declared.Notification.{Notification}
 use Rattle.early.specs.declared.Site.{Site}
 use Rattle.early.specs.Log.{places, logOf, siteOf}
 use Rattle.early.specs.Fit.{isFitCycle, isFitThread, isUnfit}
-use Rattle.bounds.proofs.LogLaws.{logOf-siteOf, siteOf-variables}
-use Rattle.bounds.proofs.FitLaws.{FitPair, isFitCycle→, →isUnfitThreads, →isUnfit, siteOf-fit}
+use Rattle.early_laws.proofs.LogLaws.{logOf-siteOf, siteOf-variables}
+use Rattle.early_laws.proofs.FitLaws.{FitPair, isFitCycle→, →isUnfitThreads, →isUnfit, siteOf-fit}
 use Rattle.order.proofs.Places.{nowAt, recordAt, Says}
 use Rattle.order.proofs.PlainFacts.{PlainFacts}
 use Rattle.order.proofs.KitLaws.{KitLaws}

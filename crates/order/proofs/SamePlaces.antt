@@ -18,8 +18,8 @@ use Rattle.model.specs.declared.Thread.{Thread}
 use Rattle.model.specs.Footprint.{writesIn}
 use Rattle.plain.specs.Step.{placeAt}
 use Rattle.plain.specs.History.{Item, ran, heard, historyAt, itemsAt}
-use Rattle.cycles.proofs.RecordLaws.{Ready-not-Waiting}
-use Rattle.cycles.proofs.HappenLaws.{historyAt-more}
+use Rattle.plain_laws.proofs.RecordLaws.{Ready-not-Waiting}
+use Rattle.plain_laws.proofs.HappenLaws.{historyAt-more}
 use Rattle.early.specs.declared.Site.{Site}
 use Rattle.order.proofs.Places.{recordAt, Runs, Happens, idle, runs, hears}
 use Rattle.order.proofs.PlainFacts.{PlainFacts}

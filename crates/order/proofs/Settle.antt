@@ -10,7 +10,7 @@ use Rattle.model.specs.declared.Thread.{Thread}
 use Rattle.plain.specs.History.{Item}
 use Rattle.early.specs.declared.Notification.{Notification}
 use Rattle.early.specs.Deliver.{lookedAt, lookItems, settled, settledItems}
-use Rattle.bounds.proofs.SettleLaws.{settled-carries}
+use Rattle.early_laws.proofs.SettleLaws.{settled-carries}
 use Rattle.order.proofs.PlainFacts.{PlainFacts}
 use Rattle.order.proofs.KitLaws.{KitLaws}
 use Rattle.order.proofs.Invariant.{IsCut}

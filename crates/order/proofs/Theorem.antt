@@ -27,9 +27,9 @@ use Rattle.early.specs.Log.{places, logOf}
 use Rattle.early.specs.Fit.{isUnfit}
 use Rattle.early.specs.Answer.{numberOf}
 use Rattle.early.specs.Request.{Requested, grantedTo, requestOf, freshSite, requestsOf}
-use Rattle.bounds.proofs.LogLaws.{siteOf-count}
-use Rattle.bounds.proofs.OnceLaws.{Once}
-use Rattle.bounds.proofs.RequestLaws.{requestOf-refused, requestOf-fit, requestsOf-append}
+use Rattle.early_laws.proofs.LogLaws.{siteOf-count}
+use Rattle.early_laws.proofs.OnceLaws.{Once}
+use Rattle.early_laws.proofs.RequestLaws.{requestOf-refused, requestOf-fit, requestsOf-append}
 use Rattle.order.specs.Claim.{afterList, requestNext, AgreesAt, Claim, OrderIndependence}
 use Rattle.order.proofs.PlainFacts.{PlainFacts}
 use Rattle.order.proofs.KitLaws.{KitLaws}

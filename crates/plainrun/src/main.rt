@@ -4,7 +4,7 @@ use libc::STDOUT_FILENO;
 ghost use mathlib.Core.Path.{_≡_};
 ghost use Rattle.io.specs.Counts.{Counts};
 ghost use Rattle.sheet.specs.Sheet.{sheetIn, bytesIn};
-ghost use Rattle.report.specs.Report.{printed};
+ghost use Rattle.sheet_file.specs.Report.{printed};
 ghost use Rattle.plainrun.specs.Program.{budget};
 
 // What the program prints of a file, at the front of out; how many bytes. Only reading and writing are outside of this.
@@ -12,7 +12,7 @@ fn answer(file: &[u8], out: &mut [u8]) -> usize
     ensures { λ r. ⌜ (r ≡ bytesIn (printed budget (now (file .entry))) (now (out .entry))) × (now (out .exit) ≡ sheetIn (printed budget (now (file .entry))) (now (out .entry))) ⌝ }
     ensures { λ r. ⌜ Counts r (now (out .exit)) ⌝ }
 {
-    report::plain_sheet(file, 1000000, out)
+    sheet_file::plain_sheet(file, 1000000, out)
 }
 
 // One read of all, one write of all.

@@ -5,9 +5,9 @@ use mathlib.Core.List.{List, [], _∷_}
 use Rattle.base.specs.Index.{orElse}
 use Rattle.reader.proofs.Computed as reader
 use Rattle.tables.specs.Outcome as tables
-use Rattle.loader.specs.Load.{loadNumber, loadOf, loadBuffer}
+use Rattle.reader_load.specs.Load.{loadNumber, loadOf, loadBuffer}
 use Rattle.early.proofs.Computed as early
-use Rattle.scheduler.specs.Answers.{answersWords, grantedIn, isShort}
+use Rattle.early_request.specs.Answers.{answersWords, grantedIn, isShort}
 use Rattle.order.specs.Claim.{afterList}
 use Rattle.replay.specs.Replay.{doneOn, replayedOf, wordsAfter, answersAfter}
 

@@ -18,19 +18,19 @@ use Rattle.model.specs.Record.{noThread}
 use Rattle.model.specs.Rules.{modelFault, headFault}
 use Rattle.reader.specs.declared.Read.{Read}
 use Rattle.reader.specs.File.{readOr, readFile}
-use Rattle.files.proofs.Accepted.{accepted-kept, readOr-accepted}
+use Rattle.reader_laws.proofs.Accepted.{accepted-kept, readOr-accepted}
 use Rattle.tables.specs.Conflict.{marksOf}
 use Rattle.tables.specs.Word.{wordsOf, stored}
 use Rattle.tables.specs.Outcome.{conflictMarks}
 use Rattle.tables.proofs.OutcomeLaws.{conflict-held}
-use Rattle.paths.proofs.WordLaws.{wordsOf-length}
-use Rattle.loader.specs.Load.{loadNumber, loadOf, loadBuffer}
+use Rattle.tables_laws.proofs.WordLaws.{wordsOf-length}
+use Rattle.reader_load.specs.Load.{loadNumber, loadOf, loadBuffer}
 use Rattle.plain.specs.Start.{freshThreads}
 use Rattle.early.specs.Request.{freshSite}
-use Rattle.scheduler.specs.declared.FreshState.{FreshState}
-use Rattle.scheduler.specs.declared.Outcome.{Outcome}
-use Rattle.scheduler.specs.Answers.{answersWords, isShort, leftBy, outcomeOf, answersIn}
-use Rattle.scheduler.specs.Fresh.{freshOf}
+use Rattle.early_request.specs.declared.FreshState.{FreshState}
+use Rattle.early_request.specs.declared.Outcome.{Outcome}
+use Rattle.early_request.specs.Answers.{answersWords, isShort, leftBy, outcomeOf, answersIn}
+use Rattle.early_request.specs.Fresh.{freshOf}
 use Rattle.order.specs.Claim.{afterList}
 use Rattle.order.proofs.OrderIndependent.{order-independence}
 use Rattle.replay.specs.declared.Replayed.{Replayed}

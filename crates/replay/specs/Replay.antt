@@ -9,9 +9,9 @@ use lib.ListN.{length, drop, replicate}
 use Rattle.model.specs.declared.Model.{Model}
 use Rattle.model.specs.Refusal.{accepted, unfit}
 use Rattle.model.specs.Record.{noThread}
-use Rattle.loader.specs.Load.{loadOf, loadBuffer}
+use Rattle.reader_load.specs.Load.{loadOf, loadBuffer}
 use Rattle.early.specs.Request.{freshSite}
-use Rattle.scheduler.specs.Answers.{answersWords, grantedIn, isShort}
+use Rattle.early_request.specs.Answers.{answersWords, grantedIn, isShort}
 use Rattle.order.specs.Claim.{afterList, Claim}
 use Rattle.replay.specs.declared.Replayed.{Replayed}
 

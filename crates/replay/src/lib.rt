@@ -27,9 +27,9 @@ fn wide(x: u8) -> usize
 fn refused(number: u8) -> Replayed
     ensures { λ r. ⌜ r ≡ refusedWith number ⌝ }
 {
-    let read = parser::refused(number);
+    let read = reader_file::refused(number);
     let m = read.model;
-    let fresh = scheduler::fresh(m);
+    let fresh = early_request::fresh(m);
     let site = fresh.site;
     let threads = fresh.threads;
     Replayed {
@@ -53,18 +53,18 @@ pub fn replay(file: &[u8], words: &mut [u64], ks: &[u8], answers: &mut [u64]) ->
     if answers.len() / 4 < ks.len() {
         return refused(11);
     }
-    let read = loader::load(file, words);
+    let read = reader_load::load(file, words);
     if read.number != 0 {
         return refused(read.number);
     }
     let m = read.model;
-    let fresh = scheduler::fresh(m);
+    let fresh = early_request::fresh(m);
     let site = fresh.site;
     let threads = fresh.threads;
-    let marks = conflicts::conflict_marks(m);
+    let marks = tables_conflict::conflict_marks(m);
     let n = wide(m.n);
     let size = n * n;
-    let left = scheduler::requests(m, marks, &words[..size], site, threads, ks, answers);
+    let left = early_request::requests(m, marks, &words[..size], site, threads, ks, answers);
     let site = left.site;
     let threads = left.threads;
     Replayed {

@@ -5,14 +5,14 @@ use libc::STDOUT_FILENO;
 ghost use mathlib.Core.Path.{_≡_};
 ghost use Rattle.io.specs.Counts.{Counts};
 ghost use Rattle.sheet.specs.Sheet.{sheetIn, bytesIn};
-ghost use Rattle.playback.specs.Playback.{replayText};
+ghost use Rattle.transcript_print.specs.Playback.{replayText};
 
 // What the program prints of a file and labels, at the front of out; how many bytes. Only reading and writing are outside of this.
 fn answer(file: &[u8], labels: &[u64], out: &mut [u8]) -> usize
     ensures { λ r. ⌜ (r ≡ bytesIn (replayText (now (file .entry)) (now (labels .entry))) (now (out .entry))) × (now (out .exit) ≡ sheetIn (replayText (now (file .entry)) (now (labels .entry))) (now (out .entry))) ⌝ }
     ensures { λ r. ⌜ Counts r (now (out .exit)) ⌝ }
 {
-    playback::replay_text(file, labels, out)
+    transcript_print::replay_text(file, labels, out)
 }
 
 // The labels of the arguments, as far as there is room; how many.
@@ -27,7 +27,7 @@ fn read_labels(labels: &mut [u64]) -> usize
             return n;
         }
         let k = os::arg(n + 1, &mut text);
-        labels[n] = scribe::label_of(&text[..k]);
+        labels[n] = transcript_print::label_of(&text[..k]);
         n += 1;
     }
     n

@@ -1,1 +1,1 @@
-// Document 01, "Cases": the sheet. Definitions only; crate `printer` has the code.
+// Document 01, "Cases": the sheet. Definitions only; crate `sheet_print` has the code.

@@ -12,7 +12,7 @@ fn write_number(n: u64) {
 }
 
 fn write_read(bytes: &[u8]) {
-    let x = parser::read_file(bytes);
+    let x = reader_file::read_file(bytes);
     io::print_decimal(STDOUT_FILENO, units(x.number));
     if x.number == 0 {
         let m = x.model;

@@ -8,7 +8,7 @@ ghost use Rattle.io.specs.Counts.{Counts};
 fn answer(file: &[u8], labels: &[u64], out: &mut [u8]) -> usize
     ensures { λ r. ⌜ Counts r (now (out .exit)) ⌝ }
 {
-    playback::replay_text(file, labels, out)
+    transcript_print::replay_text(file, labels, out)
 }
 
 // The labels of the next arguments, as far as there is room; how many.
@@ -23,7 +23,7 @@ fn read_labels(fd: i32, labels: &mut [u64]) -> usize
             return n;
         }
         let k = parts::next_part(fd, &mut text);
-        labels[n] = scribe::label_of(&text[..k]);
+        labels[n] = transcript_print::label_of(&text[..k]);
         n += 1;
     }
     n

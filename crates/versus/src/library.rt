@@ -11,7 +11,7 @@ use model::Model;
 use model::Threads;
 
 pub fn model_in(file: &[u8]) -> Model {
-    let x = parser::read_file(file);
+    let x = reader_file::read_file(file);
     x.model
 }
 
@@ -43,30 +43,30 @@ fn log_in(held: &[u64]) -> &[u64] {
 
 fn site_in(held: &[u64; 640]) -> Site {
     let values = values_in(held);
-    numbers::site_from(&values, log_in(held))
+    export_state::site_from(&values, log_in(held))
 }
 
 fn hold_site(held: &mut [u64], site: Site, values: &mut [u32; 64]) {
     if compare::LOG <= held.len() {
-        numbers::site_into(site, values, &mut held[compare::LOG..]);
+        export_state::site_into(site, values, &mut held[compare::LOG..]);
     }
 }
 
 fn hold_state(held: &mut [u64; 640], site: Site, threads: Threads) {
     let mut values = [0u32; 64];
     hold_site(held, site, &mut values);
-    numbers::threads_into(threads, held);
+    export_state::threads_into(threads, held);
     hold_values(held, &values);
 }
 
 // The plain run of a model, of at most so many segments.
 pub fn run(m: Model, budget: u64, held: &mut [u64; 640]) {
-    let r = runner::plain_run(m, budget);
+    let r = plain_core::plain_run(m, budget);
     let variables = r.variables;
     let values = variables.at;
     let threads = r.threads;
     hold_values(held, &values);
-    numbers::threads_into(threads, held);
+    export_state::threads_into(threads, held);
     held[compare::ANSWER] = number::wide(r.number);
     held[compare::RAN] = r.n;
     held[compare::SPENT] = if r.spent { 1 } else { 0 };
@@ -92,10 +92,10 @@ fn reply_of(a: Answer) -> Reply {
 // A request of thread k. The model is read again: whoever hands it on is dear to prove.
 pub fn ask(file: &[u8], words: &[u64; 4096], held: &mut [u64; 640], k: u64) -> Reply {
     let m = model_in(file);
-    let marks = conflicts::conflict_marks(m);
+    let marks = tables_conflict::conflict_marks(m);
     let site = site_in(held);
-    let threads = numbers::threads_from(held);
-    let after = scheduler::request(m, marks, words, site, threads, ThreadNo((k % 256) as u8));
+    let threads = export_state::threads_from(held);
+    let after = early_request::request(m, marks, words, site, threads, ThreadNo((k % 256) as u8));
     let answer = after.answer;
     let left = after.site;
     let records = after.threads;
@@ -112,10 +112,10 @@ pub fn ask_all(
     answers: &mut [u64; 16384],
 ) {
     let m = model_in(file);
-    let marks = conflicts::conflict_marks(m);
+    let marks = tables_conflict::conflict_marks(m);
     let site = site_in(held);
-    let threads = numbers::threads_from(held);
-    let o = scheduler::requests(m, marks, words, site, threads, ks, answers);
+    let threads = export_state::threads_from(held);
+    let o = early_request::requests(m, marks, words, site, threads, ks, answers);
     let left = o.site;
     let records = o.threads;
     hold_state(held, left, records);
@@ -123,12 +123,12 @@ pub fn ask_all(
 
 // The fresh state.
 pub fn fresh(file: &[u8], held: &mut [u64; 640]) {
-    let f = scheduler::fresh(model_in(file));
+    let f = early_request::fresh(model_in(file));
     let site = f.site;
     let threads = f.threads;
     hold_state(held, site, threads);
 }
 
 pub fn fill_words(file: &[u8], words: &mut [u64; 4096]) {
-    distances::distances(model_in(file), words);
+    tables_distance::distances(model_in(file), words);
 }

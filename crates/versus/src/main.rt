@@ -206,7 +206,7 @@ fn next_part(buffer: &mut [u8]) -> usize {
 fn write_sheet(file: &[u8]) {
     let m = library::model_in(file);
     let mut out = [0u8; 8192];
-    let size = printer::sheet(m.v, m.t, runner::plain_run(m, 1000000), &mut out);
+    let size = sheet_print::sheet(m.v, m.t, plain_core::plain_run(m, 1000000), &mut out);
     print::text(number::first(&out, size));
 }
 

@@ -1,6 +1,6 @@
 -- `plainrun::answer` meets its contract.
 use borrow.Author.Needs.{needs}
-use Rattle.printer.proofs.CopyLaws.{counts-text}
+use Rattle.sheet_print.proofs.CopyLaws.{counts-text}
 use Rattle.plainrun.proofs.answer.Statement.{statement}
 use Rattle.plainrun.proofs.answer.Tie as tie
 

@@ -1,6 +1,6 @@
 -- `replayrun::answer` meets its contract.
 use borrow.Author.Needs.{needs}
-use Rattle.printer.proofs.CopyLaws.{counts-text}
+use Rattle.sheet_print.proofs.CopyLaws.{counts-text}
 use Rattle.replayrun.proofs.answer.Statement.{statement}
 use Rattle.replayrun.proofs.answer.Tie as tie
 

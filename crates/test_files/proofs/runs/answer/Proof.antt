@@ -1,6 +1,6 @@
 -- `test_files::runs::answer` meets its contract.
 use borrow.Author.Needs.{needs}
-use Rattle.printer.proofs.CopyLaws.{counts-text}
+use Rattle.sheet_print.proofs.CopyLaws.{counts-text}
 use Rattle.test_files.proofs.runs.answer.Statement.{statement}
 use Rattle.test_files.proofs.runs.answer.Tie as tie
 

@@ -1,0 +1,86 @@
+-- `early_ahead::any_threatens` meets its contract: a search over the threads.
+use Prim.Native.Nat.{_≤_, _-_}
+use mathlib.Core.Path.{_≡_, sym, _∙_}
+use mathlib.Core.Logic.{⊎-elim}
+use mathlib.Core.Bool.{false}
+use native.Mathlib.Omega.{arith}
+use borrow.Author.Needs.{needs}
+use Rattle.base.specs.Index.{anyBelow}
+use Rattle.model_rules.proofs.SearchLaws.{anyBelow-here}
+use Rattle.early_limits.specs.Limit.{atMost}
+use Rattle.early_ahead.specs.Store.{threatAt}
+use Rattle.early_ahead.proofs.LengthLaws.{limits-length}
+use Rattle.early_ahead.proofs.AheadLaws.{anyBelow-start, anyBelow-more, threatAt-self, threatAt-other}
+use Rattle.early_ahead.proofs.any_threatens.Statement.{statement}
+use Rattle.early_ahead.proofs.any_threatens.Tie as tie
+
+abbrev Inv-loop : tie.InvT-loop
+Inv-loop row words n t i c crew xs k j₀ j = (j ≤ k) × (anyBelow j (threatAt row words n (crew .segments) (xs .at) i c) ≡ false)
+
+abbrev μ-loop : tie.MeasureT-loop
+μ-loop row words n t i c crew xs k j₀ j = k - j
+
+at-most-requires : tie.Need-at-most-requires Inv-loop μ-loop
+at-most-requires c κs = search needs
+
+loop-holds : tie.Need-loop-holds Inv-loop μ-loop
+loop-holds c = (omega arith, anyBelow-start _)
+
+element-copy-out-segment : tie.Need-element-copy-out-segment Inv-loop μ-loop
+element-copy-out-segment c = search needs
+
+mul-b : tie.Need-mul-b Inv-loop μ-loop
+mul-b c = search needs
+
+element-copy-out-b : tie.Need-element-copy-out-b Inv-loop μ-loop
+element-copy-out-b c = search needs
+
+threatens-requires : tie.Need-threatens-requires Inv-loop μ-loop
+threatens-requires c κs = search needs
+
+returns : tie.Need-returns Inv-loop μ-loop
+returns c =
+    let x = c .before .before .before .before .before .before .before .before .before .args in
+    let j = c .before .before .before .before .before .before .loop .j in
+    let size = limits-length (x .t6) _ (c .before .before .before .before .before .before .before .before .before .good .1 .1 .1 .1 .1 .0) in
+    let e = threatAt-other (x .row) (x .words .now) (x .n) (x .t5 .segments) (x .t6 .at) (x .i) (x .c) j _ (λ e. omega arith) (omega arith) (c .before .threatens .ensures) in
+    sym (anyBelow-here _ _ j (omega arith) (e ∙ c .if2 .taken))
+
+add-j : tie.Need-add-j Inv-loop μ-loop
+add-j c = search needs
+
+loop-less : tie.Need-loop-less Inv-loop μ-loop
+loop-less c = search needs
+
+loop-again : tie.Need-loop-again Inv-loop μ-loop
+loop-again c =
+    let x = c .before .before .before .before .before .args in
+    let j = c .before .before .loop .j in
+    let size = limits-length (x .t6) _ (c .before .before .before .before .before .good .1 .1 .1 .1 .1 .0) in
+    let e =
+    ⊎-elim
+    (λ w. threatAt-other (x .row) (x .words .now) (x .n) (x .t5 .segments) (x .t6 .at) (x .i) (x .c) j _ (λ e. omega arith) (omega arith) (w .3 .ensures) ∙ w .4 .left)
+    (λ w. threatAt-self (x .row) (x .words .now) (x .n) (x .t5 .segments) (x .t6 .at) (x .i) (x .c) j (omega arith))
+    (c .if1 .came) in
+    (omega arith, anyBelow-more j _ (c .before .before .loop .inv .1) e)
+
+returns-2 : tie.Need-returns-2 Inv-loop μ-loop
+returns-2 c = let e : c .before .loop .j ≡ atMost 32 (c .before .before .before .before .args .t) = omega arith in rw e at (sym (c .before .loop .inv .1))
+
+pub any-threatens-spec : {M : Type 1} → statement M
+any-threatens-spec =
+    tie.close
+    (tie.spec
+    Inv-loop
+    μ-loop
+    at-most-requires
+    loop-holds
+    element-copy-out-segment
+    mul-b
+    element-copy-out-b
+    threatens-requires
+    returns
+    add-j
+    loop-less
+    loop-again
+    returns-2)

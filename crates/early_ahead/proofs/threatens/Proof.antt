@@ -1,0 +1,91 @@
+-- `early_ahead::threatens` meets its contract: a search over the segments.
+use Prim.Native.Nat.{_≤_, _-_}
+use mathlib.Core.Path.{_≡_, sym, _∙_}
+use mathlib.Core.Logic.{⊎-elim}
+use mathlib.Core.Bool.{false}
+use native.Mathlib.Omega.{arith}
+use borrow.Author.Tests.{not-true}
+use borrow.Author.Needs.{needs}
+use Rattle.base.specs.Index.{anyBelow}
+use Rattle.early_ahead.proofs.AheadLaws.{anyBelow-start, anyBelow-more, threatBy, threatensLimit-late, threatBy-unmarked, threatBy-late, threatensLimit-found, threatensLimit-none}
+use Rattle.early_ahead.proofs.threatens.Statement.{statement}
+use Rattle.early_ahead.proofs.threatens.Tie as tie
+
+abbrev Inv-loop : tie.InvT-loop
+Inv-loop words count segment b j c i row q k s₀ s = (s ≤ k) × (anyBelow s (threatBy row words count segment b j c i) ≡ false)
+
+abbrev μ-loop : tie.MeasureT-loop
+μ-loop words count segment b j c i row q k s₀ s = k - s
+
+is-sooner-limit-requires : tie.Need-is-sooner-limit-requires Inv-loop μ-loop
+is-sooner-limit-requires c κs = search needs
+
+returns : tie.Need-returns Inv-loop μ-loop
+returns c = let x = c .before .before .before .args in threatensLimit-late (x .t1) (x .words .now) (x .count) (x .segment) (x .b) (x .j) (x .c) (x .i) (omega arith) (sym (c .before .is-sooner-limit .ensures) ∙ not-true _ (c .if1 .taken))
+
+wide-requires : tie.Need-wide-requires Inv-loop μ-loop
+wide-requires c κs = search needs
+
+at-most-requires : tie.Need-at-most-requires Inv-loop μ-loop
+at-most-requires c κs = search needs
+
+loop-holds : tie.Need-loop-holds Inv-loop μ-loop
+loop-holds c = (omega arith, anyBelow-start _)
+
+array-read-if2 : tie.Need-array-read-if2 Inv-loop μ-loop
+array-read-if2 c = search needs
+
+way-requires : tie.Need-way-requires Inv-loop μ-loop
+way-requires c κs = search needs
+
+sum-of-requires : tie.Need-sum-of-requires Inv-loop μ-loop
+sum-of-requires c κs = search needs
+
+is-sooner-limit-requires-2 : tie.Need-is-sooner-limit-requires-2 Inv-loop μ-loop
+is-sooner-limit-requires-2 c κs = search needs
+
+returns-2 : tie.Need-returns-2 Inv-loop μ-loop
+returns-2 c =
+    let x = c .before .before .before .before .before .before .before .before .before .before .before .before .args in
+    threatensLimit-found (x .t1) (x .words .now) (x .count) (x .segment) (x .b) (x .j) (x .c) (x .i) (c .before .before .before .before .before .before .loop .s) _ _ (omega arith) (c .before .before .before .before .if2 .taken) (rw (c .before .before .before .before .before .before .before .before .wide .ensures .0) at (c .before .before .before .way .ensures)) (c .before .before .sum-of .ensures) (sym (c .before .is-sooner-limit2 .ensures) ∙ c .if3 .taken)
+
+add-s : tie.Need-add-s Inv-loop μ-loop
+add-s c = search needs
+
+loop-less : tie.Need-loop-less Inv-loop μ-loop
+loop-less c = search needs
+
+loop-again : tie.Need-loop-again Inv-loop μ-loop
+loop-again c =
+    let x = c .before .before .before .before .before .before .before .before .args in
+    let l = c .before .before .loop in
+    let e =
+    ⊎-elim
+    (λ w. threatBy-late (x .t1) (x .words .now) (x .count) (x .segment) (x .b) (x .j) (x .c) (x .i) (l .s) _ _ (rw (c .before .before .before .before .wide .ensures .0) at (w .1 .ensures)) (w .2 .ensures) (sym (w .3 .ensures) ∙ w .4 .left))
+    (λ w. threatBy-unmarked (x .t1) (x .words .now) (x .count) (x .segment) (x .b) (x .j) (x .c) (x .i) (l .s) (w .left))
+    (c .if2 .came) in
+    (omega arith, anyBelow-more (l .s) _ (l .inv .1) e)
+
+returns-3 : tie.Need-returns-3 Inv-loop μ-loop
+returns-3 c = threatensLimit-none _ _ _ _ _ _ _ _ (c .before .loop .s) (omega arith) (c .before .loop .inv .1)
+
+pub threatens-spec : {M : Type 1} → statement M
+threatens-spec =
+    tie.close
+    (tie.spec
+    Inv-loop
+    μ-loop
+    is-sooner-limit-requires
+    returns
+    wide-requires
+    at-most-requires
+    loop-holds
+    array-read-if2
+    way-requires
+    sum-of-requires
+    is-sooner-limit-requires-2
+    returns-2
+    add-s
+    loop-less
+    loop-again
+    returns-3)

@@ -1,0 +1,377 @@
+// Document 01, "Early issue": forecast, earliest and hazard on limits, and the ways to the events that they read.
+use clock::Cycle;
+use clock::Stamp;
+use early_limits::Crew;
+use early_limits::Limits;
+use model::Model;
+use model::Op;
+use model::Segment;
+ghost use mathlib.Core.Path.{_≡_};
+ghost use mathlib.Core.Bool.{true};
+ghost use Prim.Native.Nat.{_+_, _*_, _≤_, _<_};
+ghost use lib.ListN.{length, getD};
+ghost use Rattle.base.specs.Index.{anyBelow};
+ghost use Rattle.model.specs.Values.{bodyOf};
+ghost use Rattle.model.specs.Statement.{notifiedBy};
+ghost use Rattle.tables.specs.Word.{allOnes};
+ghost use Rattle.early_limits.specs.Limit.{limitOfCycle, limitOfWord, lesser, sumOf, isSoonerLimit, atMost};
+ghost use Rattle.early_limits.specs.Ahead.{reachIn, forecastAt, relaxedAt, relaxedLimits, earliestLimits, threatensLimit, hazardAt};
+ghost use Rattle.early_ahead.specs.Store.{Places, cleared, columnLowered, lowered, eventOf, threatAt};
+
+// Document 01: "'never' as all ones".
+const NEVER: u64 = 18446744073709551615;
+
+// A delta is below this.
+const UNIT: u64 = 65536;
+
+// From here on a limit stands for never in a sum.
+const TOP: u64 = 4611686018427387904;
+
+fn wide(x: u8) -> usize
+    ensures { λ r. ⌜ (r ≡ x) × (r ≤ 255) ⌝ }
+{
+    x as usize
+}
+
+fn delta_word(x: u32) -> u64
+    ensures { λ r. ⌜ r ≡ x ⌝ }
+{
+    x as u64
+}
+
+// x, or k where that is less.
+fn at_most(k: usize, x: u8) -> usize
+    ensures { λ r. ⌜ (r ≡ atMost k x) × (r ≤ k) ⌝ }
+{
+    if wide(x) < k {
+        return wide(x);
+    }
+    k
+}
+
+// A cycle as a limit.
+pub fn limit_of(c: Cycle) -> u64
+    ensures { λ r. ⌜ r ≡ limitOfCycle c ⌝ }
+{
+    let t = c.time.0;
+    if t >= 70368744177664 {
+        return NEVER;
+    }
+    t * UNIT + delta_word(c.delta.0)
+}
+
+// Document 01: a distance, "Stored as time × 1,024 + delta in a 64-bit word", as a limit.
+fn limit_of_word(w: u64) -> u64
+    ensures { λ r. ⌜ r ≡ limitOfWord w ⌝ }
+{
+    let t = w / 1024;
+    if t >= 1000000000 {
+        return NEVER;
+    }
+    t * UNIT + w % 1024
+}
+
+fn lesser_of(a: u64, b: u64) -> u64
+    ensures { λ r. ⌜ r ≡ lesser a b ⌝ }
+{
+    if b < a {
+        return b;
+    }
+    a
+}
+
+// Document 01: "a distance is added as the clock says": a time wait starts the delta anew.
+fn sum_of(a: u64, d: u64) -> u64
+    ensures { λ r. ⌜ r ≡ sumOf a d ⌝ }
+{
+    if a >= TOP {
+        return NEVER;
+    }
+    if d >= TOP {
+        return NEVER;
+    }
+    if d < UNIT {
+        return a + d;
+    }
+    a / UNIT * UNIT + d
+}
+
+// Thread j at limit b, at a smaller stamp than thread i at c.
+fn is_sooner_limit(b: u64, j: usize, c: u64, i: usize) -> bool
+    ensures { λ r. ⌜ r ≡ isSoonerLimit b j c i ⌝ }
+{
+    if b == c {
+        return j < i;
+    }
+    b < c
+}
+
+// A word of the table; 0 past its end.
+fn word_at(words: &[u64], k: usize) -> u64
+    ensures { λ r. ⌜ r ≡ getD (now (words .entry)) k 0 ⌝ }
+{
+    if k < words.len() {
+        return words[k];
+    }
+    0
+}
+
+// The limit from segment r to segment s.
+fn way(words: &[u64], count: u8, r: usize, s: usize) -> u64
+    requires { ⌜ (r ≤ 255) × (s ≤ 255) ⌝ }
+    ensures { λ w. ⌜ w ≡ limitOfWord (getD (now (words .entry)) (r * count + s) 0) ⌝ }
+{
+    let n = wide(count);
+    limit_of_word(word_at(words, r * n + s))
+}
+
+// All places never.
+fn clear(reach: &mut [u64])
+    requires { ⌜ 2048 ≤ length (now reach) ⌝ }
+    ensures { λ _. ⌜ Places (cleared 2048) (now (reach .entry)) (now (reach .exit)) ⌝ }
+{
+    let mut i = 0;
+    while i < 2048 {
+        reach[i] = NEVER;
+        i += 1;
+    }
+}
+
+// Column e, each place made the lesser of itself and the way to segment s.
+fn lower_column(words: &[u64], reach: &mut [u64], count: u8, s: usize, e: usize)
+    requires { ⌜ (2048 ≤ length (now reach)) × (s ≤ 255) × (e < 32) ⌝ }
+    ensures { λ _. ⌜ Places (columnLowered (now (words .entry)) count s e (atMost 64 count)) (now (reach .entry)) (now (reach .exit)) ⌝ }
+{
+    let rows = at_most(64, count);
+    let mut r = 0;
+    while r < rows {
+        let p = r * 32 + e;
+        reach[p] = lesser_of(reach[p], way(words, count, r, s));
+        r += 1;
+    }
+}
+
+// The event that an operation notifies, or 255.
+fn event_of(op: Op) -> usize
+    ensures { λ r. ⌜ r ≡ eventOf op ⌝ }
+{
+    match op {
+        Op::Set(_, _) => 255,
+        Op::Add(_, _) => 255,
+        Op::Copy(_, _) => 255,
+        Op::AddVariable(_, _) => 255,
+        Op::SubVariable(_, _) => 255,
+        Op::Notify(e) => wide(e),
+    }
+}
+
+// The columns of all events that segment s lists as notifying.
+fn lower_columns(g: Segment, words: &[u64], reach: &mut [u64], count: u8, s: usize)
+    requires { ⌜ (2048 ≤ length (now reach)) × (s ≤ 255) ⌝ }
+    ensures { λ _. ⌜ Places (lowered (now (words .entry)) count s (notifiedBy (bodyOf g))) (now (reach .entry)) (now (reach .exit)) ⌝ }
+{
+    let k = at_most(32, g.n);
+    let mut j = 0;
+    while j < k {
+        let x = g.statements[j];
+        let op = x.op;
+        let e = event_of(op);
+        if e < 32 {
+            lower_column(words, reach, count, s, e);
+        }
+        j += 1;
+    }
+}
+
+// The way from every segment to the nearest that notifies an event: 64 rows of 32 places. A buffer that is too short stays.
+pub fn fill_reach(m: Model, words: &[u64], reach: &mut [u64])
+    ensures { λ _. ⌜ now (reach .exit) ≡ reachIn m (now (words .entry)) (now (reach .entry)) ⌝ }
+{
+    if reach.len() < 2048 {
+        return;
+    }
+    clear(reach);
+    let count = m.n;
+    let n = at_most(64, count);
+    let mut s = 0;
+    while s < n {
+        let g = m.segments[s];
+        lower_columns(g, words, reach, count, s);
+        s += 1;
+    }
+}
+
+// The way from a segment to event e; never past the end.
+fn reach_at(reach: &[u64], segment: u8, e: u8) -> u64
+    ensures { λ r. ⌜ r ≡ getD (now (reach .entry)) (segment * 32 + e) allOnes ⌝ }
+{
+    let k = wide(segment) * 32 + wide(e);
+    if k < reach.len() {
+        return reach[k];
+    }
+    NEVER
+}
+
+// Term: forecast of event e.
+pub fn forecast(reach: &[u64], crew: Crew, xs: Limits, t: u8, e: u8) -> u64
+    ensures { λ r. ⌜ r ≡ forecastAt (now (reach .entry)) (crew .segments) (xs .at) t e ⌝ }
+{
+    let n = at_most(32, t);
+    let mut least = NEVER;
+    let mut j = 0;
+    while j < n {
+        let x = xs.at[j];
+        let segment = crew.segments[j];
+        least = lesser_of(least, sum_of(x, reach_at(reach, segment, e)));
+        j += 1;
+    }
+    least
+}
+
+// Thread k's limit after one more round: a waiting thread is woken one delta after its event.
+fn relaxed_at(reach: &[u64], crew: Crew, xs: Limits, t: u8, k: usize) -> u64
+    requires { ⌜ k < 32 ⌝ }
+    ensures { λ r. ⌜ r ≡ relaxedAt (now (reach .entry)) (crew .segments) (crew .events) (xs .at) t k ⌝ }
+{
+    let x = xs.at[k];
+    let e = crew.events[k];
+    if e >= 32 {
+        return x;
+    }
+    lesser_of(x, sum_of(forecast(reach, crew, xs, t, e), 1))
+}
+
+// One more round, from the limits of the last.
+fn relaxed_limits(reach: &[u64], crew: Crew, xs: Limits, t: u8) -> Limits
+    ensures { λ r. ⌜ r .at ≡ relaxedLimits (now (reach .entry)) (crew .segments) (crew .events) t (xs .at) ⌝ }
+{
+    let n = at_most(32, t);
+    let mut out = xs;
+    let mut k = 0;
+    while k < n {
+        out.at[k] = relaxed_at(reach, crew, xs, t, k);
+        k += 1;
+    }
+    out
+}
+
+// Whether a round changed nothing.
+fn is_same(a: Limits, b: Limits) -> bool
+    ensures { λ r. ⌜ (r ≡ true → a .at ≡ b .at) ⌝ }
+{
+    let mut k = 0;
+    while k < 32 {
+        if a.at[k] != b.at[k] {
+            return false;
+        }
+        k += 1;
+    }
+    true
+}
+
+// Term: earliest, of every thread. Once a round changes nothing, no later one does.
+pub fn earliest(reach: &[u64], crew: Crew, xs: Limits, t: u8) -> Limits
+    ensures { λ r. ⌜ r .at ≡ earliestLimits (now (reach .entry)) (crew .segments) (crew .events) t (xs .at) ⌝ }
+{
+    let mut x = xs;
+    let mut n = 0;
+    while n < t {
+        let y = relaxed_limits(reach, crew, x, t);
+        if is_same(x, y) {
+            return y;
+        }
+        x = y;
+        n += 1;
+    }
+    x
+}
+
+// Whether thread j, in the segment and no sooner than b, could run a marked segment before thread i at c. A sum is no sooner than b.
+fn threatens(
+    row: [bool; 64],
+    words: &[u64],
+    count: u8,
+    segment: u8,
+    b: u64,
+    j: usize,
+    c: u64,
+    i: usize,
+) -> bool
+    ensures { λ r. ⌜ r ≡ threatensLimit row (now (words .entry)) count segment b j c i ⌝ }
+{
+    if !is_sooner_limit(b, j, c, i) {
+        return false;
+    }
+    let q = wide(segment);
+    let k = at_most(64, count);
+    let mut s = 0;
+    while s < k {
+        if row[s] {
+            if is_sooner_limit(sum_of(b, way(words, count, q, s)), j, c, i) {
+                return true;
+            }
+        }
+        s += 1;
+    }
+    false
+}
+
+// Document 01: "another live thread could run, at a smaller stamp by earliest plus distance, a segment that conflicts". The row has the marks of thread i's segment.
+fn any_threatens(
+    row: [bool; 64],
+    words: &[u64],
+    n: u8,
+    t: u8,
+    crew: Crew,
+    xs: Limits,
+    i: usize,
+    c: u64,
+) -> bool
+    ensures { λ r. ⌜ r ≡ anyBelow (atMost 32 t) (threatAt row (now (words .entry)) n (crew .segments) (xs .at) i c) ⌝ }
+{
+    let k = at_most(32, t);
+    let mut j = 0;
+    while j < k {
+        if j != i {
+            let segment = crew.segments[j];
+            let b = xs.at[j];
+            if threatens(row, words, n, segment, b, j, c, i) {
+                return true;
+            }
+        }
+        j += 1;
+    }
+    false
+}
+
+// The segment of thread k; 0 past the crew.
+fn segment_of(crew: Crew, k: usize) -> usize
+    ensures { λ r. ⌜ r ≡ getD (crew .segments) k 0 ⌝ }
+{
+    if k < 32 {
+        return wide(crew.segments[k]);
+    }
+    0
+}
+
+// Term: hazard; the marks are handed on by value.
+pub fn hazard(
+    marks: [[bool; 64]; 64],
+    words: &[u64],
+    n: u8,
+    t: u8,
+    crew: Crew,
+    xs: Limits,
+    at: Stamp,
+) -> bool
+    ensures { λ r. ⌜ r ≡ hazardAt marks (now (words .entry)) n t (crew .segments) (xs .at) at ⌝ }
+{
+    let i = wide(at.thread.0);
+    let r = segment_of(crew, i);
+    if r >= 64 {
+        return false;
+    }
+    let row = marks[r];
+    let cycle = at.cycle;
+    any_threatens(row, words, n, t, crew, xs, i, limit_of(cycle))
+}

@@ -1,0 +1,73 @@
+-- `early_deliver::floor_of` meets its contract. The invariant: the least cycle of the first k threads.
+use Prim.Native.Nat.{_≤_, _-_}
+use mathlib.Core.Path.{_≡_, ap, _∙_}
+use native.Mathlib.Omega.{arith}
+use borrow.Author.Needs.{needs}
+use Rattle.clock.specs.Advance.{least}
+use Rattle.early_limits.specs.Limit.{atMost}
+use Rattle.early_deliver.specs.Awake.{floorBelow}
+use Rattle.early_deliver.proofs.CrewLaws.{floor-none, floor-more}
+use Rattle.early_deliver.proofs.floor_of.Statement.{statement}
+use Rattle.early_deliver.proofs.floor_of.Tie as tie
+
+abbrev Inv-loop : tie.InvT-loop
+Inv-loop t threads n least₀ k₀ least k = (k ≤ n) × (least ≡ floorBelow k (threads .at))
+
+abbrev μ-loop : tie.MeasureT-loop
+μ-loop t threads n least₀ k₀ least k = n - k
+
+few-requires : tie.Need-few-requires Inv-loop μ-loop
+few-requires c κs = search needs
+
+wide-requires : tie.Need-wide-requires Inv-loop μ-loop
+wide-requires c κs = search needs
+
+loop-holds : tie.Need-loop-holds Inv-loop μ-loop
+loop-holds c = (omega arith, floor-none (c .before .before .args .t1 .at))
+
+mul-x : tie.Need-mul-x Inv-loop μ-loop
+mul-x c = omega arith
+
+element-copy-out-x : tie.Need-element-copy-out-x Inv-loop μ-loop
+element-copy-out-x c = omega arith
+
+ready-cycle-requires : tie.Need-ready-cycle-requires Inv-loop μ-loop
+ready-cycle-requires c κs = search needs
+
+least-of-requires : tie.Need-least-of-requires Inv-loop μ-loop
+least-of-requires c κs = search needs
+
+add-k : tie.Need-add-k Inv-loop μ-loop
+add-k c = omega arith
+
+loop-less : tie.Need-loop-less Inv-loop μ-loop
+loop-less c = omega arith
+
+loop-again : tie.Need-loop-again Inv-loop μ-loop
+loop-again c =
+    let ts = c .before .before .before .before .before .before .before .args .t1 .at in
+    let here = c .before .before .before .before .loop in
+    (omega arith, c .least-of .ensures ∙ ap (least (here .least)) (c .before .ready-cycle .ensures) ∙ floor-more ts (here .least) (here .k) (here .inv .1))
+
+returns : tie.Need-returns Inv-loop μ-loop
+returns c =
+    let e : c .before .loop .k ≡ atMost 32 (c .before .before .before .before .args .t) = omega (arith, c .before .before .before .few .ensures .0) in
+    rw (← e) (c .before .loop .inv .1)
+
+pub floor-of-spec : {M : Type 1} → statement M
+floor-of-spec =
+    tie.close
+    (tie.spec
+    Inv-loop
+    μ-loop
+    few-requires
+    wide-requires
+    loop-holds
+    mul-x
+    element-copy-out-x
+    ready-cycle-requires
+    least-of-requires
+    add-k
+    loop-less
+    loop-again
+    returns)

@@ -1,0 +1,54 @@
+-- `early_deliver::heard_by` meets its contract. Not waiting, nothing logged, a smaller forecast, heard.
+use mathlib.Core.Path.{sym, _∙_}
+use native.Mathlib.Omega.{arith}
+use borrow.Author.Needs.{needs}
+use Rattle.early.specs.Log.{logOf}
+use Rattle.early_deliver.proofs.VariantLaws.{awaitedBy-other}
+use Rattle.early_deliver.proofs.SweepLaws.{heardBy-other, heardBy-none, heardBy-sooner, heardBy-now}
+use Rattle.early_deliver.proofs.heard_by.Statement.{statement}
+use Rattle.early_deliver.proofs.heard_by.Tie as tie
+
+enum-known-s : tie.Need-enum-known-s
+enum-known-s c = search needs
+
+returns : tie.Need-returns
+returns c = heardBy-other (c .before .before .args .reach .now) (c .before .before .args .t) (logOf (c .before .before .args .site)) (c .before .before .args .crew .segments) (c .before .before .args .xs .at) (c .before .before .args .s) (awaitedBy-other (c .before .before .args .s) (c .match .keys2))
+
+least-heard-requires : tie.Need-least-heard-requires
+least-heard-requires c κs = search needs
+
+enum-known-c : tie.Need-enum-known-c
+enum-known-c c = search needs
+
+enum-told : tie.Need-enum-told
+enum-told c = search needs
+
+returns-2 : tie.Need-returns-2
+returns-2 c = heardBy-none (c .before .before .before .before .before .before .before .args .reach .now) (c .before .before .before .before .before .before .before .args .t) (logOf (c .before .before .before .before .before .before .before .args .site)) (c .before .before .before .before .before .before .before .args .crew .segments) (c .before .before .before .before .before .before .before .args .xs .at) (c .before .before .before .before .before .before .before .args .s) _ _ (c .before .before .before .before .s .given .1) (sym (c .before .before .least-heard .ensures) ∙ c .enum-told .given .1)
+
+forecast-requires : tie.Need-forecast-requires
+forecast-requires c κs = search needs
+
+limit-of-requires : tie.Need-limit-of-requires
+limit-of-requires c κs = search needs
+
+returns-3 : tie.Need-returns-3
+returns-3 c = heardBy-sooner (c .before .before .before .before .before .before .before .before .before .before .before .args .reach .now) (c .before .before .before .before .before .before .before .before .before .before .before .args .t) (logOf (c .before .before .before .before .before .before .before .before .before .before .before .args .site)) (c .before .before .before .before .before .before .before .before .before .before .before .args .crew .segments) (c .before .before .before .before .before .before .before .before .before .before .before .args .xs .at) (c .before .before .before .before .before .before .before .before .before .before .before .args .s) _ _ (c .before .before .before .before .before .before .before .before .s .given .1) _ (sym (c .before .before .before .before .before .before .least-heard .ensures) ∙ c .before .before .before .before .c .given .1) (omega arith)
+
+returns-4 : tie.Need-returns-4
+returns-4 c = heardBy-now (c .before .before .before .before .before .before .before .before .before .before .before .args .reach .now) (c .before .before .before .before .before .before .before .before .before .before .before .args .t) (logOf (c .before .before .before .before .before .before .before .before .before .before .before .args .site)) (c .before .before .before .before .before .before .before .before .before .before .before .args .crew .segments) (c .before .before .before .before .before .before .before .before .before .before .before .args .xs .at) (c .before .before .before .before .before .before .before .before .before .before .before .args .s) _ _ (c .before .before .before .before .before .before .before .before .s .given .1) _ (sym (c .before .before .before .before .before .before .least-heard .ensures) ∙ c .before .before .before .before .c .given .1) (omega arith)
+
+pub heard-by-spec : {M : Type 1} → statement M
+heard-by-spec =
+    tie.close
+    (tie.spec
+    enum-known-s
+    returns
+    least-heard-requires
+    enum-known-c
+    enum-told
+    returns-2
+    forecast-requires
+    limit-of-requires
+    returns-3
+    returns-4)

@@ -1,0 +1,21 @@
+-- `early_deliver::settle` meets its contract.
+use mathlib.Core.Path.{ap, _∙_}
+use borrow.Author.Needs.{needs}
+use Rattle.early.specs.Log.{logOf}
+use Rattle.early_deliver.specs.Awake.{settledOn}
+use Rattle.early_deliver.proofs.settle.Statement.{statement}
+use Rattle.early_deliver.proofs.settle.Tie as tie
+
+few-requires : tie.Need-few-requires
+few-requires c κs = search needs
+
+settle-below-requires : tie.Need-settle-below-requires
+settle-below-requires c κs = search needs
+
+returns : tie.Need-returns
+returns c =
+    let x = c .before .before .before .args in
+    c .settle-below .ensures ∙ ap (λ n. settledOn (x .reach .now) n (logOf (x .site)) n (x .threads .at)) (c .before .few .ensures .0)
+
+pub settle-spec : {M : Type 1} → statement M
+settle-spec = tie.close (tie.spec few-requires settle-below-requires returns)

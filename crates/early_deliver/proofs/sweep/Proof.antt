@@ -1,0 +1,75 @@
+-- `early_deliver::sweep` meets its contract. The invariant: the outlook is that of the records after k looks, which are the first ones where nobody has heard.
+use Prim.Native.Nat.{_≤_, _-_}
+use mathlib.Core.Path.{_≡_, refl, ap, sym, _∙_}
+use mathlib.Core.Bool.{false}
+use native.Mathlib.Omega.{arith}
+use borrow.Author.Needs.{needs}
+use Rattle.early.specs.Log.{logOf}
+use Rattle.early_deliver.specs.Awake.{outlookOf, sweptOn}
+use Rattle.early_deliver.proofs.SweepLaws.{outlook-own, outlook-begun, sweptOn-none, sweep-more}
+use Rattle.early_deliver.proofs.sweep.Statement.{statement}
+use Rattle.early_deliver.proofs.sweep.Tie as tie
+
+abbrev Inv-loop : tie.InvT-loop
+Inv-loop reach site t n w₀ k₀ w k =
+    (k ≤ n) × ((w ≡ outlookOf reach t (logOf site) (sweptOn reach t (logOf site) (w₀ .threads .at) k) (w .heard)) × (w .heard ≡ false → w .threads .at ≡ w₀ .threads .at))
+
+abbrev μ-loop : tie.MeasureT-loop
+μ-loop reach site t n w₀ k₀ w k = n - k
+
+wide-requires : tie.Need-wide-requires Inv-loop μ-loop
+wide-requires c κs = search needs
+
+loop-holds : tie.Need-loop-holds Inv-loop μ-loop
+loop-holds c =
+    let start = c .before .before .before .before .before in (
+      omega arith,
+      (
+        outlook-begun (start .args .reach .now) (start .args .t) (logOf (start .args .site)) (start .args .o) (start .pre .1)
+            ∙ ap (λ us. outlookOf (start .args .reach .now) (start .args .t) (logOf (start .args .site)) us false) (sym (sweptOn-none (start .args .reach .now) (start .args .t) (logOf (start .args .site)) (start .args .o .threads .at))),
+        λ h. refl,
+      ),
+    )
+
+look-requires : tie.Need-look-requires Inv-loop μ-loop
+look-requires c κs =
+    let start = c .before .before .before .before .before .before .before in
+    (omega arith, (omega arith, outlook-own (start .args .reach .now) (start .args .t) (logOf (start .args .site)) (c .before .loop .w) _ _ (c .before .loop .inv .1 .0)))
+
+add-k : tie.Need-add-k Inv-loop μ-loop
+add-k c = omega arith
+
+loop-less : tie.Need-loop-less Inv-loop μ-loop
+loop-less c = omega arith
+
+loop-again : tie.Need-loop-again Inv-loop μ-loop
+loop-again c =
+    let start = c .before .before .before .before .before .before .before .before in
+    let here = c .before .before .loop in (
+      omega arith,
+      (
+        sweep-more (start .args .reach .now) (start .args .t) (logOf (start .args .site)) (here .w) _ _ (here .k) (here .inv .1 .0) (c .look .ensures .0),
+        λ h. let (p, q) = c .look .ensures .1 h in q ∙ here .inv .1 .1 p,
+      ),
+    )
+
+returns : tie.Need-returns Inv-loop μ-loop
+returns c =
+    let start = c .before .before .before .before .before .before .before in
+    let here = c .before .loop in
+    let e : here .k ≡ start .args .t = omega arith in
+    (here .inv .1 .0 ∙ ap (λ n. outlookOf (start .args .reach .now) (start .args .t) (logOf (start .args .site)) (sweptOn (start .args .reach .now) (start .args .t) (logOf (start .args .site)) (start .args .o .threads .at) n) (here .w .heard)) e, here .inv .1 .1)
+
+pub sweep-spec : {M : Type 1} → statement M
+sweep-spec =
+    tie.close
+    (tie.spec
+    Inv-loop
+    μ-loop
+    wide-requires
+    loop-holds
+    look-requires
+    add-k
+    loop-less
+    loop-again
+    returns)

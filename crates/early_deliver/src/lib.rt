@@ -1,0 +1,262 @@
+// Document 01, "Early issue": the floor, and deliveries on limits.
+use clock::Bound;
+use clock::Cycle;
+use clock::Step;
+use clock::Wait;
+use early::Site;
+use early_limits::Crew;
+use early_limits::Limits;
+use model::State;
+use model::Thread;
+use model::Threads;
+ghost use Prim.Native.Nat.{_<_, _≤_};
+ghost use mathlib.Core.Path.{_≡_};
+ghost use mathlib.Core.Bool.{false};
+ghost use Rattle.clock.specs.Wait.{waitEnds, heldStep};
+ghost use Rattle.model.specs.Record.{awaitedBy, stateAfter};
+ghost use Rattle.early.specs.Log.{logOf};
+ghost use Rattle.early_limits.specs.Limit.{sumOf, atMost};
+ghost use Rattle.early_limits.specs.Ahead.{eventAwaited};
+ghost use Rattle.early_deliver.specs.Awake.{floorBelow, crewOf, boundLimit, firstLimit, firstLimits, outlookOf, heardBy, lookedOn, sweptOn, settledOn};
+
+// A limit that stands for never, and the least that does so in a sum.
+const NEVER: u64 = 18446744073709551615;
+
+const TOP: u64 = 4611686018427387904;
+
+// The records with what is known of them: the crew, the earliest limits, and whether a thread has heard.
+pub struct Outlook {
+    pub threads: Threads,
+    pub crew: Crew,
+    pub limits: Limits,
+    pub heard: bool,
+}
+
+fn wide(x: u8) -> usize
+    ensures { λ r. ⌜ r ≡ x ⌝ }
+{
+    x as usize
+}
+
+// The number of threads, 32 where it is above that.
+fn few(t: u8) -> u8
+    ensures { λ r. ⌜ (r ≡ atMost 32 t) × (r ≤ 32) ⌝ }
+{
+    if t < 32 {
+        return t;
+    }
+    32
+}
+
+// The event that a thread waits on, or 255.
+fn event_awaited(s: State) -> u8
+    ensures { λ r. ⌜ r ≡ eventAwaited (awaitedBy s) ⌝ }
+{
+    let State::Waiting(e, _) = s else {
+        return 255;
+    };
+    e
+}
+
+fn crew_of(threads: Threads, t: u8) -> Crew
+    requires { ⌜ t ≤ 32 ⌝ }
+    ensures { λ r. ⌜ r ≡ crewOf t (threads .at) ⌝ }
+{
+    let n = wide(t);
+    let mut segments = [0u8; 32];
+    let mut events = [255u8; 32];
+    let mut k = 0;
+    while k < n {
+        let x = threads.at[k];
+        let s = x.state;
+        segments[k] = x.segment;
+        events[k] = event_awaited(s);
+        k += 1;
+    }
+    Crew { segments, events }
+}
+
+// One delta later.
+fn one_later(x: u64) -> u64
+    ensures { λ r. ⌜ r ≡ sumOf x 1 ⌝ }
+{
+    if x < TOP {
+        return x + 1;
+    }
+    NEVER
+}
+
+fn bound_limit(b: Bound) -> u64
+    ensures { λ r. ⌜ r ≡ boundLimit b ⌝ }
+{
+    match b {
+        Bound::Never => NEVER,
+        Bound::At(c) => early_ahead::limit_of(c),
+    }
+}
+
+// Document 01: chains "begin at a ready thread or a logged notification".
+fn first_limit(site: Site, s: State) -> u64
+    ensures { λ r. ⌜ r ≡ firstLimit (logOf site) s ⌝ }
+{
+    match s {
+        State::Ended(_) => NEVER,
+        State::Overrun(_) => NEVER,
+        State::Ready(c) => early_ahead::limit_of(c),
+        State::Waiting(e, since) => one_later(bound_limit(early_log::least_heard(site, e, since))),
+    }
+}
+
+fn first_limits(site: Site, threads: Threads, t: u8) -> Limits
+    requires { ⌜ t ≤ 32 ⌝ }
+    ensures { λ r. ⌜ r .at ≡ firstLimits t (logOf site) (threads .at) ⌝ }
+{
+    let n = wide(t);
+    let mut at = [NEVER; 32];
+    let mut k = 0;
+    while k < n {
+        let x = threads.at[k];
+        let s = x.state;
+        at[k] = first_limit(site, s);
+        k += 1;
+    }
+    Limits { at }
+}
+
+fn outlook_with(reach: &[u64], site: Site, threads: Threads, t: u8, heard: bool) -> Outlook
+    requires { ⌜ t ≤ 32 ⌝ }
+    ensures { λ r. ⌜ r ≡ outlookOf (now (reach .entry)) t (logOf site) (threads .at) heard ⌝ }
+{
+    let crew = crew_of(threads, t);
+    let first = first_limits(site, threads, t);
+    let limits = early_ahead::earliest(reach, crew, first, t);
+    Outlook {
+        threads,
+        crew,
+        limits,
+        heard,
+    }
+}
+
+// Document 01: "A delivery is looked for only if the thread waits".
+fn heard_by(reach: &[u64], site: Site, crew: Crew, xs: Limits, t: u8, s: State) -> Bound
+    ensures { λ r. ⌜ r ≡ heardBy (now (reach .entry)) t (logOf site) (crew .segments) (xs .at) (awaitedBy s) ⌝ }
+{
+    let State::Waiting(e, since) = s else {
+        return Bound::Never;
+    };
+    let Bound::At(c) = early_log::least_heard(site, e, since) else {
+        return Bound::Never;
+    };
+    if early_ahead::forecast(reach, crew, xs, t, e) < early_ahead::limit_of(c) {
+        return Bound::Never;
+    }
+    Bound::At(c)
+}
+
+// Document 01: "It then becomes ready or overrun as in the plain run".
+fn woken_at(c: Cycle) -> State
+    ensures { λ r. ⌜ r ≡ stateAfter (heldStep (waitEnds Wait.Event c)) ⌝ }
+{
+    match clock::wait_ends(Wait::Event, c) {
+        Step::Ready(d) => State::Ready(d),
+        Step::Overrun(d) => State::Overrun(d),
+    }
+}
+
+// One look at thread k.
+fn look(reach: &[u64], site: Site, o: Outlook, t: u8, k: usize) -> Outlook
+    requires { ⌜ t ≤ 32 ⌝ }
+    requires { ⌜ k < t ⌝ }
+    requires { ⌜ o ≡ outlookOf (now reach) t (logOf site) (o .threads .at) (o .heard) ⌝ }
+    ensures seen { λ r. ⌜ r ≡ outlookOf (now (reach .entry)) t (logOf site) (lookedOn (now (reach .entry)) t (logOf site) (o .threads .at) k) (r .heard) ⌝ }
+    ensures still { λ r. ⌜ (r .heard ≡ false → (o .heard ≡ false) × (r .threads .at ≡ o .threads .at)) ⌝ }
+{
+    let mut threads = o.threads;
+    let crew = o.crew;
+    let limits = o.limits;
+    let x = threads.at[k];
+    let s = x.state;
+    let Bound::At(c) = heard_by(reach, site, crew, limits, t, s) else {
+        return o;
+    };
+    let state = woken_at(c);
+    threads.at[k] = Thread {
+        segment: x.segment,
+        state,
+    };
+    outlook_with(reach, site, threads, t, true)
+}
+
+// Document 01: "every thread is looked at".
+fn sweep(reach: &[u64], site: Site, o: Outlook, t: u8) -> Outlook
+    requires { ⌜ t ≤ 32 ⌝ }
+    requires { ⌜ o ≡ outlookOf (now reach) t (logOf site) (o .threads .at) (o .heard) ⌝ }
+    ensures seen { λ r. ⌜ r ≡ outlookOf (now (reach .entry)) t (logOf site) (sweptOn (now (reach .entry)) t (logOf site) (o .threads .at) t) (r .heard) ⌝ }
+    ensures still { λ r. ⌜ (r .heard ≡ false → r .threads .at ≡ o .threads .at) ⌝ }
+{
+    let n = wide(t);
+    let threads = o.threads;
+    let crew = o.crew;
+    let limits = o.limits;
+    let mut w = Outlook {
+        threads,
+        crew,
+        limits,
+        heard: false,
+    };
+    let mut k = 0;
+    while k < n {
+        w = look(reach, site, w, t, k);
+        k += 1;
+    }
+    w
+}
+
+// Document 01: "again and again until none hears anything".
+fn settle_below(reach: &[u64], site: Site, threads: Threads, t: u8) -> Threads
+    requires { ⌜ t ≤ 32 ⌝ }
+    ensures { λ r. ⌜ r .at ≡ settledOn (now (reach .entry)) t (logOf site) t (threads .at) ⌝ }
+{
+    let n = wide(t);
+    let mut o = outlook_with(reach, site, threads, t, false);
+    let mut i = 0;
+    while i < n {
+        o = sweep(reach, site, o, t);
+        if !o.heard {
+            return o.threads;
+        }
+        i += 1;
+    }
+    o.threads
+}
+
+// Document 01: "The floor (least cycle of a ready thread)".
+pub fn floor_of(threads: Threads, t: u8) -> Bound
+    ensures { λ r. ⌜ r ≡ floorBelow (atMost 32 t) (threads .at) ⌝ }
+{
+    let n = wide(few(t));
+    let mut least = Bound::Never;
+    let mut k = 0;
+    while k < n {
+        let x = threads.at[k];
+        let s = x.state;
+        least = clock::least_of(least, model_effect::ready_cycle(s));
+        k += 1;
+    }
+    least
+}
+
+// The records with their crew and their earliest limits; nobody has heard yet.
+pub fn outlook_of(reach: &[u64], site: Site, threads: Threads, t: u8) -> Outlook
+    ensures { λ r. ⌜ r ≡ outlookOf (now (reach .entry)) (atMost 32 t) (logOf site) (threads .at) false ⌝ }
+{
+    outlook_with(reach, site, threads, few(t), false)
+}
+
+// The records after all deliveries.
+pub fn settle(reach: &[u64], site: Site, threads: Threads, t: u8) -> Threads
+    ensures { λ r. ⌜ r .at ≡ settledOn (now (reach .entry)) (atMost 32 t) (logOf site) (atMost 32 t) (threads .at) ⌝ }
+{
+    settle_below(reach, site, threads, few(t))
+}

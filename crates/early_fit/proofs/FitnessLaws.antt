@@ -1,0 +1,144 @@
+-- The exits of the test of 11, one law for each.
+use Prim.Native.Nat.{ℕ, _<_, _≤_, _*_, _/_}
+use mathlib.Core.Path.{_≡_, refl, ap, sym, _∙_}
+use mathlib.Core.Logic.{inl, inr}
+use mathlib.Core.Bool.{Bool, true, false, not, _&&_, _||_}
+use mathlib.Core.List.{List}
+use native.Mathlib.Nat.{mul-le-mul, le-of-lt}
+use native.Mathlib.Omega.{arith}
+use lib.Dec.{T, ltb, leb}
+use lib.ListN.{length, getD}
+use borrow.Author.Tests.{lt-ltb, le-ltb, eq-eqb, ne-eqb}
+use Rattle.base.specs.Index.{anyBelow}
+use Rattle.clock.specs.declared.Cycle.{Cycle}
+use Rattle.clock.specs.Wait.{lastDelta}
+use Rattle.model.specs.declared.Model.{Model}
+use Rattle.model.specs.declared.State.{State}
+use Rattle.model.specs.declared.State.the-variants.{Waiting}
+use Rattle.model.specs.declared.Thread.{Thread}
+use Rattle.model.specs.Limits.{cutTime, recordTime}
+use Rattle.model.specs.Record.{noThread, threadAt, cycleOf, nothing, awaitedBy}
+use Rattle.model.specs.Rules.{modelFault}
+use Rattle.model_rules.proofs.SearchLaws.{anyBelow-here}
+use Rattle.plain_laws.proofs.RecordLaws.{threadAt-at}
+use Rattle.tables.specs.Word.{allOnes}
+use Rattle.early.specs.declared.Notification.{Notification}
+use Rattle.early.specs.declared.Site.{Site}
+use Rattle.early.specs.Log.{places}
+use Rattle.early.specs.Fit.{isFitCycle, isFitWait, isFitThread, isFitPair, isFitWord, isUnfitThreads, isUnfitLog, isUnfitWords, isUnfit}
+use Rattle.early_laws.proofs.FitLaws.{placeOf, →isFitWord}
+
+module _ (limit : ℕ) (c : Cycle) where
+  pub isFitCycle-below : c .time .0 < limit → leb (c .delta .0) lastDelta ≡ isFitCycle limit c
+  unfolding isFitCycle
+  isFitCycle-below h = rw (lt-ltb (c .time .0) limit h) refl
+
+  pub isFitCycle-above : limit ≤ c .time .0 → false ≡ isFitCycle limit c
+  unfolding isFitCycle
+  isFitCycle-above h = rw (le-ltb (c .time .0) limit h) refl
+
+and-true : (a : Bool) → (a && true) ≡ a
+and-true true = refl
+and-true false = refl
+
+or-true : (a : Bool) → (a || true) ≡ true
+or-true true = refl
+or-true false = refl
+
+-- what is asked of a state
+abbrev pub isFitState : Model → State → Bool
+isFitState m s = isFitCycle recordTime (cycleOf s) && isFitWait m (awaitedBy s)
+
+module _ (m : Model) (s : State) (c : Cycle) where
+  pub isFitState-still : (r : Bool) → awaitedBy s ≡ nothing → cycleOf s ≡ c → r ≡ isFitCycle recordTime c → r ≡ isFitState m s
+  unfolding isFitWait
+  isFitState-still r p q e = rw (p, q) (e ∙ sym (and-true (isFitCycle recordTime c)))
+
+  pub isFitState-waiting : (w e : ℕ) → s ≡ Waiting w c → m .e ≡ e → isFitCycle recordTime c ≡ true → ltb w e ≡ isFitState m s
+  unfolding isFitWait
+  isFitState-waiting w e p q h = rw (p, h, q) refl
+
+  pub isFitState-late : cycleOf s ≡ c → isFitCycle recordTime c ≡ false → false ≡ isFitState m s
+  isFitState-late q h = rw (q, h) refl
+
+module _ (m : Model) (t : Thread) where
+  pub isFitThread-below : (r : Bool) → t .segment < m .n → r ≡ isFitState m (t .state) → r ≡ isFitThread m t
+  unfolding isFitThread
+  isFitThread-below r h e = rw (lt-ltb (t .segment) (m .n) h) e
+
+  pub isFitThread-above : m .n ≤ t .segment → false ≡ isFitThread m t
+  unfolding isFitThread
+  isFitThread-above h = rw (le-ltb (t .segment) (m .n) h) refl
+
+module _ (m : Model) (x : Notification) where
+  pub isFitPair-below : (r : Bool) → x .event < m .e → r ≡ isFitCycle cutTime (x .cycle) → r ≡ isFitPair m x
+  unfolding isFitPair
+  isFitPair-below r h e = rw (lt-ltb (x .event) (m .e) h) e
+
+  pub isFitPair-above : m .e ≤ x .event → false ≡ isFitPair m x
+  unfolding isFitPair
+  isFitPair-above h = rw (le-ltb (x .event) (m .e) h) refl
+
+module _ (w : ℕ) where
+  pub isFitWord-near : w < 1024000000000 → T (isFitWord w)
+  isFitWord-near h = →isFitWord w (inr (omega arith))
+
+  pub isFitWord-never : w ≡ allOnes → T (isFitWord w)
+  isFitWord-never e = →isFitWord w (inl e)
+
+  pub isFitWord-far : 1024000000000 ≤ w → (w ≡ allOnes → ⊥) → isFitWord w ≡ false
+  unfolding isFitWord
+  isFitWord-far h other = rw (ne-eqb w allOnes other, le-ltb (w / 1024) cutTime (omega arith)) refl
+
+-- something unfit below a count
+unfit-here : (a b n : ℕ) (f : ℕ → Bool) (i : ℕ) → i < n → f i ≡ false → true ≡ (ltb a b || anyBelow n (λ i. not (f i)))
+unfit-here a b n f i h e = rw (anyBelow-here n (λ i. not (f i)) i h (ap not e)) (sym (or-true (ltb a b)))
+
+module _ (m : Model) (ts : List Thread) where
+  pub isFitThread-at : (k : ℕ) → isFitThread m (threadAt ts k) ≡ isFitThread m (getD ts k noThread)
+  isFitThread-at k = ap (isFitThread m) (threadAt-at ts k)
+
+  pub isUnfitThreads-here : (k : ℕ) → k < m .t → isFitThread m (threadAt ts k) ≡ false → true ≡ isUnfitThreads m ts
+  unfolding isUnfitThreads
+  isUnfitThreads-here k h e = unfit-here (length ts) (m .t) (m .t) (λ i. isFitThread m (threadAt ts i)) k h e
+
+module _ (m : Model) (site : Site) where
+  pub isUnfitLog-above : places < site .count → true ≡ isUnfitLog m site
+  unfolding isUnfitLog
+  isUnfitLog-above h = rw (lt-ltb places (site .count) h) refl
+
+  pub isUnfitLog-here : (i : ℕ) → i < site .count → isFitPair m (placeOf site i) ≡ false → true ≡ isUnfitLog m site
+  unfolding isUnfitLog
+  isUnfitLog-here i h e = unfit-here places (site .count) (site .count) (λ i. isFitPair m (placeOf site i)) i h e
+
+module _ (m : Model) (ws : List ℕ) where
+  pub isUnfitWords-short : length ws < m .n * m .n → true ≡ isUnfitWords m ws
+  unfolding isUnfitWords
+  isUnfitWords-short h = rw (lt-ltb (length ws) (m .n * m .n) h) refl
+
+  pub isUnfitWords-here : (i : ℕ) → i < m .n * m .n → isFitWord (getD ws i 0) ≡ false → true ≡ isUnfitWords m ws
+  unfolding isUnfitWords
+  isUnfitWords-here i h e = unfit-here (length ws) (m .n * m .n) (m .n * m .n) (λ i. isFitWord (getD ws i 0)) i h e
+
+-- N × N fits a word
+pub square-fits : (n : ℕ) → n < 256 → n * n ≤ 65536
+square-fits n h = mul-le-mul {n₁ = n} {m₁ = n} {n₂ = 256} {m₂ = 256} (le-of-lt h) (le-of-lt h)
+
+-- the parts of a state, one after the other
+module _ (m : Model) (ws : List ℕ) (site : Site) (ts : List Thread) where
+  pub isUnfitState-threads : true ≡ isUnfitThreads m ts → true ≡ (isUnfitThreads m ts || (isUnfitLog m site || isUnfitWords m ws))
+  isUnfitState-threads p = rw (← p) refl
+
+  pub isUnfitState-log : false ≡ isUnfitThreads m ts → true ≡ isUnfitLog m site → true ≡ (isUnfitThreads m ts || (isUnfitLog m site || isUnfitWords m ws))
+  isUnfitState-log p q = rw (← p, ← q) refl
+
+  pub isUnfitState-words : (r : Bool) → false ≡ isUnfitThreads m ts → false ≡ isUnfitLog m site → r ≡ isUnfitWords m ws → r ≡ (isUnfitThreads m ts || (isUnfitLog m site || isUnfitWords m ws))
+  isUnfitState-words r p q e = rw (← p, ← q) e
+
+  pub isUnfit-model : (modelFault m ≡ 0 → ⊥) → true ≡ isUnfit m ws site ts
+  unfolding isUnfit
+  isUnfit-model broken = rw (ne-eqb (modelFault m) 0 broken) refl
+
+  pub isUnfit-state : (r : Bool) → modelFault m ≡ 0 → r ≡ (isUnfitThreads m ts || (isUnfitLog m site || isUnfitWords m ws)) → r ≡ isUnfit m ws site ts
+  unfolding isUnfit
+  isUnfit-state r kept e = rw (eq-eqb (modelFault m) 0 kept) e

@@ -1,0 +1,34 @@
+-- `early_fit::is_unfit` meets its contract: the model first, then the state.
+use mathlib.Core.Path.{refl, sym, _∙_}
+use native.Mathlib.Omega.{arith}
+use Rattle.model_rules.proofs.RuleLaws.{modelFault-counts}
+use Rattle.early_fit.proofs.FitnessLaws.{isUnfit-model, isUnfit-state}
+use borrow.Author.Needs.{needs}
+use Rattle.early_fit.proofs.is_unfit.Statement.{statement}
+use Rattle.early_fit.proofs.is_unfit.Tie as tie
+
+model-fault-requires : tie.Need-model-fault-requires
+model-fault-requires c κs = search needs
+
+returns : tie.Need-returns
+returns c =
+    let x = c .before .before .before .args in
+    isUnfit-model (x .m) (x .words .now) (x .site) (x .threads .at) (λ e. omega arith)
+
+is-unfit-state-requires : tie.Need-is-unfit-state-requires
+is-unfit-state-requires c κs = modelFault-counts (c .before .before .before .args .m) (sym (c .before .model-fault .ensures) ∙ c .if1 .left) .threads
+
+returns-2 : tie.Need-returns-2
+returns-2 c =
+    let x = c .before .before .before .before .args in
+    isUnfit-state
+    (x .m)
+    (x .words .now)
+    (x .site)
+    (x .threads .at)
+    _
+    (sym (c .before .before .model-fault .ensures) ∙ c .before .if1 .left)
+    (c .is-unfit-state .ensures (x .m) refl refl refl)
+
+pub is-unfit-spec : {M : Type 1} → statement M
+is-unfit-spec = tie.close (tie.spec model-fault-requires returns is-unfit-state-requires returns-2)

@@ -1,0 +1,79 @@
+-- `early_fit::is_unfit_threads` meets its contract. The invariant: the first k records are fit.
+use Prim.Native.Nat.{ℕ, _≤_, _<_, _-_}
+use mathlib.Core.Path.{_≡_, sym, _∙_}
+use native.Mathlib.Omega.{arith}
+use lib.Dec.{T}
+use borrow.Author.Count.{below-none, below-more}
+use borrow.Author.Needs.{needs}
+use borrow.Author.Tests.{not-true, not-false}
+use Rattle.base.proofs.BoolLaws.{true→T}
+use Rattle.model.specs.declared.Model.{Model}
+use Rattle.model.specs.Record.{threadAt}
+use Rattle.early.specs.Fit.{isFitThread}
+use Rattle.early_laws.proofs.FitLaws.{→isUnfitThreads}
+use Rattle.early_fit.proofs.LengthLaws.{threads-length}
+use Rattle.early_fit.proofs.FitnessLaws.{isFitThread-at, isUnfitThreads-here}
+use Rattle.early_fit.proofs.is_unfit_threads.Statement.{statement}
+use Rattle.early_fit.proofs.is_unfit_threads.Tie as tie
+
+abbrev Inv-loop : tie.InvT-loop
+Inv-loop t n e threads count k₀ k = (k ≤ count) × ((m : Model) → m .n ≡ n → m .e ≡ e → (i : ℕ) → i < k → T (isFitThread m (threadAt (threads .at) i)))
+
+abbrev μ-loop : tie.MeasureT-loop
+μ-loop t n e threads count k₀ k = count - k
+
+wide-requires : tie.Need-wide-requires Inv-loop μ-loop
+wide-requires c κs = search needs
+
+loop-holds : tie.Need-loop-holds Inv-loop μ-loop
+loop-holds c = (omega arith, λ m p q. below-none _)
+
+mul-x : tie.Need-mul-x Inv-loop μ-loop
+mul-x c = search needs
+
+element-copy-out-x : tie.Need-element-copy-out-x Inv-loop μ-loop
+element-copy-out-x c = search needs
+
+add-k : tie.Need-add-k Inv-loop μ-loop
+add-k c = search needs
+
+is-fit-thread-requires : tie.Need-is-fit-thread-requires Inv-loop μ-loop
+is-fit-thread-requires c κs = search needs
+
+returns : tie.Need-returns Inv-loop μ-loop
+returns c =
+    let x = c .before .before .before .before .before .before .args in
+    let k = c .before .before .before .before .loop .k in
+    λ m o p q. isUnfitThreads-here m (x .t1 .at) k (omega arith) (isFitThread-at m (x .t1 .at) k ∙ sym (c .before .is-fit-thread .ensures m p q) ∙ not-true _ (c .if1 .taken))
+
+loop-less : tie.Need-loop-less Inv-loop μ-loop
+loop-less c = search needs
+
+loop-again : tie.Need-loop-again Inv-loop μ-loop
+loop-again c =
+    let x = c .before .before .before .before .before .before .args in
+    let l = c .before .before .before .before .loop in
+    (omega arith, λ m p q. below-more _ _ (l .inv .1 m p q) (true→T _ (isFitThread-at m (x .t1 .at) (l .k) ∙ sym (c .before .is-fit-thread .ensures m p q) ∙ not-false _ (c .if1 .left))))
+
+returns-2 : tie.Need-returns-2 Inv-loop μ-loop
+returns-2 c =
+    let x = c .before .before .before .args in
+    let size = threads-length (x .t1) _ (c .before .before .before .good .0) in
+    λ m o p q. sym (→isUnfitThreads m (x .t1 .at) (omega arith) (λ i h. c .before .loop .inv .1 m p q i (omega arith)))
+
+pub is-unfit-threads-spec : {M : Type 1} → statement M
+is-unfit-threads-spec =
+    tie.close
+    (tie.spec
+    Inv-loop
+    μ-loop
+    wide-requires
+    loop-holds
+    mul-x
+    element-copy-out-x
+    add-k
+    is-fit-thread-requires
+    returns
+    loop-less
+    loop-again
+    returns-2)

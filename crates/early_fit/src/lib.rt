@@ -1,0 +1,165 @@
+// Document 01, "Numbers of refusal": 11 in a request.
+use clock::Cycle;
+use early::Notification;
+use early::Site;
+use model::Model;
+use model::State;
+use model::Thread;
+use model::Threads;
+ghost use mathlib.Core.Path.{_≡_};
+ghost use mathlib.Core.Bool.{_&&_, _||_};
+ghost use Prim.Native.Nat.{_*_, _≤_};
+ghost use lib.ListN.{length};
+ghost use Rattle.model.specs.declared.Model.{Model};
+ghost use Rattle.model.specs.Limits.{recordTime};
+ghost use Rattle.model.specs.Record.{cycleOf, awaitedBy};
+ghost use Rattle.early.specs.Fit.{isFitCycle, isFitWait, isFitThread, isFitPair, isUnfitThreads, isUnfitLog, isUnfitWords, isUnfit};
+
+// Document 01: "record time of 2,000,000,000 or more".
+const RECORD_TIME: u64 = 2000000000;
+
+// Document 01: "log time of 1,000,000,000 or more".
+const CUT_TIME: u64 = 1000000000;
+
+// A word of 1,000,000,000 units, and all ones.
+const FAR: u64 = 1024000000000;
+
+const NEVER: u64 = 18446744073709551615;
+
+fn wide(x: u8) -> usize
+    ensures { λ r. ⌜ r ≡ x ⌝ }
+{
+    x as usize
+}
+
+// A time below the limit, and no "delta above 1,023".
+fn is_fit_cycle(c: Cycle, limit: u64) -> bool
+    ensures { λ r. ⌜ r ≡ isFitCycle limit c ⌝ }
+{
+    if c.time.0 < limit {
+        return c.delta.0 <= 1023;
+    }
+    false
+}
+
+// The cycle of a state, whichever it is, and the event that it waits on, one of e.
+fn is_fit_state(state: State, e: u8) -> bool
+    ensures { λ r. ⌜ ((m : Model) → m .e ≡ e → r ≡ (isFitCycle recordTime (cycleOf state) && isFitWait m (awaitedBy state))) ⌝ }
+{
+    match state {
+        State::Ended(c) => is_fit_cycle(c, RECORD_TIME),
+        State::Overrun(c) => is_fit_cycle(c, RECORD_TIME),
+        State::Ready(c) => is_fit_cycle(c, RECORD_TIME),
+        State::Waiting(w, c) => {
+            if is_fit_cycle(c, RECORD_TIME) {
+                return w < e;
+            }
+            false
+        }
+    }
+}
+
+// No "segment not below N".
+fn is_fit_thread(x: Thread, n: u8, e: u8) -> bool
+    ensures { λ r. ⌜ ((m : Model) → m .n ≡ n → m .e ≡ e → r ≡ isFitThread m x) ⌝ }
+{
+    let state = x.state;
+    if x.segment < n {
+        return is_fit_state(state, e);
+    }
+    false
+}
+
+// No "event not below E" in the log.
+fn is_fit_pair(x: Notification, e: u8) -> bool
+    ensures { λ r. ⌜ ((m : Model) → m .e ≡ e → r ≡ isFitPair m x) ⌝ }
+{
+    let c = x.cycle;
+    if x.event < e {
+        return is_fit_cycle(c, CUT_TIME);
+    }
+    false
+}
+
+// The records of the first t threads.
+fn is_unfit_threads(threads: Threads, t: u8, n: u8, e: u8) -> bool
+    requires { ⌜ t ≤ 32 ⌝ }
+    ensures { λ r. ⌜ ((m : Model) → m .t ≡ t → m .n ≡ n → m .e ≡ e → r ≡ isUnfitThreads m (threads .at)) ⌝ }
+{
+    let count = wide(t);
+    let mut k = 0;
+    while k < count {
+        let x = threads.at[k];
+        k += 1;
+        if !is_fit_thread(x, n, e) {
+            return true;
+        }
+    }
+    false
+}
+
+// The places below the count, "log count above 128" first.
+fn is_unfit_log(site: Site, e: u8) -> bool
+    ensures { λ r. ⌜ ((m : Model) → m .e ≡ e → r ≡ isUnfitLog m site) ⌝ }
+{
+    let count = wide(site.count);
+    if 128 < count {
+        return true;
+    }
+    let mut i = 0;
+    while i < count {
+        let x = site.log[i];
+        i += 1;
+        if !is_fit_pair(x, e) {
+            return true;
+        }
+    }
+    false
+}
+
+// The first N × N words: "all ones apart, with time 1,000,000,000 or more".
+fn is_unfit_words(words: &[u64], count: usize) -> bool
+    requires { ⌜ count ≤ length (now words) ⌝ }
+    ensures { λ r. ⌜ ((m : Model) → m .n * m .n ≡ count → r ≡ isUnfitWords m (now (words .entry))) ⌝ }
+{
+    let mut i = 0;
+    while i < count {
+        let w = words[i];
+        i += 1;
+        if w >= FAR {
+            if w != NEVER {
+                return true;
+            }
+        }
+    }
+    false
+}
+
+// The parts of a state, under a model of t threads, n segments and e events.
+fn is_unfit_state(words: &[u64], site: Site, threads: Threads, t: u8, n: u8, e: u8) -> bool
+    requires { ⌜ t ≤ 32 ⌝ }
+    ensures { λ r. ⌜ ((m : Model) → m .t ≡ t → m .n ≡ n → m .e ≡ e → r ≡ (isUnfitThreads m (threads .at) || (isUnfitLog m site || isUnfitWords m (now (words .entry))))) ⌝ }
+{
+    if is_unfit_threads(threads, t, n, e) {
+        return true;
+    }
+    if is_unfit_log(site, e) {
+        return true;
+    }
+    let row = wide(n);
+    let count = row * row;
+    if words.len() < count {
+        return true;
+    }
+    is_unfit_words(words, count)
+}
+
+// Whether 11 applies: a held model against the file rules, or a state that does not fit it.
+pub fn is_unfit(m: Model, words: &[u64], site: Site, threads: Threads) -> bool
+    ensures { λ r. ⌜ r ≡ isUnfit m (now (words .entry)) site (threads .at) ⌝ }
+{
+    if model_rules::model_fault(m) != 0 {
+        return true;
+    }
+    is_unfit_state(words, site, threads, m.t, m.n, m.e)
+}

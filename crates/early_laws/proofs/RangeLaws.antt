@@ -1,0 +1,227 @@
+-- How large bounds grow on a fit state: each link adds a distance below 1,000,000,000 units and at most 1,024 deltas, and there are at most T of them.
+-- So times stay below 34,000,000,000 and deltas at most 33,792 (35,000,000,000 and 34,815 with a distance more), and 64 and 32 bits hold them.
+use Prim.Native.Nat.{ℕ, zero, suc, _+_, _*_, _<_, _≤_, _/_, _%_, _^_}
+use mathlib.Core.Path.{_≡_, refl, sym, subst}
+use mathlib.Core.Logic.{_⊎_, inl, inr}
+use mathlib.Core.Bool.{not}
+use mathlib.Core.List.{List}
+use native.Mathlib.Omega.{arith}
+use native.Mathlib.Nat.{suc-mul, mul-le-mul-right}
+use lib.Dec.{T, eqb, T-not}
+use lib.ListN.{getD}
+use Rattle.base.proofs.BoolLaws.{cond-case, eq→eqb}
+use Rattle.clock.specs.declared.Cycle.{Cycle}
+use Rattle.clock.specs.declared.Bound.{Bound}
+use Rattle.clock.specs.declared.Bound.the-variants.{Never, At}
+use Rattle.clock.specs.Wait.{lastDelta}
+use Rattle.clock.specs.Advance.{least, leastBelow, deltaAfter, plusOf, _⊕_, oneDelta}
+use Rattle.clock.proofs.LeastLaws.{least-case, leastBelow-one}
+use Rattle.clock.proofs.AdvanceLaws.{SmallBound, ⊕-oneDelta, Never-⊕}
+use Rattle.model.specs.declared.Model.{Model}
+use Rattle.model.specs.declared.State.{State}
+use Rattle.model.specs.declared.State.the-variants.{Ended, Overrun, Ready, Waiting}
+use Rattle.model.specs.declared.Thread.{Thread}
+use Rattle.model.specs.Limits.{cutTime, recordTime}
+use Rattle.model.specs.Record.{threadAt, cycleOf}
+use Rattle.tables.specs.Word.{allOnes, boundOf, distanceIn}
+use Rattle.early.specs.declared.Notification.{Notification}
+use Rattle.early.specs.Log.{pairOf, leastHeard}
+use Rattle.early.specs.Earliest.{sourceOf, soonestNotify, linkTo, earliestOf}
+use Rattle.early.specs.Fit.{isFitThread, isFitWord}
+use Rattle.early_laws.proofs.LogLaws.{In, leastHeard-at}
+use Rattle.early_laws.proofs.LinkLaws.{sourceOf-ready, sourceOf-waiting, sourceOf-idle, soonestNotify-one, linkTo-case}
+use Rattle.early_laws.proofs.EarliestLaws.{earliestAt, linkedAt, withLinks-none, withLinks-more}
+use Rattle.early_laws.proofs.FitLaws.{FitCycle, isFitThread→, FitPair, isFitWord→, FitWord}
+
+-- a time below t, a delta at most d; never is within everything
+abbrev pub Within : ℕ → ℕ → Bound → Type 0
+Within t d Never = Unit {0}
+Within t d (At c) = (c .time .0 < t) × (c .delta .0 ≤ d)
+
+pub within-more : (t d t2 d2 : ℕ) (b : Bound) → t ≤ t2 → d ≤ d2 → Within t d b → Within t2 d2 b
+within-more t d t2 d2 Never p q w = tt
+within-more t d t2 d2 (At c) p q w = (omega arith, omega arith)
+
+pub within-small : (t d : ℕ) (b : Bound) → t ≤ 2 ^ 64 → d < 2 ^ 32 → Within t d b → SmallBound b
+within-small t d Never p q w = tt
+within-small t d (At c) p q w = (omega arith, omega arith)
+
+pub within-least : (t d : ℕ) (a b : Bound) → Within t d a → Within t d b → Within t d (least a b)
+within-least t d a b p q = least-case (Within t d) a b p q
+
+pub within-leastBelow : (t d n : ℕ) (f : ℕ → Bound) → ((i : ℕ) → i < n → Within t d (f i)) → Within t d (leastBelow n f)
+within-leastBelow t d n f all = go (leastBelow-one n f)
+  where
+    go : (leastBelow n f ≡ Never) ⊎ ((i : ℕ) × (i < n) × (leastBelow n f ≡ f i)) → Within t d (leastBelow n f)
+    go (inl e) = subst (Within t d) (sym e) tt
+    go (inr (i, h, e)) = subst (Within t d) (sym e) (all i h)
+
+deltaAfter-≤ : (t d : ℕ) → deltaAfter t d ≤ d
+unfolding deltaAfter
+deltaAfter-≤ zero d = omega arith
+deltaAfter-≤ (suc t) d = omega arith
+
+pub within-⊕ : (t d t2 d2 : ℕ) (a b : Bound) → Within t d a → Within t2 d2 b → Within (t + t2) (d + d2) (a ⊕ b)
+unfolding _⊕_ plusOf
+within-⊕ t d t2 d2 Never b p q = tt
+within-⊕ t d t2 d2 (At a) Never p q = tt
+within-⊕ t d t2 d2 (At a) (At w) p q = (omega arith, omega (arith, deltaAfter-≤ (w .time .0) (a .delta .0)))
+
+pub within-oneDelta : (t d : ℕ) (a : Bound) → Within t d a → Within t (d + 1) (a ⊕ oneDelta)
+within-oneDelta t d Never p = rw (Never-⊕ oneDelta) tt
+within-oneDelta t d (At a) p = rw (⊕-oneDelta a) (omega arith)
+
+-- a fit word
+pub within-word : (w : ℕ) → T (isFitWord w) → Within cutTime lastDelta (boundOf w)
+unfolding boundOf
+within-word w f =
+    cond-case
+    (Within cutTime lastDelta)
+    (eqb w allOnes)
+    (λ t. tt)
+    (λ t. go t (isFitWord→ w f))
+  where
+    go : T (not (eqb w allOnes)) → FitWord w → (w / 1024 < cutTime) × (w % 1024 ≤ lastDelta)
+    go t (inl e) = absurd (T-not (eqb w allOnes) t (eq→eqb w allOnes e))
+    go t (inr h) = (h, omega arith)
+
+-- fit records, a fit log and fit words
+module _ (m : Model) (ws : List ℕ) (l : List Notification) (ts : List Thread)
+    (fit-threads : (k : ℕ) → k < m .t → T (isFitThread m (threadAt ts k)))
+    (fit-log : (x : Notification) → In x l → FitPair m x)
+    (fit-words : (i : ℕ) → i < m .n * m .n → T (isFitWord (getD ws i 0)))
+  where
+    -- the word from r to s stands among the N × N
+    pub within-distance : (r s : ℕ) → r < m .n → s < m .n → Within cutTime lastDelta (distanceIn m ws r s)
+    unfolding distanceIn
+    within-distance r s p q =
+        within-word
+        (getD ws (r * m .n + s) 0)
+        (fit-words (r * m .n + s) (omega (arith, suc-mul r (m .n), mul-le-mul-right (m .n) p)))
+
+    pub within-heard : (e : ℕ) (since : Cycle) → Within cutTime lastDelta (leastHeard l e since)
+    within-heard e since = go (leastHeard l e since) refl
+      where
+        go : (b : Bound) → leastHeard l e since ≡ b → Within cutTime lastDelta b
+        go Never f = tt
+        go (At c) f =
+            let fits = fit-log (pairOf e c) (leastHeard-at l e since c f .0) in
+            (fits .cycle .time, fits .cycle .delta)
+
+    within-source : (k : ℕ) → k < m .t → Within recordTime 1024 (sourceOf l (threadAt ts k .state))
+    within-source k h = go (threadAt ts k .state) (isFitThread→ m (threadAt ts k) (fit-threads k h) .cycle)
+      where
+        go : (s : State) → FitCycle recordTime (cycleOf s) → Within recordTime 1024 (sourceOf l s)
+        go (Ended c) f = rw (sourceOf-idle l (Ended c) tt) tt
+        go (Overrun c) f = rw (sourceOf-idle l (Overrun c) tt) tt
+        go (Ready c) f = rw (sourceOf-ready l c) (omega arith)
+        go (Waiting e since) f =
+            rw
+            (sourceOf-waiting l e since)
+            (within-more
+            cutTime
+            (lastDelta + 1)
+            recordTime
+            1024
+            (leastHeard l e since ⊕ oneDelta)
+            (omega arith)
+            (omega arith)
+            (within-oneDelta cutTime lastDelta (leastHeard l e since) (within-heard e since)))
+
+    -- a bound plus the distance to a segment, from the segment that a thread is in
+    pub within-sum : (t d : ℕ) (x : Bound) (k s : ℕ) → k < m .t → s < m .n → Within t d x → Within (t + cutTime) (d + lastDelta) (x ⊕ distanceIn m ws (threadAt ts k .segment) s)
+    within-sum t d x k s h p w =
+        within-⊕
+        t
+        d
+        cutTime
+        lastDelta
+        x
+        (distanceIn m ws (threadAt ts k .segment) s)
+        w
+        (within-distance (threadAt ts k .segment) s (isFitThread→ m (threadAt ts k) (fit-threads k h) .segment) p)
+
+    pub within-notify : (t d : ℕ) (x : Bound) (k e : ℕ) → k < m .t → Within t d x → Within (t + cutTime) (d + lastDelta) (soonestNotify m ws ts k x e)
+    within-notify t d x k e h w = go (soonestNotify m ws ts k x e) refl
+      where
+        go : (b : Bound) → soonestNotify m ws ts k x e ≡ b → Within (t + cutTime) (d + lastDelta) b
+        go Never f = tt
+        go (At b) f =
+            let (live, (s, p, u, g)) = soonestNotify-one m ws ts k x e b f in
+            subst (Within (t + cutTime) (d + lastDelta)) g (within-sum t d x k s h p w)
+
+    pub within-link : (t d : ℕ) (x : Bound) (j k : ℕ) → j < m .t → Within t d x → Within (t + cutTime) (d + 1024) (linkTo m ws ts j k x)
+    within-link t d x j k h w =
+        linkTo-case
+        m
+        ws
+        ts
+        j
+        k
+        (λ (f : Bound → Bound). Within (t + cutTime) (d + 1024) (f x))
+        tt
+        (λ e.
+        within-more
+        (t + cutTime)
+        (d + lastDelta + 1)
+        (t + cutTime)
+        (d + 1024)
+        (soonestNotify m ws ts j x e ⊕ oneDelta)
+        (omega arith)
+        (omega arith)
+        (within-oneDelta (t + cutTime) (d + lastDelta) (soonestNotify m ws ts j x e) (within-notify t d x j e h w)))
+
+    -- after i rounds
+    pub within-links : (i k : ℕ) → k < m .t → Within (recordTime + i * cutTime) (1024 + i * 1024) (linkedAt m ws l ts i k)
+    within-links zero k h =
+        rw
+        (withLinks-none m ws l ts k h)
+        (within-more recordTime 1024 (recordTime + 0 * cutTime) (1024 + 0 * 1024) (sourceOf l (threadAt ts k .state)) (omega arith) (omega arith) (within-source k h))
+    within-links (suc i) k h =
+        rw
+        (withLinks-more m ws l ts i k h)
+        (within-least
+        (recordTime + suc i * cutTime)
+        (1024 + suc i * 1024)
+        (linkedAt m ws l ts i k)
+        (leastBelow (m .t) (λ j. linkTo m ws ts j k (linkedAt m ws l ts i j)))
+        (grown (linkedAt m ws l ts i k) (within-links i k h))
+        (within-leastBelow
+        (recordTime + suc i * cutTime)
+        (1024 + suc i * 1024)
+        (m .t)
+        (λ j. linkTo m ws ts j k (linkedAt m ws l ts i j))
+        (λ j p.
+        within-more
+        (recordTime + i * cutTime + cutTime)
+        (1024 + i * 1024 + 1024)
+        (recordTime + suc i * cutTime)
+        (1024 + suc i * 1024)
+        (linkTo m ws ts j k (linkedAt m ws l ts i j))
+        (omega arith)
+        (omega arith)
+        (within-link (recordTime + i * cutTime) (1024 + i * 1024) (linkedAt m ws l ts i j) j k p (within-links i j p)))))
+      where
+        grown : (b : Bound) → Within (recordTime + i * cutTime) (1024 + i * 1024) b → Within (recordTime + suc i * cutTime) (1024 + suc i * 1024) b
+        grown b w = within-more (recordTime + i * cutTime) (1024 + i * 1024) (recordTime + suc i * cutTime) (1024 + suc i * 1024) b (omega arith) (omega arith) w
+
+    -- with at most 32 threads, after at most 32 rounds; earliest is the last of them
+    pub links-small : (i k : ℕ) → i ≤ 32 → k < m .t → Within 34000000000 33792 (linkedAt m ws l ts i k)
+    links-small i k p h =
+        within-more
+        (recordTime + i * cutTime)
+        (1024 + i * 1024)
+        34000000000
+        33792
+        (linkedAt m ws l ts i k)
+        (omega arith)
+        (omega arith)
+        (within-links i k h)
+
+    pub earliest-small : (k : ℕ) → m .t ≤ 32 → k < m .t → Within 34000000000 33792 (earliestAt m ws l ts k)
+    unfolding earliestOf
+    earliest-small k p h = links-small (m .t) k p h
+
+    -- earliest plus distance
+    pub sum-small : (k s : ℕ) → m .t ≤ 32 → k < m .t → s < m .n → Within 35000000000 34815 (earliestAt m ws l ts k ⊕ distanceIn m ws (threadAt ts k .segment) s)
+    sum-small k s p h q = within-sum 34000000000 33792 (earliestAt m ws l ts k) k s h q (earliest-small k p h)

@@ -1,0 +1,190 @@
+-- The records that are moved are those of the threads, and the request on them, moved back, is the request on the whole slice.
+--     movedOf-le     no more are moved than are lent, nor than are held by value
+--     stored-length     a slice keeps its length
+--     moved-asked, moved-back     the answer and the state, and the records that the slice is left with
+--     lent-short, lent-enough     the exits of `request_of`
+use Prim.Native.Nat.{ℕ, zero, suc, _<_, _≤_}
+use mathlib.Core.Path.{_≡_, refl, ap, sym, _∙_}
+use mathlib.Core.Bool.{Bool, cond}
+use mathlib.Core.List.{List}
+use native.Mathlib.Omega.{arith}
+use native.Mathlib.Decide.{decLt, ℕ-discrete}
+use lib.Dec.{ltb}
+use lib.ListN.{length, getD, set, length-set, length-replicate}
+use lib.Seq.{getD-set-same, getD-set-other, ext-getD}
+use borrow.Author.Tests.{lt-ltb, le-ltb}
+use Rattle.model.specs.declared.Model.{Model}
+use Rattle.model.specs.declared.Thread.{Thread}
+use Rattle.model.specs.declared.Threads.{Threads}
+use Rattle.model.specs.Record.{noThread, threadAt}
+use Rattle.model.specs.Refusal.{accepted, unfit}
+use Rattle.model.specs.Rules.{modelFault}
+use Rattle.model_rules.proofs.RuleLaws.{modelFault-counts}
+use Rattle.early.specs.declared.Site.{Site}
+use Rattle.early.specs.declared.After.{After}
+use Rattle.early.specs.declared.Answer.the-variants.{Refused}
+use Rattle.early.specs.Request.{Requested, refusedWith, requestOf}
+use Rattle.early_request.specs.After.{afterOf}
+use Rattle.early_lent.specs.declared.Done.{Done}
+use Rattle.early_lent.specs.Answered.{askedOf}
+use Rattle.early_lent.specs.Moved.{takenAt, loaded, stored, noThreads, smallerOf, movedOf, requestLent, doneOf}
+use Rattle.early_lent.proofs.PlaceLaws.{Agree}
+use Rattle.early_lent.proofs.RequestLaws.{AlikeAfter, requestOf-alike, requestOf-past, requestOf-length, requestOf-short, requestOf-faulty}
+
+smallerOf-lt : (a b : ℕ) → a < b → smallerOf a b ≡ a
+smallerOf-lt a b h = rw (lt-ltb a b h) refl
+
+smallerOf-ge : (a b : ℕ) → b ≤ a → smallerOf a b ≡ b
+smallerOf-ge a b h = rw (le-ltb a b h) refl
+
+smallerOf-le : (a b : ℕ) → (smallerOf a b ≤ a) × (smallerOf a b ≤ b)
+smallerOf-le a b = go (decLt a b)
+  where
+    go : Dec (a < b) → (smallerOf a b ≤ a) × (smallerOf a b ≤ b)
+    go (yes h) = rw (lt-ltb a b h) (omega arith, omega arith)
+    go (no h) = rw (le-ltb a b (omega arith)) (omega arith, omega arith)
+
+pub movedOf-le : (lent t : ℕ) → (movedOf lent t ≤ lent) × (movedOf lent t ≤ 32)
+movedOf-le lent t =
+    let (p, q) = smallerOf-le lent (smallerOf t 32) in
+    let (u, v) = smallerOf-le t 32 in
+    (p, omega arith)
+
+-- where all threads' records are lent, those are moved
+movedOf-all : (lent t : ℕ) → t ≤ lent → t ≤ 32 → movedOf lent t ≡ t
+movedOf-all lent t h few = go (decLt t 32)
+  where
+    inner : Dec (t < 32) → smallerOf t 32 ≡ t
+    inner (yes p) = smallerOf-lt t 32 p
+    inner (no p) = smallerOf-ge t 32 (omega arith) ∙ omega arith
+
+    go : Dec (t < 32) → movedOf lent t ≡ t
+    go c = ap (smallerOf lent) (inner c) ∙ smallerOf-ge lent t h
+
+-- records moved out of a slice
+
+loaded-length : (ts : List Thread) (n : ℕ) (to : Threads) → length (loaded ts n to .at) ≡ length (to .at)
+loaded-length ts zero to = refl
+loaded-length ts (suc n) to = length-set (loaded ts n to .at) n (getD ts n noThread) ∙ loaded-length ts n to
+
+loaded-at : (ts : List Thread) (n : ℕ) (to : Threads) (j : ℕ) → j < n → n ≤ length (to .at) → getD (loaded ts n to .at) j noThread ≡ getD ts j noThread
+loaded-at ts zero to j h few = absurd (omega arith)
+loaded-at ts (suc n) to j h few = go (λ l. loaded-at ts n to j l (omega arith)) (ℕ-discrete j n)
+  where
+    go : (j < n → getD (loaded ts n to .at) j noThread ≡ getD ts j noThread) → Dec (j ≡ n) → getD (set (loaded ts n to .at) n (getD ts n noThread)) j noThread ≡ getD ts j noThread
+    go ih (yes e) = rw e (getD-set-same (loaded ts n to .at) n (getD ts n noThread) noThread (omega (arith, loaded-length ts n to)))
+    go ih (no e) = getD-set-other (loaded ts n to .at) n j (getD ts n noThread) noThread e ∙ ih (omega arith)
+
+-- and into it
+
+pub stored-length : (ts : List Thread) (n : ℕ) (from : Threads) → length (stored ts n from) ≡ length ts
+stored-length ts zero from = refl
+stored-length ts (suc n) from = length-set (stored ts n from) n (takenAt from n) ∙ stored-length ts n from
+
+stored-at : (ts : List Thread) (n : ℕ) (from : Threads) (j : ℕ) → j < n → n ≤ length ts → getD (stored ts n from) j noThread ≡ takenAt from j
+stored-at ts zero from j h few = absurd (omega arith)
+stored-at ts (suc n) from j h few = go (λ l. stored-at ts n from j l (omega arith)) (ℕ-discrete j n)
+  where
+    go : (j < n → getD (stored ts n from) j noThread ≡ takenAt from j) → Dec (j ≡ n) → getD (set (stored ts n from) n (takenAt from n)) j noThread ≡ takenAt from j
+    go ih (yes e) = rw e (getD-set-same (stored ts n from) n (takenAt from n) noThread (omega (arith, stored-length ts n from)))
+    go ih (no e) = getD-set-other (stored ts n from) n j (takenAt from n) noThread e ∙ ih (omega arith)
+
+stored-past : (ts : List Thread) (n : ℕ) (from : Threads) (j : ℕ) → n ≤ j → getD (stored ts n from) j noThread ≡ getD ts j noThread
+stored-past ts zero from j h = refl
+stored-past ts (suc n) from j h = getD-set-other (stored ts n from) n j (takenAt from n) noThread (λ e. omega arith) ∙ stored-past ts n from j (omega arith)
+
+-- a slice that is stored to is us, where its moved records and the others are those of us
+stored-is : (ts us : List Thread) (n : ℕ) (from : Threads) → n ≤ length ts → length us ≡ length ts
+    → ((j : ℕ) → j < n → takenAt from j ≡ getD us j noThread) → ((j : ℕ) → n ≤ j → getD ts j noThread ≡ getD us j noThread) → stored ts n from ≡ us
+stored-is ts us n from few long moved rest = ext-getD noThread (stored ts n from) us (stored-length ts n from ∙ sym long) (λ j h. go j (decLt j n))
+  where
+    go : (j : ℕ) → Dec (j < n) → getD (stored ts n from) j noThread ≡ getD us j noThread
+    go j (yes h) = stored-at ts n from j h few ∙ moved j h
+    go j (no h) = stored-past ts n from j (omega arith) ∙ rest j (omega arith)
+
+module _ (m : Model) (marks : List (List Bool)) (ws : List ℕ) (site : Site) (ts : List Thread) (k : ℕ) where
+  abbrev n : ℕ
+  n = movedOf (length ts) (m .t)
+
+  abbrev before : Threads
+  before = loaded ts n noThreads
+
+  taken : (j : ℕ) → j < n → getD (before .at) j noThread ≡ getD ts j noThread
+  taken j h = loaded-at ts n noThreads j h (movedOf-le (length ts) (m .t) .1)
+
+  -- what the request on the moved records is to be
+  record Right (r : Requested) : Type 0 where
+    asked : askedOf r ≡ askedOf (requestOf m marks ws site ts k)
+    back : stored ts n (record { at = r .threads }) ≡ requestOf m marks ws site ts k .threads
+
+  -- 11, and all as handed in
+  refused-right : requestOf m marks ws site ts k ≡ refusedWith unfit site ts → Right (refusedWith unfit site (before .at))
+  refused-right e =
+      record {
+        asked = rw e refl;
+        back = rw e (stored-is ts ts n before (movedOf-le (length ts) (m .t) .0) refl (λ j h. taken j h) (λ j h. refl));
+      }
+
+  module _ (enough : m .t ≤ length ts) (few : m .t ≤ 32) where
+    all : n ≡ m .t
+    all = movedOf-all (length ts) (m .t) enough few
+
+    agree : Agree m (before .at) ts
+    unfolding threadAt
+    agree =
+        record {
+          left = omega (arith, loaded-length ts n noThreads, length-replicate 32 noThread);
+          right = enough;
+          same = λ j h. taken j (omega (arith, all));
+        }
+
+    alike : AlikeAfter m (requestOf m marks ws site (before .at) k) (requestOf m marks ws site ts k)
+    alike = requestOf-alike m marks ws site k (before .at) ts agree
+
+    asked-right : Right (requestOf m marks ws site (before .at) k)
+    unfolding threadAt
+    asked-right =
+        record {
+          asked = λ i. record { answer = alike .answer i; site = alike .site i };
+          back =
+              stored-is
+              ts
+              (requestOf m marks ws site ts k .threads)
+              n
+              (record { at = requestOf m marks ws site (before .at) k .threads })
+              (movedOf-le (length ts) (m .t) .0)
+              (requestOf-length m marks ws site k ts)
+              (λ j h. alike .threads .same j (omega (arith, all)))
+              (λ j h. sym (requestOf-past m marks ws site k ts j (omega (arith, all))));
+        }
+
+  faulty-right : (modelFault m ≡ accepted → ⊥) → Right (requestOf m marks ws site (before .at) k)
+  faulty-right other = rw (requestOf-faulty m marks ws site k (before .at) other) (refused-right (requestOf-faulty m marks ws site k ts other))
+
+  lent-right : Right (requestLent m marks ws site before (length ts) k)
+  unfolding requestLent
+  lent-right = go (decLt (length ts) (m .t)) (ℕ-discrete (modelFault m) accepted)
+    where
+      go : Dec (length ts < m .t) → Dec (modelFault m ≡ accepted) → Right (cond (ltb (length ts) (m .t)) (refusedWith unfit site (before .at)) (requestOf m marks ws site (before .at) k))
+      go (yes h) kept = rw (lt-ltb (length ts) (m .t) h) (refused-right (requestOf-short m marks ws site k ts h))
+      go (no h) (yes kept) = rw (le-ltb (length ts) (m .t) (omega arith)) (asked-right (omega arith) (modelFault-counts m kept .threads))
+      go (no h) (no other) = rw (le-ltb (length ts) (m .t) (omega arith)) (faulty-right other)
+
+  pub moved-asked : doneOf (requestLent m marks ws site before (length ts) k) .asked ≡ askedOf (requestOf m marks ws site ts k)
+  unfolding doneOf
+  moved-asked = lent-right .asked
+
+  pub moved-back : stored ts n (doneOf (requestLent m marks ws site before (length ts) k) .threads) ≡ requestOf m marks ws site ts k .threads
+  unfolding doneOf
+  moved-back = lent-right .back
+
+-- the exits of the core on a slice of so many records
+module _ (m : Model) (marks : List (List Bool)) (ws : List ℕ) (site : Site) (before : Threads) (lent k : ℕ) where
+  pub lent-short : lent < m .t → _≡_ {A = Done} (record { asked = record { answer = Refused unfit; site = site }; threads = before }) (doneOf (requestLent m marks ws site before lent k))
+  unfolding requestLent doneOf
+  lent-short h = rw (lt-ltb lent (m .t) h) refl
+
+  pub lent-enough : (a : After) → m .t ≤ lent → a ≡ afterOf (requestOf m marks ws site (before .at) k)
+      → _≡_ {A = Done} (record { asked = record { answer = a .answer; site = a .site }; threads = a .threads }) (doneOf (requestLent m marks ws site before lent k))
+  unfolding requestLent doneOf afterOf
+  lent-enough a h e = rw (le-ltb lent (m .t) h, e) refl

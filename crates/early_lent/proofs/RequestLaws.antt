@@ -1,0 +1,243 @@
+-- A request does the same on lists of records that agree on the first T, and leaves every record from T on: "records past those are neither
+-- read nor written". Where fewer than T are lent, and for a model against the file rules, it is refused with 11.
+--     lookedAt-agree, swept-agree, settled-agree, closedThreads-agree, threadsAfter-agree, siteAfter-same     what stays the same
+--     swept-length, swept-past, settled-past, closedThreads-past, threadsAfter-past     what is left as it was
+--     requestOf-alike     a request: the same answer and state, and records that agree again
+--     requestOf-past, requestOf-length, requestOf-short, requestOf-faulty
+use Prim.Native.Nat.{ℕ, zero, suc, _<_, _≤_}
+use mathlib.Core.Path.{_≡_, refl, ap, sym, _∙_}
+use mathlib.Core.Bool.{Bool, true, false, cond, not, _||_}
+use mathlib.Core.List.{List}
+use native.Mathlib.Omega.{arith}
+use native.Mathlib.Decide.{ℕ-discrete}
+use lib.Dec.{T, ltb, eqb, ltb→lt}
+use lib.ListN.{length, set, length-set}
+use borrow.Author.Tests.{lt-ltb, ne-eqb}
+use Rattle.base.proofs.BoolLaws.{not-not}
+use Rattle.clock.specs.declared.Cycle.{Cycle}
+use Rattle.clock.specs.declared.Bound.{Bound}
+use Rattle.clock.specs.declared.Bound.the-variants.{Never, At}
+use Rattle.model.specs.declared.Model.{Model}
+use Rattle.model.specs.declared.Thread.{Thread}
+use Rattle.model.specs.Refusal.{accepted, wrongThread, unfit, notReady, atHorizon, hazardStands, logFull}
+use Rattle.model.specs.Limits.{isBeforeHorizon}
+use Rattle.model.specs.Record.{threadAt, readyCycle, awaitedBy}
+use Rattle.model.specs.Rules.{modelFault}
+use Rattle.plain_laws.proofs.RecordLaws.{threadAt-set, threadAt-other}
+use Rattle.early.specs.declared.Notification.{Notification}
+use Rattle.early.specs.declared.Site.{Site}
+use Rattle.early.specs.declared.Answer.the-variants.{Granted}
+use Rattle.early.specs.Log.{logOf}
+use Rattle.early.specs.Hazard.{hazard}
+use Rattle.early.specs.Deliver.{heardNow, afterHearing, lookedAt, swept, settledIn, settled}
+use Rattle.early.specs.Fit.{isUnfitThreads, isUnfitLog, isUnfitWords, isUnfit}
+use Rattle.early.specs.Grant.{effectAt, logAfter, closedThreads, threadsAfter, siteAfter}
+use Rattle.early.specs.Request.{isFull, Requested, refusedWith, grantedTo, requestAt, requestFit, requestOf}
+use Rattle.early_laws.proofs.LookLaws.{lookedAt-length, lookedAt-other}
+use Rattle.early_laws.proofs.SettleLaws.{settled-carries}
+use Rattle.early_laws.proofs.GrantLaws.{closedThreads-other, threadsAfter-length}
+use Rattle.early_laws.proofs.RequestLaws as asked
+use Rattle.early_lent.proofs.PlaceLaws.{Agree, isUnfitThreads-same, floorOf-same, heardNow-same, hazard-same, isFull-same, effectAt-same, logAfter-same}
+
+-- the same record set in both
+set-agree : (m : Model) (ts us : List Thread) (k : ℕ) (t u : Thread) → t ≡ u → Agree m ts us → Agree m (set ts k t) (set us k u)
+set-agree m ts us k t u e agree =
+    record {
+      left = rw (length-set ts k t) (agree .left);
+      right = rw (length-set us k u) (agree .right);
+      same = λ j h. go j h (ℕ-discrete j k);
+    }
+  where
+    go : (j : ℕ) → j < m .t → Dec (j ≡ k) → threadAt (set ts k t) j ≡ threadAt (set us k u) j
+    go j h (yes same) = rw same (threadAt-set ts k t (omega (arith, agree .left)) ∙ e ∙ sym (threadAt-set us k u (omega (arith, agree .right))))
+    go j h (no other) = threadAt-other ts k j t other ∙ agree .same j h ∙ sym (threadAt-other us k j u other)
+
+module _ (m : Model) (ws : List ℕ) (l : List Notification) where
+  pub lookedAt-agree : (ts us : List Thread) (k : ℕ) → k < m .t → Agree m ts us → Agree m (lookedAt m ws l ts k) (lookedAt m ws l us k)
+  unfolding lookedAt
+  lookedAt-agree ts us k h agree =
+      set-agree
+      m
+      ts
+      us
+      k
+      (record { segment = threadAt ts k .segment; state = afterHearing (heardNow m ws l ts (awaitedBy (threadAt ts k .state))) (threadAt ts k .state) })
+      (record { segment = threadAt us k .segment; state = afterHearing (heardNow m ws l us (awaitedBy (threadAt us k .state))) (threadAt us k .state) })
+      (rw (agree .same k h, heardNow-same m ts us agree ws l (awaitedBy (threadAt us k .state))) refl)
+      agree
+
+  pub swept-agree : (ts us : List Thread) (n : ℕ) → n ≤ m .t → Agree m ts us → Agree m (swept m ws l ts n) (swept m ws l us n)
+  unfolding swept
+  swept-agree ts us zero h agree = agree
+  swept-agree ts us (suc n) h agree = lookedAt-agree (swept m ws l ts n) (swept m ws l us n) n h (swept-agree ts us n (omega arith) agree)
+
+  pub swept-length : (ts : List Thread) (n : ℕ) → length (swept m ws l ts n) ≡ length ts
+  unfolding swept
+  swept-length ts zero = refl
+  swept-length ts (suc n) = lookedAt-length m ws l (swept m ws l ts n) n ∙ swept-length ts n
+
+  pub swept-past : (ts : List Thread) (n j : ℕ) → n ≤ j → threadAt (swept m ws l ts n) j ≡ threadAt ts j
+  unfolding swept
+  swept-past ts zero j past = refl
+  swept-past ts (suc n) j past = lookedAt-other m ws l (swept m ws l ts n) n j (λ same. omega arith) ∙ swept-past ts n j (omega arith)
+
+  settledIn-agree : (n : ℕ) (ts us : List Thread) → Agree m ts us → Agree m (settledIn m ws l n ts) (settledIn m ws l n us)
+  unfolding settledIn
+  settledIn-agree zero ts us agree = agree
+  settledIn-agree (suc n) ts us agree = settledIn-agree n (swept m ws l ts (m .t)) (swept m ws l us (m .t)) (swept-agree ts us (m .t) (omega arith) agree)
+
+  pub settled-agree : (ts us : List Thread) → Agree m ts us → Agree m (settled m ws l ts) (settled m ws l us)
+  unfolding settled
+  settled-agree ts us agree = settledIn-agree (m .t) ts us agree
+
+  pub settled-past : (ts : List Thread) (j : ℕ) → m .t ≤ j → threadAt (settled m ws l ts) j ≡ threadAt ts j
+  settled-past ts j past =
+      settled-carries
+      m
+      ws
+      l
+      (λ us is. threadAt us j ≡ threadAt ts j)
+      (λ us is k h e. lookedAt-other m ws l us k j (λ same. omega arith) ∙ e)
+      ts
+      refl
+
+module _ (m : Model) (site : Site) (k : ℕ) (c : Cycle) (h : k < m .t) where
+  pub closedThreads-agree : (ts us : List Thread) → Agree m ts us → Agree m (closedThreads m site ts k c) (closedThreads m site us k c)
+  unfolding closedThreads
+  closedThreads-agree ts us agree =
+      set-agree m ts us k (effectAt m site ts k c .thread) (effectAt m site us k c .thread) (rw (effectAt-same m ts us agree site k c h) refl) agree
+
+  pub closedThreads-past : (ts : List Thread) (j : ℕ) → m .t ≤ j → threadAt (closedThreads m site ts k c) j ≡ threadAt ts j
+  closedThreads-past ts j past = closedThreads-other m site ts k c j (λ same. omega arith)
+
+  module _ (ws : List ℕ) where
+    pub threadsAfter-agree : (ts us : List Thread) → Agree m ts us → Agree m (threadsAfter m ws site ts k c) (threadsAfter m ws site us k c)
+    unfolding threadsAfter
+    threadsAfter-agree ts us agree =
+        rw (logAfter-same m ts us agree site k c h)
+        (settled-agree m ws (logAfter m site us k c) (closedThreads m site ts k c) (closedThreads m site us k c) (closedThreads-agree ts us agree))
+
+    pub threadsAfter-past : (ts : List Thread) (j : ℕ) → m .t ≤ j → threadAt (threadsAfter m ws site ts k c) j ≡ threadAt ts j
+    unfolding threadsAfter
+    threadsAfter-past ts j past = settled-past m ws (logAfter m site ts k c) (closedThreads m site ts k c) j past ∙ closedThreads-past ts j past
+
+    pub siteAfter-same : (ts us : List Thread) → Agree m ts us → siteAfter m ws site ts k c ≡ siteAfter m ws site us k c
+    unfolding siteAfter
+    siteAfter-same ts us agree =
+        rw
+        (effectAt-same m ts us agree site k c h, logAfter-same m ts us agree site k c h, floorOf-same m (threadsAfter m ws site ts k c) (threadsAfter m ws site us k c) (threadsAfter-agree ts us agree))
+        refl
+
+-- what two requests leave, where the records agree
+pub record AlikeAfter (m : Model) (a b : Requested) : Type 0 where
+  pub answer : a .answer ≡ b .answer
+  pub site : a .site ≡ b .site
+  pub threads : Agree m (a .threads) (b .threads)
+
+module _ (m : Model) (marks : List (List Bool)) (ws : List ℕ) (site : Site) (k : ℕ) where
+  module _ (ts us : List Thread) (agree : Agree m ts us) where
+    refused-alike : (n : ℕ) → AlikeAfter m (refusedWith n site ts) (refusedWith n site us)
+    refused-alike n = record { answer = refl; site = refl; threads = agree }
+
+    cond-alike : (b : Bool) (x y v w : Requested) → AlikeAfter m x v → (T (not b) → AlikeAfter m y w) → AlikeAfter m (cond b x y) (cond b v w)
+    cond-alike true x y v w p q = p
+    cond-alike false x y v w p q = q tt
+
+    granted-alike : (c : Cycle) → k < m .t → AlikeAfter m (grantedTo m ws site ts k c) (grantedTo m ws site us k c)
+    unfolding grantedTo
+    granted-alike c h =
+        record {
+          answer = ap (λ (t : Thread). Granted (t .segment) c) (agree .same k h);
+          site = siteAfter-same m site k c h ws ts us agree;
+          threads = threadsAfter-agree m site k c h ws ts us agree;
+        }
+
+    at-alike : (b : Bound) → k < m .t → AlikeAfter m (requestAt m marks ws site ts k b) (requestAt m marks ws site us k b)
+    unfolding requestAt
+    at-alike Never h = refused-alike notReady
+    at-alike (At c) h =
+        rw (hazard-same m ts us agree ws (logOf site) marks k c h, isFull-same m ts us agree site k c h)
+        (cond-alike
+        (not (isBeforeHorizon m c))
+        (refusedWith atHorizon site ts)
+        (cond (hazard m marks ws (logOf site) us k c) (refusedWith hazardStands site ts) (cond (isFull m site us k c) (refusedWith logFull site ts) (grantedTo m ws site ts k c)))
+        (refusedWith atHorizon site us)
+        (cond (hazard m marks ws (logOf site) us k c) (refusedWith hazardStands site us) (cond (isFull m site us k c) (refusedWith logFull site us) (grantedTo m ws site us k c)))
+        (refused-alike atHorizon)
+        (λ _.
+        cond-alike
+        (hazard m marks ws (logOf site) us k c)
+        (refusedWith hazardStands site ts)
+        (cond (isFull m site us k c) (refusedWith logFull site ts) (grantedTo m ws site ts k c))
+        (refusedWith hazardStands site us)
+        (cond (isFull m site us k c) (refusedWith logFull site us) (grantedTo m ws site us k c))
+        (refused-alike hazardStands)
+        (λ _.
+        cond-alike
+        (isFull m site us k c)
+        (refusedWith logFull site ts)
+        (grantedTo m ws site ts k c)
+        (refusedWith logFull site us)
+        (grantedTo m ws site us k c)
+        (refused-alike logFull)
+        (λ _. granted-alike c h))))
+
+    fit-alike : AlikeAfter m (requestFit m marks ws site ts k) (requestFit m marks ws site us k)
+    unfolding requestFit
+    fit-alike =
+        cond-alike
+        (not (ltb k (m .t)))
+        (refusedWith wrongThread site ts)
+        (requestAt m marks ws site ts k (readyCycle (threadAt ts k .state)))
+        (refusedWith wrongThread site us)
+        (requestAt m marks ws site us k (readyCycle (threadAt us k .state)))
+        (refused-alike wrongThread)
+        (λ u.
+        let h : k < m .t = ltb→lt k (m .t) (not-not (ltb k (m .t)) u) in
+        rw (agree .same k h) (at-alike (readyCycle (threadAt us k .state)) h))
+
+    -- a request gives the same answer and state, and its records agree, for whatever stands past the threads
+    pub requestOf-alike : AlikeAfter m (requestOf m marks ws site ts k) (requestOf m marks ws site us k)
+    unfolding requestOf isUnfit
+    requestOf-alike =
+        rw (isUnfitThreads-same m ts us agree)
+        (cond-alike
+        (isUnfit m ws site us)
+        (refusedWith unfit site ts)
+        (requestFit m marks ws site ts k)
+        (refusedWith unfit site us)
+        (requestFit m marks ws site us k)
+        (refused-alike unfit)
+        (λ _. fit-alike))
+
+  module _ (ts : List Thread) where
+    -- "neither read nor written"
+    pub requestOf-past : (j : ℕ) → m .t ≤ j → threadAt (requestOf m marks ws site ts k .threads) j ≡ threadAt ts j
+    unfolding grantedTo
+    requestOf-past j past = go (asked.requestOf-asked m marks ws site ts k)
+      where
+        go : {r : Requested} → asked.Asked m marks ws site ts k r → threadAt (r .threads) j ≡ threadAt ts j
+        go (asked.refused n h u) = refl
+        go (asked.granted c g) = threadsAfter-past m site k c (g .thread) ws ts j past
+
+    pub requestOf-length : length (requestOf m marks ws site ts k .threads) ≡ length ts
+    unfolding grantedTo
+    requestOf-length = go (asked.requestOf-asked m marks ws site ts k)
+      where
+        go : {r : Requested} → asked.Asked m marks ws site ts k r → length (r .threads) ≡ length ts
+        go (asked.refused n h u) = refl
+        go (asked.granted c g) = threadsAfter-length m site ts k c ws
+
+    -- "records below T"
+    pub requestOf-short : length ts < m .t → requestOf m marks ws site ts k ≡ refusedWith unfit site ts
+    unfolding requestOf isUnfit isUnfitThreads
+    requestOf-short h = go (not (eqb (modelFault m) accepted))
+      where
+        go : (b : Bool) → cond ((b || isUnfitThreads m ts) || (isUnfitLog m site || isUnfitWords m ws)) (refusedWith unfit site ts) (requestFit m marks ws site ts k) ≡ refusedWith unfit site ts
+        go true = refl
+        go false = rw (lt-ltb (length ts) (m .t) h) refl
+
+    -- a model against the file rules
+    pub requestOf-faulty : (modelFault m ≡ accepted → ⊥) → requestOf m marks ws site ts k ≡ refusedWith unfit site ts
+    unfolding requestOf isUnfit
+    requestOf-faulty other = rw (ne-eqb (modelFault m) accepted other) refl

@@ -1,0 +1,152 @@
+// Document 01, "Early issue": "the public request then works on a lent slice of thread records, at least as many as the
+// threads; records past those are neither read nor written".
+use clock::Cycle;
+use clock::Delta;
+use clock::ThreadNo;
+use clock::Time;
+use early::Answer;
+use early::Site;
+use model::Model;
+use model::State;
+use model::Thread;
+use model::Threads;
+ghost use mathlib.Core.Path.{_≡_};
+ghost use Prim.Native.Nat.{_<_, _≤_};
+ghost use lib.ListN.{length};
+ghost use Rattle.early.specs.Request.{requestOf};
+ghost use Rattle.early_lent.specs.Answered.{askedOf};
+ghost use Rattle.early_lent.specs.Moved.{placedAt, takenAt, loaded, stored, noThreads, smallerOf, movedOf, requestLent, doneOf};
+
+// The answer of a request, and the state beside it; the records stand in the slice.
+pub struct Asked {
+    pub answer: Answer,
+    pub site: Site,
+}
+
+struct Done {
+    asked: Asked,
+    threads: Threads,
+}
+
+fn placed(to: Threads, i: usize, t: Thread) -> Threads
+    requires { ⌜ i < 32 ⌝ }
+    ensures { λ r. ⌜ r ≡ placedAt to i t ⌝ }
+{
+    let mut next = to;
+    next.at[i] = t;
+    next
+}
+
+fn taken(from: Threads, i: usize) -> Thread
+    requires { ⌜ i < 32 ⌝ }
+    ensures { λ r. ⌜ r ≡ takenAt from i ⌝ }
+{
+    from.at[i]
+}
+
+fn no_threads() -> Threads
+    ensures { λ r. ⌜ r ≡ noThreads ⌝ }
+{
+    let c = Cycle {
+        time: Time(0),
+        delta: Delta(0),
+    };
+    let t = Thread {
+        segment: 0,
+        state: State::Ended(c),
+    };
+    Threads { at: [t; 32] }
+}
+
+fn smaller(a: usize, b: usize) -> usize
+    ensures { λ r. ⌜ r ≡ smallerOf a b ⌝ }
+{
+    if a < b {
+        return a;
+    }
+    b
+}
+
+// How many records are moved: one for each thread, and no more than are lent or held by value.
+fn moved(lent: usize, t: u8) -> usize
+    ensures { λ r. ⌜ r ≡ movedOf lent t ⌝ }
+{
+    smaller(lent, smaller(t as usize, 32))
+}
+
+// The first n records of ts, over those of to.
+fn load(ts: &mut [Thread], n: usize, to: Threads) -> Threads
+    requires { ⌜ (n ≤ length (now ts)) × (n ≤ 32) ⌝ }
+    ensures { λ r. ⌜ (r ≡ loaded (now (ts .entry)) n to) × (now (ts .exit) ≡ now (ts .entry)) ⌝ }
+{
+    let mut out = to;
+    let mut i = 0;
+    while i < n {
+        out = placed(out, i, ts[i]);
+        i += 1;
+    }
+    out
+}
+
+// The first n records of from, over those of ts.
+fn store(ts: &mut [Thread], n: usize, from: Threads)
+    requires { ⌜ (n ≤ length (now ts)) × (n ≤ 32) ⌝ }
+    ensures { λ _. ⌜ now (ts .exit) ≡ stored (now (ts .entry)) n from ⌝ }
+{
+    let mut i = 0;
+    while i < n {
+        ts[i] = taken(from, i);
+        i += 1;
+    }
+}
+
+// The core, on the records of a slice of so many: 11 where they are fewer than the threads.
+fn request_of(
+    m: Model,
+    marks: [[bool; 64]; 64],
+    words: &[u64],
+    site: Site,
+    before: Threads,
+    lent: usize,
+    k: ThreadNo,
+) -> Done
+    ensures { λ r. ⌜ r ≡ doneOf (requestLent m marks (now (words .entry)) site before lent (k .0)) ⌝ }
+{
+    let t = m.t;
+    if lent < t as usize {
+        let answer = Answer::Refused(11);
+        return Done {
+            asked: Asked { answer, site },
+            threads: before,
+        };
+    }
+    let after = early_request::request(m, marks, words, site, before, k);
+    let answer = after.answer;
+    let site = after.site;
+    let threads = after.threads;
+    Done {
+        asked: Asked { answer, site },
+        threads,
+    }
+}
+
+// Document 01: "A request answers either the segment run with its cycle, or one refusal number."
+// What document 01 leaves free is as in `early_request::request`; records of the slice past the threads are neither read nor written.
+pub fn request(
+    m: Model,
+    marks: [[bool; 64]; 64],
+    words: &[u64],
+    site: Site,
+    threads: &mut [Thread],
+    k: ThreadNo,
+) -> Asked
+    ensures { λ r. ⌜ (r ≡ askedOf (requestOf m marks (now (words .entry)) site (now (threads .entry)) (k .0)))
+        × (now (threads .exit) ≡ requestOf m marks (now (words .entry)) site (now (threads .entry)) (k .0) .threads) ⌝ }
+{
+    let lent = threads.len();
+    let n = moved(lent, m.t);
+    let before = load(threads, n, no_threads());
+    let done = request_of(m, marks, words, site, before, lent, k);
+    store(threads, n, done.threads);
+    done.asked
+}

@@ -1,0 +1,160 @@
+-- Earliest on limits, round by round. A thread that is not live is never at any cycle, after any round.
+use Prim.Native.Nat.{ℕ, zero, suc, _<_, _≤_}
+use mathlib.Core.Path.{_≡_, refl, ap, sym, _∙_}
+use mathlib.Core.Logic.{_⊎_, inl, inr}
+use mathlib.Core.Bool.{not}
+use mathlib.Core.List.{List}
+use native.Mathlib.Omega.{arith}
+use lib.Dec.{T}
+use lib.ListN.{getD}
+use borrow.Author.Tests.{lt-ltb}
+use Rattle.clock.specs.declared.Cycle.{Cycle}
+use Rattle.clock.specs.declared.Bound.{Bound}
+use Rattle.clock.specs.declared.Bound.the-variants.{Never}
+use Rattle.clock.specs.Advance.{least, leastBelow, _⊕_, oneDelta}
+use Rattle.clock.proofs.LeastLaws.{least-Never-right, leastBelow-one, leastBelow-same}
+use Rattle.model.specs.declared.Model.{Model}
+use Rattle.model.specs.declared.State.{State}
+use Rattle.model.specs.declared.State.the-variants.{Ended, Overrun, Ready, Waiting}
+use Rattle.model.specs.declared.Thread.{Thread}
+use Rattle.model.specs.Record.{threadAt, isLive, Awaited, nothing, awaits, awaitedBy}
+use Rattle.tables.specs.Word.{allOnes}
+use Rattle.early.specs.declared.Notification.{Notification}
+use Rattle.early.specs.Earliest.{soonestNotify, linkTo, earliestOf}
+use Rattle.early_laws.proofs.LinkLaws.{sourceOf-idle, linkTo-waiting, linkTo-other}
+use Rattle.early_laws.proofs.EarliestLaws.{earliestAt, linkedAt, withLinks-none, withLinks-more}
+use Rattle.early_laws.proofs.LookLaws.{awaits→state}
+use Rattle.early_laws.proofs.FitLaws.{isFitThread→}
+use Rattle.early_laws.proofs.RangeLaws.{Within, within-leastBelow, within-oneDelta, within-notify, links-small, earliest-small}
+use Rattle.early_limits.specs.Limit.{limitOf, lesser, sumOf}
+use Rattle.early_limits.specs.Ahead.{reachOf, forecastAt, relaxedAt, afterRounds, earliestLimits, eventAwaited, segmentsOf, eventsOf, sourceLimits}
+use Rattle.early_limits.proofs.LimitLaws.{within-limited, limitOf-least, limitOf-oneDelta}
+use Rattle.early_limits.proofs.PlaceLaws.{leastBelow-⊕, eventsOf-at, sourceLimits-at, sourceLimits-past, relaxedLimits-at, relaxedLimits-past}
+use Rattle.early_limits.proofs.StateLaws.{FitState, fit-counts, fit-threads, fit-words}
+use Rattle.early_limits.proofs.NearestLaws.{forecastAt-is}
+
+-- the limits that a request looks ahead with
+abbrev pub limitsOf : Model → List ℕ → List Notification → List Thread → List ℕ
+limitsOf m ws l ts = earliestLimits (reachOf m ws) (segmentsOf (m .t) ts) (eventsOf (m .t) ts) (m .t) (sourceLimits (m .t) l ts)
+
+-- the forecast of e, with thread k no sooner than b k
+abbrev forecastFrom : Model → List ℕ → List Thread → (ℕ → Bound) → ℕ → Bound
+forecastFrom m ws ts b e = leastBelow (m .t) (λ k. soonestNotify m ws ts k (b k) e)
+
+idle→nothing : (s : State) → T (not (isLive s)) → awaitedBy s ≡ nothing
+idle→nothing (Ended c) t = refl
+idle→nothing (Overrun c) t = refl
+idle→nothing (Ready c) t = absurd t
+idle→nothing (Waiting e c) t = absurd t
+
+-- no link leads to a thread that does not wait
+no-links : (m : Model) (ws : List ℕ) (ts : List Thread) (k : ℕ) (b : ℕ → Bound) → awaitedBy (threadAt ts k .state) ≡ nothing → leastBelow (m .t) (λ j. linkTo m ws ts j k (b j)) ≡ Never
+no-links m ws ts k b e = go (leastBelow-one (m .t) f)
+  where
+    f : ℕ → Bound
+    f j = linkTo m ws ts j k (b j)
+
+    go : (leastBelow (m .t) f ≡ Never) ⊎ ((j : ℕ) × (j < m .t) × (leastBelow (m .t) f ≡ f j)) → leastBelow (m .t) f ≡ Never
+    go (inl p) = p
+    go (inr (j, h, p)) = p ∙ linkTo-other m ws ts j k (b j) e
+
+module _ (m : Model) (ws : List ℕ) (l : List Notification) (ts : List Thread) (fit : FitState m ws l ts) where
+  -- earliest, round by round
+
+  linked-idle : (n k : ℕ) → k < m .t → T (not (isLive (threadAt ts k .state))) → linkedAt m ws l ts n k ≡ Never
+  linked-idle zero k h t = withLinks-none m ws l ts k h ∙ sourceOf-idle l (threadAt ts k .state) t
+  linked-idle (suc n) k h t =
+      let before = linked-idle n k h t in
+      withLinks-more m ws l ts n k h
+      ∙ rw (before, no-links m ws ts k (λ j. linkedAt m ws l ts n j) (idle→nothing (threadAt ts k .state) t)) (least-Never-right Never)
+
+  -- one round: xs holds the limits after n rounds
+  module _ (n : ℕ) (few : n ≤ 32) (xs : List ℕ) (same : (k : ℕ) → k < m .t → getD xs k allOnes ≡ limitOf (linkedAt m ws l ts n k)) (k : ℕ) (h : k < m .t) where
+    small : (j : ℕ) → j < m .t → Within 34000000000 33792 (linkedAt m ws l ts n j)
+    small j p = links-small m ws l ts (fit-threads fit) (fit .log) (fit-words fit) n j few p
+
+    -- a waiting thread, one delta after the forecast of its event
+    module _ (e : ℕ) (since : Cycle) (waits : threadAt ts k .state ≡ Waiting e since) (event : e < m .e) where
+      links-are : leastBelow (m .t) (λ j. linkTo m ws ts j k (linkedAt m ws l ts n j)) ≡ forecastFrom m ws ts (linkedAt m ws l ts n) e ⊕ oneDelta
+      links-are =
+          leastBelow-same
+          (m .t)
+          (λ j. linkTo m ws ts j k (linkedAt m ws l ts n j))
+          (λ j. soonestNotify m ws ts j (linkedAt m ws l ts n j) e ⊕ oneDelta)
+          (λ j p. linkTo-waiting m ws ts j k e since (linkedAt m ws l ts n j) waits)
+          ∙ sym (leastBelow-⊕ (m .t) (λ j. soonestNotify m ws ts j (linkedAt m ws l ts n j) e) oneDelta)
+
+      forecast-small : Within 35000000000 34815 (forecastFrom m ws ts (linkedAt m ws l ts n) e)
+      forecast-small =
+          within-leastBelow
+          35000000000
+          34815
+          (m .t)
+          (λ j. soonestNotify m ws ts j (linkedAt m ws l ts n j) e)
+          (λ j p. within-notify m ws l ts (fit-threads fit) (fit .log) (fit-words fit) 34000000000 33792 (linkedAt m ws l ts n j) j e p (small j p))
+
+      woken-limit : lesser (limitOf (linkedAt m ws l ts n k)) (sumOf (forecastAt (reachOf m ws) (segmentsOf (m .t) ts) xs (m .t) e) 1) ≡ limitOf (least (linkedAt m ws l ts n k) (leastBelow (m .t) (λ j. linkTo m ws ts j k (linkedAt m ws l ts n j))))
+      woken-limit =
+          let x = linkedAt m ws l ts n k in
+          let f = forecastFrom m ws ts (linkedAt m ws l ts n) e in
+          rw
+          (links-are, forecastAt-is m ws l ts fit xs (linkedAt m ws l ts n) same small (λ j p t. linked-idle n j p t) e event)
+          (ap (lesser (limitOf x)) (sym (limitOf-oneDelta f (within-limited 35000000000 34815 f (omega arith) (omega arith) forecast-small)))
+          ∙ sym
+          (limitOf-least
+          x
+          (f ⊕ oneDelta)
+          (within-limited 34000000000 33792 x (omega arith) (omega arith) (small k h))
+          (within-limited 35000000000 34816 (f ⊕ oneDelta) (omega arith) (omega arith) (within-oneDelta 35000000000 34815 f forecast-small))))
+
+    round-limit : relaxedAt (reachOf m ws) (segmentsOf (m .t) ts) (eventsOf (m .t) ts) xs (m .t) k ≡ limitOf (linkedAt m ws l ts (suc n) k)
+    unfolding relaxedAt eventAwaited
+    round-limit = go (awaitedBy (threadAt ts k .state)) refl ∙ ap limitOf (sym (withLinks-more m ws l ts n k h))
+      where
+        x : Bound
+        x = linkedAt m ws l ts n k
+
+        links : Bound
+        links = leastBelow (m .t) (λ j. linkTo m ws ts j k (linkedAt m ws l ts n j))
+
+        go : (a : Awaited) → awaitedBy (threadAt ts k .state) ≡ a → relaxedAt (reachOf m ws) (segmentsOf (m .t) ts) (eventsOf (m .t) ts) xs (m .t) k ≡ limitOf (least x links)
+        go nothing p =
+            rw
+            (eventsOf-at (m .t) ts k (fit-counts fit .threads) h, p, same k h, no-links m ws ts k (λ j. linkedAt m ws l ts n j) p)
+            (ap limitOf (sym (least-Never-right x)))
+        go (awaits e since) p =
+            let waits = awaits→state (threadAt ts k .state) e since p in
+            let event = isFitThread→ m (threadAt ts k) (fit-threads fit k h) .event e since waits in
+            rw
+            (eventsOf-at (m .t) ts k (fit-counts fit .threads) h, p, lt-ltb e 32 (omega (arith, fit-counts fit .events)), same k h)
+            (woken-limit e since waits event)
+
+  rounds-limit : (n : ℕ) → n ≤ 32 → (k : ℕ) → k < m .t
+      → getD (afterRounds (reachOf m ws) (segmentsOf (m .t) ts) (eventsOf (m .t) ts) (m .t) n (sourceLimits (m .t) l ts)) k allOnes ≡ limitOf (linkedAt m ws l ts n k)
+  unfolding afterRounds
+  rounds-limit zero few k h = sourceLimits-at (m .t) ts k (fit-counts fit .threads) h l ∙ ap limitOf (sym (withLinks-none m ws l ts k h))
+  rounds-limit (suc n) few k h =
+      let xs = afterRounds (reachOf m ws) (segmentsOf (m .t) ts) (eventsOf (m .t) ts) (m .t) n (sourceLimits (m .t) l ts) in
+      relaxedLimits-at (reachOf m ws) (segmentsOf (m .t) ts) (eventsOf (m .t) ts) (m .t) xs k (fit-counts fit .threads) h
+      ∙ round-limit n (omega arith) xs (λ j p. rounds-limit n (omega arith) j p) k h
+
+  rounds-past : (n k : ℕ) → m .t ≤ k → getD (afterRounds (reachOf m ws) (segmentsOf (m .t) ts) (eventsOf (m .t) ts) (m .t) n (sourceLimits (m .t) l ts)) k allOnes ≡ allOnes
+  unfolding afterRounds
+  rounds-past zero k h = sourceLimits-past (m .t) l ts k h
+  rounds-past (suc n) k h =
+      let xs = afterRounds (reachOf m ws) (segmentsOf (m .t) ts) (eventsOf (m .t) ts) (m .t) n (sourceLimits (m .t) l ts) in
+      let before = rounds-past n k h in
+      relaxedLimits-past (reachOf m ws) (segmentsOf (m .t) ts) (eventsOf (m .t) ts) (m .t) xs k h before
+
+  -- earliest
+
+  pub earliestLimits-is : (k : ℕ) → k < m .t → getD (limitsOf m ws l ts) k allOnes ≡ limitOf (earliestAt m ws l ts k)
+  unfolding earliestLimits earliestOf
+  earliestLimits-is k h = rounds-limit (m .t) (fit-counts fit .threads) k h
+
+  pub earliestLimits-past : (k : ℕ) → m .t ≤ k → getD (limitsOf m ws l ts) k allOnes ≡ allOnes
+  unfolding earliestLimits
+  earliestLimits-past k h = rounds-past (m .t) k h
+
+  pub earliest-range : (k : ℕ) → k < m .t → Within 34000000000 33792 (earliestAt m ws l ts k)
+  earliest-range k h = earliest-small m ws l ts (fit-threads fit) (fit .log) (fit-words fit) k (fit-counts fit .threads) h

@@ -1,0 +1,187 @@
+// Document 01, "Early issue": the log, its new pairs, what is heard of it and what is dropped.
+use clock::Bound;
+use clock::Cycle;
+use clock::Delta;
+use clock::Time;
+use early::Notification;
+use early::Site;
+use model::Events;
+ghost use mathlib.Core.Path.{_≡_};
+ghost use Prim.Native.Nat.{_≤_, min};
+ghost use lib.ListN.{length, take};
+ghost use Rattle.early.specs.Log.{pairOf, logOf, siteOf, holds, isHeard, leastHeard, isDropped, dropBefore};
+ghost use Rattle.early_log.specs.Noted.{noPair, notedOf};
+
+// The state with its new pairs, and whether there were more than it has places for.
+pub struct Noted {
+    pub site: Site,
+    pub over: bool,
+}
+
+fn wide(x: u8) -> usize
+    ensures { λ r. ⌜ r ≡ x ⌝ }
+{
+    x as usize
+}
+
+// A count, or the number of places where it is above that.
+fn within(count: u8, places: usize) -> usize
+    ensures { λ r. ⌜ r ≡ min count places ⌝ }
+{
+    let n = wide(count);
+    if n < places {
+        return n;
+    }
+    places
+}
+
+// Whether one of the first n places holds event e at c.
+fn is_held(log: [Notification; 128], n: usize, e: u8, c: Cycle) -> bool
+    requires { ⌜ (n ≤ 128) × (n ≤ length log) ⌝ }
+    ensures { λ r. ⌜ r ≡ holds (take n log) (pairOf e c) ⌝ }
+{
+    let mut i = 0;
+    while i < n {
+        let x = log[i];
+        let d = x.cycle;
+        i += 1;
+        if x.event == e {
+            if clock::is_same(d, c) {
+                return true;
+            }
+        }
+    }
+    false
+}
+
+// A place that holds no notification.
+fn nothing() -> Notification
+    ensures { λ r. ⌜ r ≡ noPair ⌝ }
+{
+    Notification {
+        event: 0,
+        cycle: Cycle {
+            time: Time(0),
+            delta: Delta(0),
+        },
+    }
+}
+
+// Document 01: "the places past its count are 0".
+fn cleared(site: Site) -> Site
+    ensures { λ r. ⌜ r ≡ siteOf (site .variables .at) (logOf site) ⌝ }
+{
+    let used = within(site.count, 128);
+    let variables = site.variables;
+    let mut log = [nothing(); 128];
+    let mut i = 0;
+    while i < used {
+        log[i] = site.log[i];
+        i += 1;
+    }
+    let count = used as u8;
+    Site {
+        variables,
+        log,
+        count,
+    }
+}
+
+// Document 01: "New pairs go to its end in statement order", "an equal pair held once".
+pub fn note(site: Site, c: Cycle, events: Events) -> Noted
+    ensures { λ r. ⌜ r ≡ notedOf site c (take (events .n) (events .at)) ⌝ }
+{
+    let tidy = cleared(site);
+    let variables = tidy.variables;
+    let mut log = tidy.log;
+    let mut count = tidy.count;
+    let mut over = false;
+    let n = within(events.n, 32);
+    let mut j = 0;
+    while j < n {
+        let e = events.at[j];
+        let k = wide(count);
+        j += 1;
+        if is_held(log, k, e, c) {
+            continue;
+        }
+        if k < 128 {
+            log[k] = Notification { event: e, cycle: c };
+            count += 1;
+        } else {
+            over = true;
+        }
+    }
+    Noted {
+        site: Site {
+            variables,
+            log,
+            count,
+        },
+        over,
+    }
+}
+
+// Whether event e is heard of it since a cycle.
+fn is_heard(x: Notification, e: u8, since: Cycle) -> bool
+    ensures { λ r. ⌜ r ≡ isHeard e since x ⌝ }
+{
+    let c = x.cycle;
+    if x.event == e {
+        return !clock::is_before(c, since);
+    }
+    false
+}
+
+// Document 01: "the least logged notification not before its wait".
+pub fn least_heard(site: Site, e: u8, since: Cycle) -> Bound
+    ensures { λ r. ⌜ r ≡ leastHeard (logOf site) e since ⌝ }
+{
+    let mut best = Bound::Never;
+    let mut i = within(site.count, 128);
+    while 0 < i {
+        i -= 1;
+        let x = site.log[i];
+        let c = x.cycle;
+        if is_heard(x, e, since) {
+            best = clock::least_of(Bound::At(c), best);
+        }
+    }
+    best
+}
+
+// Whether it is before the floor, or there is none.
+fn is_dropped(floor: Bound, x: Notification) -> bool
+    ensures { λ r. ⌜ r ≡ isDropped floor x ⌝ }
+{
+    let Bound::At(f) = floor else {
+        return true;
+    };
+    let c = x.cycle;
+    clock::is_before(c, f)
+}
+
+// Document 01: "notifications before the floor", "all of them if none is ready"; the others close up in order.
+pub fn drop_before(site: Site, floor: Bound) -> Site
+    ensures { λ r. ⌜ r ≡ siteOf (site .variables .at) (dropBefore floor (logOf site)) ⌝ }
+{
+    let n = within(site.count, 128);
+    let variables = site.variables;
+    let mut log = [nothing(); 128];
+    let mut count = 0u8;
+    let mut i = 0;
+    while i < n {
+        let x = site.log[i];
+        i += 1;
+        if !is_dropped(floor, x) {
+            let p = wide(count);
+            log[p] = x;
+            count += 1;
+        }
+    }
+    Site {
+        variables,
+        log,
+        count,
+    }
+}

@@ -1,0 +1,61 @@
+-- `early_request::refuse_all` meets its contract. The invariant: the words that are left to write lead to the same buffer.
+use Prim.Native.Nat.{_*_, _≤_, _-_}
+use mathlib.Core.Path.{_≡_, refl, ap, sym, _∙_}
+use native.Mathlib.Omega.{arith}
+use lib.ListN.{length, replicate}
+use lib.Seq.{sets, length-sets}
+use Rattle.early.specs.declared.Answer.the-variants.{Refused}
+use Rattle.early_request.specs.Answers.{answerWords, answersWords}
+use Rattle.early_request.proofs.AnswerWordLaws.{refuse-none, refuse-more, refuse-done}
+use Rattle.early_request.proofs.refuse_all.Statement.{statement}
+use Rattle.early_request.proofs.refuse_all.Tie as tie
+
+abbrev Inv-loop : tie.InvT-loop
+Inv-loop answers₀ n i₀ answers i =
+    (i ≤ n) × ((length answers ≡ length answers₀) × (sets answers (4 * i) (answersWords (replicate (n - i) (Refused 11))) ≡ sets answers₀ 0 (answersWords (replicate n (Refused 11)))))
+
+abbrev μ-loop : tie.MeasureT-loop
+μ-loop answers₀ n i₀ answers i = n - i
+
+loop-holds : tie.Need-loop-holds Inv-loop μ-loop
+loop-holds c = (omega arith, (refl, refuse-none (c .before .args .answers .now) (c .before .args .n)))
+
+mul-put-answer : tie.Need-mul-put-answer Inv-loop μ-loop
+mul-put-answer c = omega arith
+
+put-answer-requires : tie.Need-put-answer-requires Inv-loop μ-loop
+put-answer-requires c κs = omega arith
+
+add-i : tie.Need-add-i Inv-loop μ-loop
+add-i c = omega arith
+
+loop-less : tie.Need-loop-less Inv-loop μ-loop
+loop-less c = omega arith
+
+loop-again : tie.Need-loop-again Inv-loop μ-loop
+loop-again c =
+    let here = c .before .before .before .before .before .loop in
+    let start = c .before .before .before .before .before .before .before in
+    let kept = ap length (c .before .before .put-answer .ensures) ∙ length-sets (here .answers) (4 * here .i) (answerWords (Refused 11)) in
+    (omega arith, (kept ∙ here .inv .1 .0, refuse-more (here .answers) _ (start .args .n) (here .i) (omega arith) (c .before .before .put-answer .ensures) ∙ here .inv .1 .1))
+
+same-length : tie.Need-same-length Inv-loop μ-loop
+same-length c = c .before .loop .inv .1 .0
+
+returns : tie.Need-returns Inv-loop μ-loop
+returns c = sym (refuse-done (c .before .loop .answers) (c .before .before .before .args .n) (c .before .loop .i) (omega arith)) ∙ c .before .loop .inv .1 .1
+
+pub refuse-all-spec : {M : Type 1} → statement M
+refuse-all-spec =
+    tie.close
+    (tie.spec
+    Inv-loop
+    μ-loop
+    loop-holds
+    mul-put-answer
+    put-answer-requires
+    add-i
+    loop-less
+    loop-again
+    same-length
+    returns)

@@ -1,0 +1,115 @@
+-- Each comparison at, below and above its edge, and where each number stands: closed examples.
+use Prim.Native.Nat.{_^_}
+use mathlib.Core.Path.{_≡_, refl}
+use mathlib.Core.Bool.{true, false}
+use mathlib.Core.List.{[], _∷_, _++_}
+use lib.ListN.{replicate}
+use Rattle.clock.specs.Cycle.{cycleAt}
+use Rattle.model.specs.declared.State.the-variants.{Ended, Overrun, Ready, Waiting}
+use Rattle.early.proofs.EdgeModels.{note, inState}
+use Rattle.export_state.specs.Numbers.{logWords, recordWords, wordsIn, pairAt, stateFrom, threadFrom, variablesFrom, siteFrom, threadsFrom, isPairHeld, isEventHeld, isRecordHeld, isLogHeld, areRecordsHeld, areHeld}
+use Rattle.export_state.proofs.Computed.{computed}
+
+-- the count, then event, time, delta of each place
+pub logWords-order :
+    logWords (record { variables = record { at = [] }; log = note 1 5 2 ∷ note 3 9 4 ∷ []; count = 6 }) ≡ 6 ∷ 1 ∷ 5 ∷ 2 ∷ 3 ∷ 9 ∷ 4 ∷ []
+unfolding computed
+logWords-order = refl
+
+-- segment, state, event, time, delta
+pub recordWords-order :
+    recordWords (record { at = inState 7 (Ended (cycleAt 5 2)) ∷ inState 8 (Overrun (cycleAt 6 3)) ∷ inState 9 (Ready (cycleAt 7 4)) ∷ inState 10 (Waiting 11 (cycleAt 8 5)) ∷ [] }) ≡
+    7 ∷ 0 ∷ 0 ∷ 5 ∷ 2 ∷ 8 ∷ 1 ∷ 0 ∷ 6 ∷ 3 ∷ 9 ∷ 2 ∷ 0 ∷ 7 ∷ 4 ∷ 10 ∷ 3 ∷ 11 ∷ 8 ∷ 5 ∷ []
+unfolding computed
+recordWords-order = refl
+
+-- one word too few, just enough, one more
+pub wordsIn-edges :
+    (wordsIn (7 ∷ 8 ∷ []) (1 ∷ []) ≡ 1 ∷ []) ×
+    (wordsIn (7 ∷ 8 ∷ []) (1 ∷ 2 ∷ []) ≡ 7 ∷ 8 ∷ []) ×
+    (wordsIn (7 ∷ 8 ∷ []) (1 ∷ 2 ∷ 3 ∷ []) ≡ 7 ∷ 8 ∷ 3 ∷ [])
+unfolding computed
+wordsIn-edges = (refl, refl, refl)
+
+-- the second place; an event modulo 2 ^ 8, a delta modulo 2 ^ 32
+pub pairAt-edges :
+    (pairAt (9 ∷ 1 ∷ 2 ∷ 3 ∷ 255 ∷ 5 ∷ 4294967295 ∷ []) 1 ≡ note 255 5 4294967295) ×
+    (pairAt (9 ∷ 256 ∷ 2 ∷ 4294967296 ∷ []) 0 ≡ note 0 2 0)
+unfolding computed
+pairAt-edges = (refl, refl)
+
+pub stateFrom-edges :
+    (stateFrom 0 7 (cycleAt 5 2) ≡ Ended (cycleAt 5 2)) ×
+    (stateFrom 1 7 (cycleAt 5 2) ≡ Overrun (cycleAt 5 2)) ×
+    (stateFrom 2 7 (cycleAt 5 2) ≡ Ready (cycleAt 5 2)) ×
+    (stateFrom 3 7 (cycleAt 5 2) ≡ Waiting 7 (cycleAt 5 2)) ×
+    (stateFrom 4 7 (cycleAt 5 2) ≡ Waiting 7 (cycleAt 5 2))
+unfolding computed
+stateFrom-edges = (refl, refl, refl, refl, refl)
+
+-- the second record; a segment and an event modulo 2 ^ 8, a delta modulo 2 ^ 32
+pub threadFrom-edges :
+    (threadFrom (0 ∷ 0 ∷ 0 ∷ 0 ∷ 0 ∷ 255 ∷ 3 ∷ 255 ∷ 6 ∷ 4294967295 ∷ []) 1 ≡ inState 255 (Waiting 255 (cycleAt 6 4294967295))) ×
+    (threadFrom (256 ∷ 3 ∷ 257 ∷ 6 ∷ 4294967296 ∷ []) 0 ≡ inState 0 (Waiting 1 (cycleAt 6 0)))
+unfolding computed
+threadFrom-edges = (refl, refl)
+
+-- 64 variables, 128 places, 32 records, 0 past the end; a count modulo 2 ^ 8
+pub from-lengths :
+    (variablesFrom (7 ∷ []) .at ≡ 7 ∷ replicate 63 0) ×
+    (siteFrom [] (257 ∷ []) .log ≡ replicate 128 (note 0 0 0)) ×
+    (siteFrom [] (257 ∷ []) .count ≡ 1) ×
+    (siteFrom [] (255 ∷ []) .count ≡ 255) ×
+    (threadsFrom [] .at ≡ replicate 32 (inState 0 (Ended (cycleAt 0 0))))
+unfolding computed
+from-lengths = (refl, refl, refl, refl, refl)
+
+pub isPairHeld-edges :
+    (isPairHeld (0 ∷ 255 ∷ 2 ^ 64 ∷ 4294967295 ∷ []) 0 ≡ true) ×
+    (isPairHeld (0 ∷ 256 ∷ 0 ∷ 0 ∷ []) 0 ≡ false) ×
+    (isPairHeld (0 ∷ 0 ∷ 0 ∷ 4294967296 ∷ []) 0 ≡ false)
+unfolding computed
+isPairHeld-edges = (refl, refl, refl)
+
+pub isEventHeld-edges :
+    (isEventHeld 0 0 ≡ true) × (isEventHeld 1 1 ≡ false) × (isEventHeld 2 0 ≡ true) × (isEventHeld 2 1 ≡ false) × (isEventHeld 3 0 ≡ true) × (isEventHeld 3 255 ≡ true) × (isEventHeld 3 256 ≡ false)
+unfolding computed
+isEventHeld-edges = (refl, refl, refl, refl, refl, refl, refl)
+
+pub isRecordHeld-edges :
+    (isRecordHeld (255 ∷ 3 ∷ 255 ∷ 2 ^ 64 ∷ 4294967295 ∷ []) 0 ≡ true) ×
+    (isRecordHeld (256 ∷ 3 ∷ 0 ∷ 0 ∷ 0 ∷ []) 0 ≡ false) ×
+    (isRecordHeld (0 ∷ 4 ∷ 0 ∷ 0 ∷ 0 ∷ []) 0 ≡ false) ×
+    (isRecordHeld (0 ∷ 2 ∷ 1 ∷ 0 ∷ 0 ∷ []) 0 ≡ false) ×
+    (isRecordHeld (0 ∷ 0 ∷ 0 ∷ 0 ∷ 4294967296 ∷ []) 0 ≡ false)
+unfolding computed
+isRecordHeld-edges = (refl, refl, refl, refl, refl)
+
+-- 384, 385 words; a count of 255, 256; the last place, and a word past it
+pub isLogHeld-edges :
+    (isLogHeld (replicate 384 0) ≡ false) ×
+    (isLogHeld (replicate 385 0) ≡ true) ×
+    (isLogHeld (255 ∷ replicate 384 0) ≡ true) ×
+    (isLogHeld (256 ∷ replicate 384 0) ≡ false) ×
+    (isLogHeld (replicate 384 0 ++ (4294967296 ∷ [])) ≡ false) ×
+    (isLogHeld (replicate 386 0 ++ (4294967296 ∷ [])) ≡ true)
+unfolding computed
+isLogHeld-edges = (refl, refl, refl, refl, refl, refl)
+
+-- 159, 160 words; the last record, and a word past it
+pub areRecordsHeld-edges :
+    (areRecordsHeld (replicate 159 0) ≡ false) ×
+    (areRecordsHeld (replicate 160 0) ≡ true) ×
+    (areRecordsHeld (replicate 159 0 ++ (4294967296 ∷ [])) ≡ false) ×
+    (areRecordsHeld (replicate 160 0 ++ (4294967296 ∷ [])) ≡ true)
+unfolding computed
+areRecordsHeld-edges = (refl, refl, refl, refl)
+
+-- 63, 64 variables; and each buffer
+pub areHeld-edges :
+    (areHeld (replicate 63 0) (replicate 385 0) (replicate 160 0) ≡ false) ×
+    (areHeld (replicate 64 0) (replicate 385 0) (replicate 160 0) ≡ true) ×
+    (areHeld (replicate 64 0) (replicate 384 0) (replicate 160 0) ≡ false) ×
+    (areHeld (replicate 64 0) (replicate 385 0) (replicate 159 0) ≡ false)
+unfolding computed
+areHeld-edges = (refl, refl, refl, refl)

@@ -1,0 +1,11 @@
+pub mod LengthLaws
+pub mod WordLaws
+pub mod IntoLaws
+pub mod HeldLaws
+pub mod TurnLaws
+pub mod RangeLaws
+pub mod RoundLaws
+pub mod Computed
+pub mod Edges
+pub mod StepLaws
+pub mod StepEdges

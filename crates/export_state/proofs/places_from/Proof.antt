@@ -1,0 +1,62 @@
+-- `export_state::places_from` meets its contract. The invariant: the first i places.
+use Prim.Native.Nat.{_≤_, _-_}
+use mathlib.Core.Path.{_≡_}
+use native.Mathlib.Omega.{arith}
+use lib.Seq.{sets}
+use borrow.Author.Needs.{needs}
+use Rattle.base.specs.Index.{tabulate}
+use Rattle.export_state.specs.Numbers.{pairAt}
+use Rattle.export_state.proofs.WordLaws.{tabulate-none, tabulate-stored, tabulate-whole}
+use Rattle.export_state.proofs.places_from.Statement.{statement}
+use Rattle.export_state.proofs.places_from.Tie as tie
+
+abbrev Inv-loop : tie.InvT-loop
+Inv-loop log places₀ i₀ places i = (i ≤ 128) × (places ≡ sets places₀ 0 (tabulate i 0 (pairAt log)))
+
+abbrev μ-loop : tie.MeasureT-loop
+μ-loop log places₀ i₀ places i = 128 - i
+
+pair-at-requires : tie.Need-pair-at-requires Inv-loop μ-loop
+pair-at-requires c κs = search needs
+
+loop-holds : tie.Need-loop-holds Inv-loop μ-loop
+loop-holds c = (omega arith, tabulate-none _ _)
+
+pair-at-requires-2 : tie.Need-pair-at-requires-2 Inv-loop μ-loop
+pair-at-requires-2 c κs = search needs
+
+mul-places : tie.Need-mul-places Inv-loop μ-loop
+mul-places c = search needs
+
+array-set-from-places : tie.Need-array-set-from-places Inv-loop μ-loop
+array-set-from-places c = search needs
+
+add-i : tie.Need-add-i Inv-loop μ-loop
+add-i c = search needs
+
+loop-less : tie.Need-loop-less Inv-loop μ-loop
+loop-less c = search needs
+
+loop-again : tie.Need-loop-again Inv-loop μ-loop
+loop-again c = (omega arith, tabulate-stored _ (c .before .before .loop .places) (c .before .before .loop .i) (pairAt (c .before .before .before .before .before .args .log .now)) _ (c .before .before .loop .inv .1) (c .pair-at2 .ensures))
+
+returns : tie.Need-returns Inv-loop μ-loop
+returns c =
+    let l = c .before .loop in
+    tabulate-whole _ (l .places) 128 (l .i) (pairAt (c .before .before .before .before .args .log .now)) (omega arith) (l .inv .1)
+
+pub places-from-spec : {M : Type 1} → statement M
+places-from-spec =
+    tie.close
+    (tie.spec
+    Inv-loop
+    μ-loop
+    pair-at-requires
+    loop-holds
+    pair-at-requires-2
+    mul-places
+    array-set-from-places
+    add-i
+    loop-less
+    loop-again
+    returns)

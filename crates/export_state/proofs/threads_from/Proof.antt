@@ -1,0 +1,64 @@
+-- `export_state::threads_from` meets its contract. The invariant: the first k records.
+use Prim.Native.Nat.{_≤_, _-_}
+use mathlib.Core.Path.{_≡_, refl}
+use native.Mathlib.Omega.{arith}
+use lib.Seq.{sets}
+use borrow.Author.Needs.{needs}
+use Rattle.base.specs.Index.{tabulate}
+use Rattle.export_state.specs.Numbers.{threadFrom, threadsFrom}
+use Rattle.export_state.proofs.WordLaws.{tabulate-none, tabulate-stored, tabulate-whole}
+use Rattle.export_state.proofs.threads_from.Statement.{statement}
+use Rattle.export_state.proofs.threads_from.Tie as tie
+
+abbrev Inv-loop : tie.InvT-loop
+Inv-loop records at₀ k₀ at k = (k ≤ 32) × (at ≡ sets at₀ 0 (tabulate k 0 (threadFrom records)))
+
+abbrev μ-loop : tie.MeasureT-loop
+μ-loop records at₀ k₀ at k = 32 - k
+
+thread-from-requires : tie.Need-thread-from-requires Inv-loop μ-loop
+thread-from-requires c κs = search needs
+
+loop-holds : tie.Need-loop-holds Inv-loop μ-loop
+loop-holds c = (omega arith, tabulate-none _ _)
+
+thread-from-requires-2 : tie.Need-thread-from-requires-2 Inv-loop μ-loop
+thread-from-requires-2 c κs = search needs
+
+mul-at : tie.Need-mul-at Inv-loop μ-loop
+mul-at c = search needs
+
+array-set-from-at : tie.Need-array-set-from-at Inv-loop μ-loop
+array-set-from-at c = search needs
+
+add-k : tie.Need-add-k Inv-loop μ-loop
+add-k c = search needs
+
+loop-less : tie.Need-loop-less Inv-loop μ-loop
+loop-less c = search needs
+
+loop-again : tie.Need-loop-again Inv-loop μ-loop
+loop-again c = (omega arith, tabulate-stored _ (c .before .before .loop .at) (c .before .before .loop .k) (threadFrom (c .before .before .before .before .before .args .records .now)) _ (c .before .before .loop .inv .1) (c .thread-from2 .ensures))
+
+returns : tie.Need-returns Inv-loop μ-loop
+unfolding threadsFrom
+returns c =
+    let l = c .before .loop in
+    let e = tabulate-whole _ (l .at) 32 (l .k) (threadFrom (c .before .before .before .before .args .records .now)) (omega arith) (l .inv .1) in
+    rw e refl
+
+pub threads-from-spec : {M : Type 1} → statement M
+threads-from-spec =
+    tie.close
+    (tie.spec
+    Inv-loop
+    μ-loop
+    thread-from-requires
+    loop-holds
+    thread-from-requires-2
+    mul-at
+    array-set-from-at
+    add-k
+    loop-less
+    loop-again
+    returns)

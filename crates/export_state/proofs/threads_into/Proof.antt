@@ -1,0 +1,89 @@
+-- `export_state::threads_into` meets its contract. The invariant: the words of the first k records.
+use Prim.Native.Nat.{_≤_, _+_, _*_, _-_}
+use mathlib.Core.Path.{_≡_, refl, ap, _∙_}
+use native.Mathlib.Omega.{arith}
+use lib.ListN.{length, take}
+use lib.Seq.{sets, length-sets}
+use borrow.Author.Needs.{needs}
+use Rattle.export_state.specs.Numbers.{threadWords, inTurn}
+use Rattle.export_state.proofs.LengthLaws.{threads-length}
+use Rattle.export_state.proofs.WordLaws.{inTurn-none, inTurn-stored, threadWords-length}
+use Rattle.export_state.proofs.IntoLaws.{records-short, records-stored}
+use Rattle.export_state.proofs.threads_into.Statement.{statement}
+use Rattle.export_state.proofs.threads_into.Tie as tie
+
+abbrev Inv-loop : tie.InvT-loop
+Inv-loop records₀ threads k₀ records k = (k ≤ 32) × (length records ≡ length records₀) × (records ≡ sets records₀ 0 (inTurn threadWords (take k (threads .at))))
+
+abbrev μ-loop : tie.MeasureT-loop
+μ-loop records₀ threads k₀ records k = 32 - k
+
+returns : tie.Need-returns Inv-loop μ-loop
+returns c = let s = c .before .before in records-short (s .args .t1) (s .args .records .now) (threads-length (s .args .t1) _ (s .good .0)) (omega arith)
+
+loop-holds : tie.Need-loop-holds Inv-loop μ-loop
+loop-holds c = (omega arith, refl, inTurn-none threadWords (c .before .before .args .t1 .at) _ 0)
+
+mul-thread-words : tie.Need-mul-thread-words Inv-loop μ-loop
+mul-thread-words c = search needs
+
+element-copy-out-thread-words : tie.Need-element-copy-out-thread-words Inv-loop μ-loop
+element-copy-out-thread-words c = search needs
+
+thread-words-requires : tie.Need-thread-words-requires Inv-loop μ-loop
+thread-words-requires c κs = search needs
+
+mul-put-words : tie.Need-mul-put-words Inv-loop μ-loop
+mul-put-words c = search needs
+
+slice-aggregate-put-words : tie.Need-slice-aggregate-put-words Inv-loop μ-loop
+slice-aggregate-put-words c = search needs
+
+put-words-requires : tie.Need-put-words-requires Inv-loop μ-loop
+put-words-requires c κs = search needs
+
+add-k : tie.Need-add-k Inv-loop μ-loop
+add-k c = search needs
+
+loop-less : tie.Need-loop-less Inv-loop μ-loop
+loop-less c = search needs
+
+loop-again : tie.Need-loop-again Inv-loop μ-loop
+loop-again c =
+    let w = c .before .before .before .before .before in
+    let l = w .before .before .before .loop in
+    let s = w .before .before .before .before .before .before in
+    let size = threads-length (s .args .t1) _ (s .good .0) in
+    let stored = (c .before .before .put-words .ensures) ∙ ap (sets (l .records) (5 * l .k)) (w .thread-words .ensures) in
+    let e = stored ∙ inTurn-stored threadWords 5 threadWords-length (s .args .t1 .at) (s .args .records .now) (l .records) 0 (l .k) _ _ (omega arith) (l .inv .2) (omega arith) in
+    (omega arith, ap length e ∙ length-sets _ 0 (inTurn threadWords (take (l .k + 1) (s .args .t1 .at))), e)
+
+same-length : tie.Need-same-length Inv-loop μ-loop
+same-length c = search needs
+
+returns-2 : tie.Need-returns-2 Inv-loop μ-loop
+returns-2 c =
+    let s = c .before .before .before .before in
+    let l = c .before .loop in
+    let size = threads-length (s .args .t1) _ (s .good .0) in
+    records-stored (s .args .t1) (s .args .records .now) _ (l .k) size (omega arith) (omega arith) (l .inv .2)
+
+pub threads-into-spec : {M : Type 1} → statement M
+threads-into-spec =
+    tie.close
+    (tie.spec
+    Inv-loop
+    μ-loop
+    returns
+    loop-holds
+    mul-thread-words
+    element-copy-out-thread-words
+    thread-words-requires
+    mul-put-words
+    slice-aggregate-put-words
+    put-words-requires
+    add-k
+    loop-less
+    loop-again
+    same-length
+    returns-2)

@@ -1,0 +1,109 @@
+-- A state that the caller keeps as numbers, from call to call: what each call answers, and what it leaves of the lent buffers.
+use Prim.Native.Nat.{ℕ}
+use mathlib.Core.Path.{_≡_}
+use mathlib.Core.Bool.{Bool, cond, _&&_}
+use mathlib.Core.List.{List}
+use lib.Dec.{leb, eqb}
+use lib.ListN.{length}
+use Rattle.base.specs.Index.{orElse}
+use Rattle.model.specs.declared.Threads.{Threads}
+use Rattle.model.specs.Refusal.{accepted, unfit}
+use Rattle.model.specs.Rules.{unless}
+use Rattle.reader.specs.File.{readFile}
+use Rattle.tables.specs.Outcome.{conflictMarks}
+use Rattle.plain.specs.Start.{freshThreads}
+use Rattle.early.specs.declared.Site.{Site}
+use Rattle.early.specs.declared.Answer.{Answer}
+use Rattle.early.specs.declared.Answer.the-variants.{Granted, Refused}
+use Rattle.early.specs.Answer.{numberOf, valuesOf}
+use Rattle.early.specs.Request.{Requested, requestOf, freshSite}
+use Rattle.replay.specs.Replay.{replayedOf, wordsAfter, answersAfter}
+use Rattle.export_state.specs.Numbers.{logWords, recordWords, wordsIn, siteFrom, threadsFrom, areHeld}
+
+-- the buffers of a state
+pub record Kept : Type 0 where
+  pub variables : List ℕ
+  pub log : List ℕ
+  pub records : List ℕ
+
+abbrev pub keeps : List ℕ → List ℕ → List ℕ → Kept
+keeps vs ws rs = record { variables = vs; log = ws; records = rs }
+
+-- 64, 385 and 160 words
+unfoldable pub hasRoom : Kept → Bool
+hasRoom b = leb 64 (length (b .variables)) && (leb 385 (length (b .log)) && leb 160 (length (b .records)))
+
+-- the buffers with a state and its records in them
+unfoldable pub holding : Site → Threads → Kept → Kept
+holding site threads b =
+    keeps (wordsIn (site .variables .at) (b .variables)) (wordsIn (logWords site) (b .log)) (wordsIn (recordWords threads) (b .records))
+
+-- fresh: the file's number, then 11 for a short buffer
+unfoldable pub freshNumber : List ℕ → Kept → ℕ
+freshNumber file b = orElse (readFile file .number) (unless (hasRoom b) unfit)
+
+unfoldable pub freshKept : List ℕ → Kept → Kept
+freshKept file b = cond (eqb (freshNumber file b) accepted) (holding freshSite (record { at = freshThreads (readFile file .model) }) b) b
+
+-- a request: the file's number, then 11 where the numbers are not those of a state or the answer has no room
+unfoldable pub askedNumber : List ℕ → Kept → List ℕ → ℕ
+askedNumber file b answer =
+    orElse (readFile file .number) (unless (areHeld (b .variables) (b .log) (b .records) && leb 3 (length answer)) unfit)
+
+-- the request of thread k, on the file's own marks
+unfoldable pub requestBy : List ℕ → List ℕ → Kept → ℕ → Requested
+requestBy file words b k =
+    let m = readFile file .model in
+    requestOf m (conflictMarks m) words (siteFrom (b .variables) (b .log)) (threadsFrom (b .records) .at) k
+
+unfoldable pub requestNumber : List ℕ → List ℕ → Kept → ℕ → List ℕ → ℕ
+requestNumber file words b k answer = orElse (askedNumber file b answer) (numberOf (requestBy file words b k .answer))
+
+-- what a grant leaves; on a refusal the buffers are as they were
+abbrev pub keptBy : Answer → Site → Threads → Kept → Kept
+keptBy (Granted s c) site threads b = holding site threads b
+keptBy (Refused n) site threads b = b
+
+unfoldable pub requestKept : List ℕ → List ℕ → Kept → ℕ → List ℕ → Kept
+requestKept file words b k answer =
+    let r = requestBy file words b k in
+    cond (eqb (askedNumber file b answer) accepted) (keptBy (r .answer) (r .site) (record { at = r .threads }) b) b
+
+-- segment, time and delta of a grant
+unfoldable pub requestAnswer : List ℕ → List ℕ → Kept → ℕ → List ℕ → List ℕ
+requestAnswer file words b k answer =
+    cond (eqb (askedNumber file b answer) accepted) (wordsIn (valuesOf (requestBy file words b k .answer)) answer) answer
+
+-- a whole list of requests from the fresh state on: 11 for a short buffer of the state, then replay's number
+unfoldable pub replayNumber : List ℕ → List ℕ → List ℕ → List ℕ → Kept → ℕ
+replayNumber file words ks answers b = orElse (unless (hasRoom b) unfit) (replayedOf file words ks answers .number)
+
+unfoldable pub replayKept : List ℕ → List ℕ → List ℕ → List ℕ → Kept → Kept
+replayKept file words ks answers b =
+    let r = replayedOf file words ks answers in
+    cond (eqb (replayNumber file words ks answers b) accepted) (holding (r .site) (r .threads) b) b
+
+-- the table and the answers, as replay leaves them
+unfoldable pub replayWords : List ℕ → List ℕ → List ℕ → List ℕ → Kept → List ℕ
+replayWords file words ks answers b = cond (hasRoom b) (wordsAfter file words ks answers) words
+
+unfoldable pub replayAnswers : List ℕ → List ℕ → List ℕ → List ℕ → Kept → List ℕ
+replayAnswers file words ks answers b = cond (hasRoom b) (answersAfter file words ks answers) answers
+
+-- what a call ensures: its number r, and what it leaves. A fresh state
+pub record Freshens (file : List ℕ) (b : Kept) (r : ℕ) (kept : Kept) : Type 0 where
+  pub number : r ≡ freshNumber file b
+  pub state : kept ≡ freshKept file b
+
+-- a request of thread k
+pub record Requests (file words : List ℕ) (b : Kept) (k : ℕ) (answer : List ℕ) (r : ℕ) (kept : Kept) (written : List ℕ) : Type 0 where
+  pub number : r ≡ requestNumber file words b k answer
+  pub state : kept ≡ requestKept file words b k answer
+  pub answered : written ≡ requestAnswer file words b k answer
+
+-- a list of requests
+pub record Replays (file words ks answers : List ℕ) (b : Kept) (r : ℕ) (kept : Kept) (tables written : List ℕ) : Type 0 where
+  pub number : r ≡ replayNumber file words ks answers b
+  pub state : kept ≡ replayKept file words ks answers b
+  pub tabled : tables ≡ replayWords file words ks answers b
+  pub answered : written ≡ replayAnswers file words ks answers b

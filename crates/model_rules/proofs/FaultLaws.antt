@@ -1,0 +1,200 @@
+-- The exits of the functions that look for a first fault, and of those that look for a target that leaves the model.
+--     unless-kept, unless-broken, unless-both, unless-both-then, unless-either     a rule's number; that of two rules together
+--     fault-here, fault-later     the first of two faults
+--     segmentAt-read, startAt-read     what the code reads is what the definitions name; segmentAt-past, startAt-past
+--     statementsFault-here, statementsFault-none     the loop over statements
+--     faultAt-read, placesUsed-few, placesUsed-many, first-rest, segmentsFault-asked, targetsFault-asked     what is asked of a segment
+--     both-below, not-both-below, anyStartLeaves-here, anyStartLeaves-end     the loop over threads
+use Prim.Native.Nat.{ℕ, zero, suc, _<_, _≤_}
+use mathlib.Core.Path.{_≡_, refl, sym, _∙_}
+use mathlib.Core.Bool.{Bool, true, false, cond, not, _&&_, _||_}
+use native.Mathlib.Omega.{arith}
+use native.Mathlib.Decide.{decLt, decLe}
+use lib.Dec.{ltb, leb, ltb→lt}
+use lib.ListN.{length, getD, List·getD-eq-default}
+use borrow.Author.Tests.{lt-ltb, le-ltb, le-leb, lt-leb, ltb-false}
+use Rattle.base.specs.Index.{anyBelow, orElse, firstBelow}
+use Rattle.base.proofs.BoolLaws.{true→T, and→both}
+use Rattle.base.proofs.IndexLaws.{orElse-none, orElse-some, firstBelow-zero, firstBelow-all}
+use Rattle.base.proofs.ListLaws.{getD-any}
+use Rattle.model.specs.declared.Segment.{Segment}
+use Rattle.model.specs.declared.Start.{Start}
+use Rattle.model.specs.declared.Model.{Model}
+use Rattle.model.specs.Values.{noStatement, noSegment, noStart, segmentAt, startAt}
+use Rattle.model.specs.Rules.{unless, opFault, statementsFault, segmentFault, segmentsFault, leavesModel, anySegmentLeaves, anyStartLeaves, targetsFault}
+use Rattle.model_rules.specs.Asked.{faultOf, placesUsed, faultAt}
+use Rattle.model_rules.proofs.SearchLaws.{anyBelow-empty, anyBelow-here, firstBelow-here}
+
+pub unless-kept : (t : Bool) (x : ℕ) → t ≡ true → unless t x ≡ 0
+unless-kept t x e = rw e refl
+
+pub unless-broken : (t : Bool) (x : ℕ) → t ≡ false → x ≡ unless t x
+unless-broken t x e = rw e refl
+
+-- two rules of one number
+pub unless-both : (a b : Bool) (x : ℕ) → (x ≡ 0 → ⊥) → orElse (unless a x) (unless b x) ≡ unless (a && b) x
+unless-both true b x n = orElse-none 0 (unless b x) refl
+unless-both false b x n = orElse-some x (unless b x) n
+
+-- and a third after them
+pub unless-both-then : (a b : Bool) (x y : ℕ) → (x ≡ 0 → ⊥) → orElse (unless (a && b) x) y ≡ orElse (unless a x) (orElse (unless b x) y)
+unless-both-then true b x y n = sym (orElse-none 0 (orElse (unless b x) y) refl)
+unless-both-then false b x y n = orElse-some x y n ∙ sym (orElse-some x (orElse (unless b x) y) n)
+
+pub unless-either : (a b : Bool) (x : ℕ) → (x ≡ 0 → ⊥) → orElse (unless (not a) x) (unless (not b) x) ≡ unless (not (a || b)) x
+unless-either true b x n = orElse-some x (unless (not b) x) n
+unless-either false b x n = orElse-none 0 (unless (not b) x) refl
+
+pub fault-here : (a b x : ℕ) → x ≡ a → (x ≡ 0 → ⊥) → x ≡ orElse a b
+fault-here a b x e n = e ∙ sym (orElse-some a b (λ z. n (e ∙ z)))
+
+pub fault-later : (a b x : ℕ) → a ≡ 0 → x ≡ b → x ≡ orElse a b
+fault-later a b x z e = e ∙ sym (orElse-none a b z)
+
+-- the element that the code reads
+pub segmentAt-read : (m : Model) (i : ℕ) (d : Segment) → i < length (m .segments) → getD (m .segments) i d ≡ segmentAt m i
+unfolding segmentAt
+segmentAt-read m i d h = getD-any (m .segments) i d noSegment h
+
+pub segmentAt-past : (m : Model) (i : ℕ) → length (m .segments) ≤ i → segmentAt m i ≡ noSegment
+unfolding segmentAt
+segmentAt-past m i h = List·getD-eq-default (m .segments) noSegment h
+
+pub startAt-read : (m : Model) (k : ℕ) (d : Start) → k < length (m .starts) → getD (m .starts) k d ≡ startAt m k
+unfolding startAt
+startAt-read m k d h = getD-any (m .starts) k d noStart h
+
+pub startAt-past : (m : Model) (k : ℕ) → length (m .starts) ≤ k → startAt m k ≡ noStart
+unfolding startAt
+startAt-past m k h = List·getD-eq-default (m .starts) noStart h
+
+-- the fault of statement j of g
+unfoldable pub statementFault : ℕ → ℕ → Segment → ℕ → ℕ
+statementFault v e g j = opFault v e (getD (g .statements) j noStatement .op)
+
+module _ (v e : ℕ) (g : Segment) where
+  pub statementsFault-here : (j x : ℕ) → j < g .n → firstBelow j (statementFault v e g) ≡ 0 → x ≡ statementFault v e g j → (x ≡ 0 → ⊥) → x ≡ statementsFault v e g
+  unfolding statementsFault statementFault
+  statementsFault-here j x l none here n = here ∙ sym (firstBelow-here j (g .n) (statementFault v e g) l none (λ z. n (here ∙ z)))
+
+  pub statementsFault-none : (j : ℕ) → j ≡ g .n → firstBelow j (statementFault v e g) ≡ 0 → 0 ≡ statementsFault v e g
+  unfolding statementsFault statementFault
+  statementsFault-none j h none = rw h at (sym none)
+
+-- what is asked of segment i of m
+module _ (m : Model) (i : ℕ) where
+  faultAt-past : (t : Bool) → length (m .segments) ≡ 64 → 64 ≤ i → unless t 4 ≡ faultAt m t i
+  unfolding faultAt faultOf leavesModel
+  faultAt-past false size h = fault-here _ _ 4 (unless-broken (ltb i 64) 4 (le-ltb i 64 h)) (λ z. omega arith)
+  faultAt-past true size h = rw (segmentAt-past m i (omega arith)) refl
+
+  -- the code reads the segment with a default of its own
+  pub faultAt-read : (x : ℕ) (t : Bool) (d : Segment) → i < 64 → length (m .segments) ≡ 64 → x ≡ faultOf (m .n) (m .v) (m .e) t (getD (m .segments) i d) → x ≡ faultAt m t i
+  unfolding faultAt
+  faultAt-read x false d h l e = fault-later _ _ x (unless-kept (ltb i 64) 4 (lt-ltb i 64 h)) (rw (segmentAt-read m i d (omega arith)) at e)
+  faultAt-read x true d h l e = rw (segmentAt-read m i d (omega arith)) at e
+
+pub placesUsed-few : (n : ℕ) → n ≤ 64 → placesUsed n ≡ n
+unfolding placesUsed
+placesUsed-few n h = go (decLt n 64)
+  where
+    go : Dec (n < 64) → cond (ltb n 64) n 64 ≡ n
+    go (yes l) = rw (lt-ltb n 64 l) refl
+    go (no l) = rw (le-ltb n 64 (omega arith)) (omega arith)
+
+pub placesUsed-many : (n : ℕ) → 64 ≤ n → placesUsed n ≡ 64
+unfolding placesUsed
+placesUsed-many n h = rw (le-ltb n 64 h) refl
+
+pub placesUsed-within : (n : ℕ) → (placesUsed n ≤ n) × (placesUsed n ≤ 64)
+placesUsed-within n = go (decLe n 64)
+  where
+    go : Dec (n ≤ 64) → (placesUsed n ≤ n) × (placesUsed n ≤ 64)
+    go (yes h) = rw (placesUsed-few n h) (omega arith, h)
+    go (no h) = rw (placesUsed-many n (omega arith)) (omega arith, omega arith)
+
+-- what is left once the places in use have no fault
+module _ (m : Model) (size : length (m .segments) ≡ 64) where
+  many : (t : Bool) → 64 < m .n → firstBelow 64 (faultAt m t) ≡ 0 → unless t 4 ≡ firstBelow (m .n) (faultAt m t)
+  many true h none = sym (firstBelow-all (m .n) (faultAt m true) (λ i l. go i (decLt i 64)))
+    where
+      go : (i : ℕ) → Dec (i < 64) → faultAt m true i ≡ 0
+      go i (yes l) = firstBelow-zero 64 (faultAt m true) none i l
+      go i (no l) = sym (faultAt-past m i true size (omega arith))
+  many false h none =
+      let here = faultAt-past m 64 false size (omega arith) in
+      here ∙ sym (firstBelow-here 64 (m .n) (faultAt m false) h none (λ z. let e : 4 ≡ 0 = here ∙ z in omega arith))
+
+  pub first-rest : (t : Bool) → firstBelow (placesUsed (m .n)) (faultAt m t) ≡ 0 → unless (t || leb (m .n) 64) 4 ≡ firstBelow (m .n) (faultAt m t)
+  first-rest t none = go t (decLe (m .n) 64) none
+    where
+      go : (t : Bool) → Dec (m .n ≤ 64) → firstBelow (placesUsed (m .n)) (faultAt m t) ≡ 0 → unless (t || leb (m .n) 64) 4 ≡ firstBelow (m .n) (faultAt m t)
+      go true (yes l) e = rw (placesUsed-few (m .n) l) at (sym e)
+      go true (no l) e = many true (omega arith) (rw (placesUsed-many (m .n) (omega arith)) at e)
+      go false (yes l) e = rw (le-leb (m .n) 64 l) (rw (placesUsed-few (m .n) l) at (sym e))
+      go false (no l) e = rw (lt-leb (m .n) 64 (omega arith)) (many false (omega arith) (rw (placesUsed-many (m .n) (omega arith)) at e))
+
+pub segmentsFault-asked : (m : Model) → firstBelow (m .n) (faultAt m false) ≡ segmentsFault m
+unfolding segmentsFault faultAt faultOf
+segmentsFault-asked m = refl
+
+firstBelow-any : (n : ℕ) (f : ℕ → Bool) (x : ℕ) → (x ≡ 0 → ⊥) → firstBelow n (λ i. unless (not (f i)) x) ≡ unless (not (anyBelow n f)) x
+unfolding firstBelow anyBelow
+firstBelow-any zero f x h = refl
+firstBelow-any (suc n) f x h = rw (firstBelow-any n f x h) (unless-either (anyBelow n f) (f n) x h)
+
+pub targetsFault-asked : (m : Model) → orElse (firstBelow (m .n) (faultAt m true)) (unless (not (anyStartLeaves m)) 8) ≡ targetsFault m
+unfolding targetsFault anySegmentLeaves faultAt faultOf
+targetsFault-asked m =
+    rw (firstBelow-any (m .n) (λ i. leavesModel (m .n) (segmentAt m i .closer)) 8 (λ z. omega arith))
+    (unless-either (anyBelow (m .n) (λ i. leavesModel (m .n) (segmentAt m i .closer))) (anyStartLeaves m) 8 (λ z. omega arith))
+
+-- an index below two counts, or not
+pub both-below : (k a b : ℕ) → (ltb k a && ltb k b) ≡ true → (k < a) × (k < b)
+both-below k a b h = let (p, q) = and→both (ltb k a) (ltb k b) (true→T _ h) in (ltb→lt k a p, ltb→lt k b q)
+
+pub not-both-below : (k a b : ℕ) → (ltb k a && ltb k b) ≡ false → k < a → b ≤ k
+not-both-below k a b h l = ltb-false k b (rw (lt-ltb k a l) at h)
+
+-- whether thread k of m starts at a segment not below N
+unfoldable pub startLeaves : Model → ℕ → Bool
+startLeaves m k = not (ltb (startAt m k .first) (m .n))
+
+module _ (m : Model) where
+  pub startLeaves-above : (k : ℕ) (d : Start) → k < length (m .starts) → m .n ≤ getD (m .starts) k d .first → startLeaves m k ≡ true
+  unfolding startLeaves
+  startLeaves-above k d l h = rw (← startAt-read m k d l, le-ltb _ _ h) refl
+
+  pub startLeaves-below : (k : ℕ) (d : Start) → k < length (m .starts) → getD (m .starts) k d .first < m .n → startLeaves m k ≡ false
+  unfolding startLeaves
+  startLeaves-below k d l h = rw (← startAt-read m k d l, lt-ltb _ _ h) refl
+
+  pub anyStartLeaves-here : (k : ℕ) → k < m .t → startLeaves m k ≡ true → true ≡ anyStartLeaves m
+  unfolding anyStartLeaves startLeaves
+  anyStartLeaves-here k l e = sym (anyBelow-here (m .t) (startLeaves m) k l e)
+
+  anyStartLeaves-none : ((k : ℕ) → k < m .t → startLeaves m k ≡ false) → false ≡ anyStartLeaves m
+  unfolding anyStartLeaves startLeaves
+  anyStartLeaves-none h = sym (anyBelow-empty (m .t) (startLeaves m) h)
+
+  -- a thread that starts below N has an N above 0
+  positive : startLeaves m 0 ≡ false → 0 < m .n
+  unfolding startLeaves
+  positive h = go (decLt (startAt m 0 .first) (m .n))
+    where
+      go : Dec (startAt m 0 .first < m .n) → 0 < m .n
+      go (yes l) = omega arith
+      go (no l) = let e : not false ≡ false = rw (le-ltb (startAt m 0 .first) (m .n) (omega arith)) at h in let z : _≡_ {A = ℕ} 0 1 = cc in absurd (omega arith)
+
+  -- past its places a model has threads that start at 0
+  startLeaves-past : (k : ℕ) → length (m .starts) ≤ k → startLeaves m 0 ≡ false → startLeaves m k ≡ false
+  unfolding startLeaves
+  startLeaves-past k h first = rw (startAt-past m k h, lt-ltb 0 (m .n) (positive first)) refl
+
+  -- none of the first k leaves, and there are no more, or no more places
+  pub anyStartLeaves-end : (k : ℕ) → length (m .starts) ≡ 32 → (k < m .t → 32 ≤ k) → ((i : ℕ) → i < k → startLeaves m i ≡ false) → false ≡ anyStartLeaves m
+  anyStartLeaves-end k size h below = anyStartLeaves-none (λ i l. go i l (decLt i k))
+    where
+      go : (i : ℕ) → i < m .t → Dec (i < k) → startLeaves m i ≡ false
+      go i l (yes j) = below i j
+      go i l (no j) = let e : 32 ≤ k = h (omega arith) in startLeaves-past i (omega arith) (below 0 (omega arith))

@@ -1,0 +1,368 @@
+-- What a model that keeps the file rules is known to have: `modelFault m ≡ 0`, taken apart.
+--     modelFault-horizon, modelFault-counts     the head and the counts
+--     modelFault-statements, modelFault-closer, modelFault-op     each segment, each statement
+--     modelFault-next, modelFault-first     each target
+--     closerFault-delay, closerFault-event, closerFault-..-choice, closerFault-..-test, closerFault-test     a closer without a fault
+--     opFault-writes, opFault-reads, opFault-notifies     a statement without a fault
+--     leavesModel-time, leavesModel-event, closedAt-segment     the next segment is below N
+--     modelFault-writes, modelFault-uses, modelFault-notifies     a segment names variables below V and events below E
+use Prim.Native.Nat.{ℕ, suc, _<_, _≤_}
+use mathlib.Core.Path.{_≡_, refl, ap}
+use mathlib.Core.Logic.{_⊎_, inl, inr}
+use mathlib.Core.Bool.{Bool, true, false, not, _&&_, _||_}
+use mathlib.Core.List.{List, [], _∷_}
+use native.Mathlib.Decide.{decLe}
+use native.Mathlib.Omega.{arith}
+use lib.Dec.{T, T-not, ltb, leb, eqb, ltb→lt, leb→le, eqb→eq}
+use lib.ListN.{length, getD, length-take}
+use lib.Seq.{getD-take}
+use Rattle.base.specs.Index.{orElse}
+use Rattle.base.proofs.BoolLaws.{T→false, true→T, false→T, and→both, or→either, not-or→both, eq→eqb}
+use Rattle.base.proofs.IndexLaws.{anyBelow-none, orElse-zero, firstBelow-zero}
+use Rattle.clock.specs.declared.Cycle.{Cycle}
+use Rattle.clock.specs.declared.Delay.{Delay}
+use Rattle.model.specs.declared.Op.{Op}
+use Rattle.model.specs.declared.Op.the-variants.{Set, Add, Copy, AddVariable, SubVariable, Notify}
+use Rattle.model.specs.declared.Statement.{Statement}
+use Rattle.model.specs.declared.Next.{Next}
+use Rattle.model.specs.declared.Closer.{Closer}
+use Rattle.model.specs.declared.Closer.the-variants.{End, Time, Event}
+use Rattle.model.specs.declared.Segment.{Segment}
+use Rattle.model.specs.declared.Model.{Model}
+use Rattle.model.specs.Values.{noStatement, segmentAt, startAt, bodyOf}
+use Rattle.model.specs.Statement.{notifiedByOp, notifiedBy}
+use Rattle.model.specs.Effect.{nextOf, closedAt}
+use Rattle.model.specs.Footprint.{writesOp, readsOp, writes, reads, testsNext, tests, writesOf, usesOf, writesIn, usesIn, has, listedIn, notifiesIn}
+use Rattle.model.specs.Rules.{unless, headFault, choiceFault, testFault, closerFault, opFault, statementsFault, segmentFault, segmentsFault, countsFault, leavesModel, anySegmentLeaves, anyStartLeaves, targetsFault, modelFault}
+use Rattle.model_effect.proofs.EffectLaws.{delayOf, nextOf-either}
+
+-- a rule whose number does not stand is kept
+kept : (t : Bool) (x : ℕ) → 0 < x → unless t x ≡ 0 → T t
+kept true x p h = tt
+kept false x p h = absurd (omega arith)
+
+-- a head
+module _ (h v e : ℕ) (fit : headFault h v e ≡ 0) where
+  head-kept : T (leb 1 h && leb h 1000000000) × T (leb v 64 && leb e 32)
+  unfolding headFault
+  head-kept =
+      and→both (leb 1 h && leb h 1000000000) (leb v 64 && leb e 32)
+      (kept ((leb 1 h && leb h 1000000000) && (leb v 64 && leb e 32)) 4 (omega arith) fit)
+
+  pub headFault-horizon : (1 ≤ h) × (h ≤ 1000000000)
+  headFault-horizon = let (p, q) = and→both (leb 1 h) (leb h 1000000000) (head-kept .0) in (leb→le 1 h p, leb→le h 1000000000 q)
+
+  pub headFault-counts : (v ≤ 64) × (e ≤ 32)
+  headFault-counts = let (p, q) = and→both (leb v 64) (leb e 32) (head-kept .1) in (leb→le v 64 p, leb→le e 32 q)
+
+-- a closer
+choiceFault-kept : (x : Next) → choiceFault x ≡ 0 → x .test ≡ 255 → (x .b ≡ x .a) × (x .limit ≡ 0)
+unfolding choiceFault
+choiceFault-kept x h t =
+    let same = eqb (x .b) (x .a) && eqb (x .limit) 0 in
+    go (or→either (not (eqb (x .test) 255)) same (kept (not (eqb (x .test) 255) || same) 5 (omega arith) h))
+  where
+    go : T (not (eqb (x .test) 255)) ⊎ T (eqb (x .b) (x .a) && eqb (x .limit) 0) → (x .b ≡ x .a) × (x .limit ≡ 0)
+    go (inl n) = absurd (T-not (eqb (x .test) 255) n (eq→eqb (x .test) 255 t))
+    go (inr b) = let (p, q) = and→both (eqb (x .b) (x .a)) (eqb (x .limit) 0) b in (eqb→eq (x .b) (x .a) p, eqb→eq (x .limit) 0 q)
+
+module _ (v e : ℕ) where
+  testFault-kept : (x : Next) → testFault v x ≡ 0 → (x .test ≡ 255) ⊎ (x .test < v)
+  unfolding testFault
+  testFault-kept x h = go (or→either (eqb (x .test) 255) (ltb (x .test) v) (kept (eqb (x .test) 255 || ltb (x .test) v) 7 (omega arith) h))
+    where
+      go : T (eqb (x .test) 255) ⊎ T (ltb (x .test) v) → (x .test ≡ 255) ⊎ (x .test < v)
+      go (inl t) = inl (eqb→eq (x .test) 255 t)
+      go (inr t) = inr (ltb→lt (x .test) v t)
+
+  pub closerFault-delay : (g : Closer) → closerFault v e g ≡ 0 → delayOf g ≤ 1000000000
+  unfolding closerFault
+  closerFault-delay End h = omega arith
+  closerFault-delay (Time k x) h = leb→le (k .0) 1000000000 (kept (leb (k .0) 1000000000) 5 (omega arith) (orElse-zero _ _ h .0))
+  closerFault-delay (Event w x) h = omega arith
+
+  pub closerFault-event : (w : ℕ) (x : Next) → closerFault v e (Event w x) ≡ 0 → w < e
+  unfolding closerFault
+  closerFault-event w x h = ltb→lt w e (kept (ltb w e) 7 (omega arith) (orElse-zero _ _ (orElse-zero _ _ h .1) .0))
+
+  pub closerFault-time-choice : (k : Delay) (x : Next) → closerFault v e (Time k x) ≡ 0 → x .test ≡ 255 → (x .b ≡ x .a) × (x .limit ≡ 0)
+  unfolding closerFault
+  closerFault-time-choice k x h = choiceFault-kept x (orElse-zero _ _ (orElse-zero _ _ h .1) .0)
+
+  pub closerFault-event-choice : (w : ℕ) (x : Next) → closerFault v e (Event w x) ≡ 0 → x .test ≡ 255 → (x .b ≡ x .a) × (x .limit ≡ 0)
+  unfolding closerFault
+  closerFault-event-choice w x h = choiceFault-kept x (orElse-zero _ _ h .0)
+
+  pub closerFault-time-test : (k : Delay) (x : Next) → closerFault v e (Time k x) ≡ 0 → (x .test ≡ 255) ⊎ (x .test < v)
+  unfolding closerFault
+  closerFault-time-test k x h = testFault-kept x (orElse-zero _ _ (orElse-zero _ _ h .1) .1)
+
+  pub closerFault-event-test : (w : ℕ) (x : Next) → closerFault v e (Event w x) ≡ 0 → (x .test ≡ 255) ⊎ (x .test < v)
+  unfolding closerFault
+  closerFault-event-test w x h = testFault-kept x (orElse-zero _ _ (orElse-zero _ _ h .1) .1)
+
+  tested-below : (x : Next) (i : ℕ) → (x .test ≡ 255) ⊎ (x .test < v) → T (testsNext x i) → i < v
+  unfolding testsNext
+  tested-below x i (inl e) t = absurd (T-not (eqb (x .test) 255) (and→both (not (eqb (x .test) 255)) (eqb (x .test) i) t .0) (eq→eqb (x .test) 255 e))
+  tested-below x i (inr l) t = let e : x .test ≡ i = eqb→eq (x .test) i (and→both (not (eqb (x .test) 255)) (eqb (x .test) i) t .1) in omega arith
+
+  -- whichever the closer
+  pub closerFault-test : (g : Closer) (i : ℕ) → closerFault v e g ≡ 0 → T (tests g i) → i < v
+  unfolding tests
+  closerFault-test End i h t = absurd t
+  closerFault-test (Time k x) i h t = tested-below x i (closerFault-time-test k x h) t
+  closerFault-test (Event w x) i h t = tested-below x i (closerFault-event-test w x h) t
+
+  -- a statement
+  name-kept : (a n i : ℕ) → unless (ltb a n) 7 ≡ 0 → T (eqb a i) → i < n
+  name-kept a n i h t = let l = ltb→lt a n (kept (ltb a n) 7 (omega arith) h) in let q = eqb→eq a i t in omega arith
+
+  names-kept : (a b : ℕ) → unless (ltb a v && ltb b v) 7 ≡ 0 → (a < v) × (b < v)
+  names-kept a b h =
+      let (p, q) = and→both (ltb a v) (ltb b v) (kept (ltb a v && ltb b v) 7 (omega arith) h) in
+      (ltb→lt a v p, ltb→lt b v q)
+
+  first-name : (a b i : ℕ) → unless (ltb a v && ltb b v) 7 ≡ 0 → T (eqb a i) → i < v
+  first-name a b i h t = let (l, r) = names-kept a b h in let q = eqb→eq a i t in omega arith
+
+  second-name : (a b i : ℕ) → unless (ltb a v && ltb b v) 7 ≡ 0 → T (eqb b i) → i < v
+  second-name a b i h t = let (l, r) = names-kept a b h in let q = eqb→eq b i t in omega arith
+
+  either-name : (a b i : ℕ) → unless (ltb a v && ltb b v) 7 ≡ 0 → T (eqb a i || eqb b i) → i < v
+  either-name a b i h t = go (or→either (eqb a i) (eqb b i) t)
+    where
+      go : T (eqb a i) ⊎ T (eqb b i) → i < v
+      go (inl p) = first-name a b i h p
+      go (inr p) = second-name a b i h p
+
+  pub opFault-writes : (o : Op) (i : ℕ) → opFault v e o ≡ 0 → T (writesOp o i) → i < v
+  unfolding opFault
+  opFault-writes (Set a b) i h t = name-kept a v i h t
+  opFault-writes (Add a b) i h t = name-kept a v i h t
+  opFault-writes (Copy a b) i h t = first-name a b i h t
+  opFault-writes (AddVariable a b) i h t = first-name a b i h t
+  opFault-writes (SubVariable a b) i h t = first-name a b i h t
+  opFault-writes (Notify w) i h t = absurd t
+
+  pub opFault-reads : (o : Op) (i : ℕ) → opFault v e o ≡ 0 → T (readsOp o i) → i < v
+  unfolding opFault
+  opFault-reads (Set a b) i h t = absurd t
+  opFault-reads (Add a b) i h t = name-kept a v i h t
+  opFault-reads (Copy a b) i h t = second-name a b i h t
+  opFault-reads (AddVariable a b) i h t = either-name a b i h t
+  opFault-reads (SubVariable a b) i h t = either-name a b i h t
+  opFault-reads (Notify w) i h t = absurd t
+
+  pub opFault-notifies : (w : ℕ) → opFault v e (Notify w) ≡ 0 → w < e
+  unfolding opFault
+  opFault-notifies w h = ltb→lt w e (kept (ltb w e) 7 (omega arith) h)
+
+-- targets
+module _ (n : ℕ) where
+  next-kept : (a b : ℕ) → not (ltb a n && ltb b n) ≡ false → (a < n) × (b < n)
+  next-kept a b h = go (ltb a n && ltb b n) refl
+    where
+      go : (t : Bool) → ltb a n && ltb b n ≡ t → (a < n) × (b < n)
+      go true e =
+          let (p, q) = and→both (ltb a n) (ltb b n) (true→T (ltb a n && ltb b n) e) in
+          (ltb→lt a n p, ltb→lt b n q)
+      go false e = absurd (false→T true (rw e at h))
+
+  pub leavesModel-time : (k : Delay) (x : Next) → leavesModel n (Time k x) ≡ false → (x .a < n) × (x .b < n)
+  unfolding leavesModel
+  leavesModel-time k x h = next-kept (x .a) (x .b) h
+
+  pub leavesModel-event : (w : ℕ) (x : Next) → leavesModel n (Event w x) ≡ false → (x .a < n) × (x .b < n)
+  unfolding leavesModel
+  leavesModel-event w x h = next-kept (x .a) (x .b) h
+
+  nextOf-kept : (x : Next) (v : List ℕ) → (x .a < n) × (x .b < n) → nextOf x v < n
+  nextOf-kept x v (p, q) = go (nextOf-either x v)
+    where
+      go : (nextOf x v ≡ x .a) ⊎ (nextOf x v ≡ x .b) → nextOf x v < n
+      go (inl e) = omega arith
+      go (inr e) = omega arith
+
+  -- a thread that closes in the model stays in it
+  pub closedAt-segment : (s : ℕ) (g : Closer) (c : Cycle) (v : List ℕ) → s < n → leavesModel n g ≡ false → closedAt s g c v .segment < n
+  unfolding closedAt
+  closedAt-segment s End c v l h = l
+  closedAt-segment s (Time k x) c v l h = nextOf-kept x v (leavesModel-time k x h)
+  closedAt-segment s (Event w x) c v l h = nextOf-kept x v (leavesModel-event w x h)
+
+-- a statement of a list that writes, reads or notifies
+writes-at : (xs : List Statement) (i : ℕ) → T (writes xs i) → (j : ℕ) × (j < length xs) × T (writesOp (getD xs j noStatement .op) i)
+unfolding writes
+writes-at [] i t = absurd t
+writes-at (x ∷ xs) i t = go (writes-at xs i) (or→either (writesOp (x .op) i) (writes xs i) t)
+  where
+    go : (T (writes xs i) → (j : ℕ) × (j < length xs) × T (writesOp (getD xs j noStatement .op) i)) → T (writesOp (x .op) i) ⊎ T (writes xs i)
+        → (j : ℕ) × (j < length (x ∷ xs)) × T (writesOp (getD (x ∷ xs) j noStatement .op) i)
+    go ih (inl u) = (0, omega arith, u)
+    go ih (inr u) = let (j, l, w) = ih u in (suc j, omega arith, w)
+
+reads-at : (xs : List Statement) (i : ℕ) → T (reads xs i) → (j : ℕ) × (j < length xs) × T (readsOp (getD xs j noStatement .op) i)
+unfolding reads
+reads-at [] i t = absurd t
+reads-at (x ∷ xs) i t = go (reads-at xs i) (or→either (readsOp (x .op) i) (reads xs i) t)
+  where
+    go : (T (reads xs i) → (j : ℕ) × (j < length xs) × T (readsOp (getD xs j noStatement .op) i)) → T (readsOp (x .op) i) ⊎ T (reads xs i)
+        → (j : ℕ) × (j < length (x ∷ xs)) × T (readsOp (getD (x ∷ xs) j noStatement .op) i)
+    go ih (inl u) = (0, omega arith, u)
+    go ih (inr u) = let (j, l, w) = ih u in (suc j, omega arith, w)
+
+notifies-first : (o : Op) (es : List ℕ) (w : ℕ) → T (has (notifiedByOp o es) w) → (o ≡ Notify w) ⊎ T (has es w)
+unfolding has
+notifies-first (Set a b) es w t = inr t
+notifies-first (Add a b) es w t = inr t
+notifies-first (Copy a b) es w t = inr t
+notifies-first (AddVariable a b) es w t = inr t
+notifies-first (SubVariable a b) es w t = inr t
+notifies-first (Notify x) es w t = go (or→either (eqb x w) (has es w) t)
+  where
+    go : T (eqb x w) ⊎ T (has es w) → (Notify x ≡ Notify w) ⊎ T (has es w)
+    go (inl u) = inl (ap Notify (eqb→eq x w u))
+    go (inr u) = inr u
+
+notifies-at : (xs : List Statement) (w : ℕ) → T (has (notifiedBy xs) w) → (j : ℕ) × (j < length xs) × (getD xs j noStatement .op ≡ Notify w)
+unfolding notifiedBy has
+notifies-at [] w t = absurd t
+notifies-at (x ∷ xs) w t = go (notifies-at xs w) (notifies-first (x .op) (notifiedBy xs) w t)
+  where
+    go : (T (has (notifiedBy xs) w) → (j : ℕ) × (j < length xs) × (getD xs j noStatement .op ≡ Notify w)) → (x .op ≡ Notify w) ⊎ T (has (notifiedBy xs) w)
+        → (j : ℕ) × (j < length (x ∷ xs)) × (getD (x ∷ xs) j noStatement .op ≡ Notify w)
+    go ih (inl u) = (0, omega arith, u)
+    go ih (inr u) = let (j, l, q) = ih u in (suc j, omega arith, q)
+
+-- a segment
+module _ (v e : ℕ) (g : Segment) (fit : segmentFault v e g ≡ 0) where
+  pub segmentFault-statements : g .n ≤ 32
+  unfolding segmentFault
+  segmentFault-statements = leb→le (g .n) 32 (kept (leb (g .n) 32) 3 (omega arith) (orElse-zero _ _ fit .0))
+
+  pub segmentFault-closer : closerFault v e (g .closer) ≡ 0
+  unfolding segmentFault
+  segmentFault-closer = orElse-zero _ _ (orElse-zero _ _ fit .1) .0
+
+  pub segmentFault-op : (j : ℕ) → j < g .n → opFault v e (getD (g .statements) j noStatement .op) ≡ 0
+  unfolding segmentFault statementsFault
+  segmentFault-op j h = firstBelow-zero (g .n) _ (orElse-zero _ _ (orElse-zero _ _ fit .1) .1) j h
+
+  body-op : (j : ℕ) → j < length (bodyOf g) → opFault v e (getD (bodyOf g) j noStatement .op) ≡ 0
+  unfolding bodyOf
+  body-op j h =
+      let l : j < g .n = omega (arith, length-take (g .n) (g .statements)) in
+      rw (getD-take (g .n) (g .statements) j noStatement l) (segmentFault-op j l)
+
+  pub segmentFault-writes : (i : ℕ) → T (writesOf g i) → i < v
+  unfolding writesOf
+  segmentFault-writes i t = let (j, l, w) = writes-at (bodyOf g) i t in opFault-writes v e _ i (body-op j l) w
+
+  segmentFault-reads : (i : ℕ) → T (reads (bodyOf g) i) → i < v
+  segmentFault-reads i t = let (j, l, w) = reads-at (bodyOf g) i t in opFault-reads v e _ i (body-op j l) w
+
+  pub segmentFault-uses : (i : ℕ) → T (usesOf g i) → i < v
+  unfolding usesOf
+  segmentFault-uses i t = go (or→either (writesOf g i || reads (bodyOf g) i) (tests (g .closer) i) t)
+    where
+      body : T (writesOf g i) ⊎ T (reads (bodyOf g) i) → i < v
+      body (inl u) = segmentFault-writes i u
+      body (inr u) = segmentFault-reads i u
+
+      go : T (writesOf g i || reads (bodyOf g) i) ⊎ T (tests (g .closer) i) → i < v
+      go (inl u) = body (or→either (writesOf g i) (reads (bodyOf g) i) u)
+      go (inr u) = closerFault-test v e (g .closer) i segmentFault-closer u
+
+  pub segmentFault-notifies : (w : ℕ) → T (has (notifiedBy (bodyOf g)) w) → w < e
+  segmentFault-notifies w t = let (j, l, q) = notifies-at (bodyOf g) w t in opFault-notifies v e w (rw q at (body-op j l))
+
+not-not : (t : Bool) → T (not (not t)) → T t
+not-not true h = tt
+not-not false h = absurd h
+
+-- a model's counts, in range
+pub record Counts (m : Model) : Type 0 where
+  pub variables : m .v ≤ 64
+  pub events : m .e ≤ 32
+  pub some-segment : 1 ≤ m .n
+  pub segments : m .n ≤ 64
+  pub some-thread : 1 ≤ m .t
+  pub threads : m .t ≤ 32
+
+module _ (m : Model) (fit : modelFault m ≡ 0) where
+  segments-kept : (i : ℕ) → i < m .n → orElse (unless (ltb i 64) 4) (segmentFault (m .v) (m .e) (segmentAt m i)) ≡ 0
+  unfolding modelFault segmentsFault
+  segments-kept i l = firstBelow-zero (m .n) _ (orElse-zero _ _ (orElse-zero _ _ fit .1) .0) i l
+
+  counts-kept : countsFault m ≡ 0
+  unfolding modelFault
+  counts-kept = orElse-zero _ _ (orElse-zero _ _ (orElse-zero _ _ fit .1) .1) .0
+
+  targets-kept : T (not (anySegmentLeaves m)) × T (not (anyStartLeaves m))
+  unfolding modelFault targetsFault
+  targets-kept =
+      not-or→both (anySegmentLeaves m) (anyStartLeaves m)
+      (kept (not (anySegmentLeaves m || anyStartLeaves m)) 8 (omega arith) (orElse-zero _ _ (orElse-zero _ _ (orElse-zero _ _ fit .1) .1) .1))
+
+  pub modelFault-head : headFault (m .horizon .0) (m .v) (m .e) ≡ 0
+  unfolding modelFault
+  modelFault-head = orElse-zero _ _ fit .0
+
+  pub modelFault-horizon : (1 ≤ m .horizon .0) × (m .horizon .0 ≤ 1000000000)
+  modelFault-horizon = headFault-horizon (m .horizon .0) (m .v) (m .e) modelFault-head
+
+  few-segments : m .n ≤ 64
+  few-segments = go (decLe (m .n) 64)
+    where
+      go : Dec (m .n ≤ 64) → m .n ≤ 64
+      go (yes h) = h
+      go (no h) = absurd (kept (ltb 64 64) 4 (omega arith) (orElse-zero _ _ (segments-kept 64 (omega arith)) .0))
+
+  pub modelFault-counts : Counts m
+  unfolding countsFault
+  modelFault-counts =
+      let (v, e) = headFault-counts (m .horizon .0) (m .v) (m .e) modelFault-head in
+      let (n, rest) = orElse-zero (unless (leb 1 (m .n)) 2) _ counts-kept in
+      let (t, u) = orElse-zero (unless (leb 1 (m .t)) 2) _ rest in
+      record {
+        variables = v;
+        events = e;
+        some-segment = leb→le 1 (m .n) (kept (leb 1 (m .n)) 2 (omega arith) n);
+        segments = few-segments;
+        some-thread = leb→le 1 (m .t) (kept (leb 1 (m .t)) 2 (omega arith) t);
+        threads = leb→le (m .t) 32 (kept (leb (m .t) 32) 4 (omega arith) u);
+      }
+
+  pub modelFault-segment : (i : ℕ) → i < m .n → segmentFault (m .v) (m .e) (segmentAt m i) ≡ 0
+  modelFault-segment i l = orElse-zero _ _ (segments-kept i l) .1
+
+  pub modelFault-statements : (i : ℕ) → i < m .n → segmentAt m i .n ≤ 32
+  modelFault-statements i l = segmentFault-statements (m .v) (m .e) (segmentAt m i) (modelFault-segment i l)
+
+  pub modelFault-closer : (i : ℕ) → i < m .n → closerFault (m .v) (m .e) (segmentAt m i .closer) ≡ 0
+  modelFault-closer i l = segmentFault-closer (m .v) (m .e) (segmentAt m i) (modelFault-segment i l)
+
+  pub modelFault-op : (i j : ℕ) → i < m .n → j < segmentAt m i .n → opFault (m .v) (m .e) (getD (segmentAt m i .statements) j noStatement .op) ≡ 0
+  modelFault-op i j l h = segmentFault-op (m .v) (m .e) (segmentAt m i) (modelFault-segment i l) j h
+
+  pub modelFault-next : (i : ℕ) → i < m .n → leavesModel (m .n) (segmentAt m i .closer) ≡ false
+  unfolding anySegmentLeaves
+  modelFault-next i l = T→false _ (anyBelow-none (m .n) _ (targets-kept .0) i l)
+
+  pub modelFault-first : (k : ℕ) → k < m .t → startAt m k .first < m .n
+  unfolding anyStartLeaves
+  modelFault-first k l = ltb→lt (startAt m k .first) (m .n) (not-not (ltb (startAt m k .first) (m .n)) (anyBelow-none (m .t) _ (targets-kept .1) k l))
+
+  -- what thread k names in segment s
+  module _ (k s : ℕ) (l : s < m .n) where
+    pub modelFault-writes : (i : ℕ) → T (writesIn m k s i) → i < m .v
+    unfolding writesIn
+    modelFault-writes i t = segmentFault-writes (m .v) (m .e) (segmentAt m s) (modelFault-segment s l) i t
+
+    pub modelFault-uses : (i : ℕ) → T (usesIn m k s i) → i < m .v
+    unfolding usesIn
+    modelFault-uses i t = segmentFault-uses (m .v) (m .e) (segmentAt m s) (modelFault-segment s l) i t
+
+    pub modelFault-notifies : (w : ℕ) → T (notifiesIn m k s w) → w < m .e
+    unfolding notifiesIn listedIn
+    modelFault-notifies w t = segmentFault-notifies (m .v) (m .e) (segmentAt m s) (modelFault-segment s l) w t

@@ -1,0 +1,30 @@
+-- `model_rules::next_fault` meets its contract: all of 5, then all of 7.
+use mathlib.Core.Path.{refl}
+use native.Mathlib.Omega.{arith}
+use borrow.Author.Needs.{needs}
+use Rattle.model.specs.Rules.{choiceFault, testFault}
+use Rattle.model_rules.proofs.FaultLaws.{unless-both, unless-both-then}
+use Rattle.model_rules.proofs.next_fault.Statement.{statement}
+use Rattle.model_rules.proofs.next_fault.Tie as tie
+
+unless-requires : tie.Need-unless-requires
+unless-requires c κs = search needs
+
+unless-requires-2 : tie.Need-unless-requires-2
+unless-requires-2 c κs = search needs
+
+or-else-requires : tie.Need-or-else-requires
+or-else-requires c κs = search needs
+
+returns : tie.Need-returns
+unfolding choiceFault testFault
+returns c = rw (
+  c .or-else .ensures,
+  c .before .before .before .unless .ensures,
+  c .before .unless2 .ensures,
+  unless-both-then (c .before .before .before .before .before .before .before .args .short) _ 5 _ (λ z. omega arith),
+  unless-both (c .before .before .before .before .before .before .before .args .named) _ 7 (λ z. omega arith),
+)
+
+pub next-fault-spec : {M : Type 1} → statement M
+next-fault-spec = tie.close (tie.spec unless-requires unless-requires-2 or-else-requires returns)

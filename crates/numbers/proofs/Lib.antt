@@ -1,9 +1,0 @@
-pub mod LengthLaws
-pub mod WordLaws
-pub mod IntoLaws
-pub mod HeldLaws
-pub mod TurnLaws
-pub mod RangeLaws
-pub mod RoundLaws
-pub mod Computed
-pub mod Edges

@@ -1,0 +1,461 @@
+-- The loop of `cycles`: its locals are a place of the plain run, from which the rest of the run is still to come.
+--     countOf-room, countOf-later     steps are counted by cycle and turn; there are never more than the last step
+--     Stands, stands-step     the run from a place, with enough steps left, is the whole run
+--     Loop     the locals stand for a place, the marks for the events notified
+--     loop-start, loop-passed, loop-ran, loop-begun     before the loop, and after each turn
+--     loop-ahead     once all are looked at, every word is ahead
+--     loop-out, loop-rest     where the budget is out, and where no thread is ready before the horizon
+use Prim.Native.Nat.{ℕ, suc, _+_, _-_, _*_, _<_, _≤_, _^_}
+use mathlib.Core.Path.{_≡_, refl, ap, sym, _∙_}
+use mathlib.Core.Logic.{_⊎_, inl, inr}
+use mathlib.Core.Bool.{Bool, true, false, not, _&&_}
+use mathlib.Core.List.{List, [], _++_}
+use native.Mathlib.Nat.{add-mul, one-mul, mul-le-mul-right}
+use native.Mathlib.Omega.{arith}
+use native.Mathlib.Decide.{ℕ-discrete, decLt}
+use lib.Dec.{T, ltb, leb}
+use lib.ListN.{length, getD, set, replicate, length-set, length-append, length-replicate, getD-replicate, List·getD-append}
+use lib.Seq.{getD-set-same, getD-set-other, ext-getD}
+use borrow.Author.Tests.{lt-ltb, le-ltb, le-leb, lt-leb}
+use Rattle.base.specs.Index.{tabulate}
+use Rattle.base.proofs.BoolLaws.{T→true, true→T, false→T}
+use Rattle.base.proofs.IndexLaws.{tabulate-length, tabulate-at}
+use Rattle.clock.specs.declared.Cycle.{Cycle}
+use Rattle.clock.specs.declared.Bound.{Bound}
+use Rattle.clock.specs.declared.Bound.the-variants.{At}
+use Rattle.clock.specs.Cycle.{cycleAt}
+use Rattle.clock.specs.Order.{Before, sooner, same-time}
+use Rattle.model.specs.declared.Closer.{Closer}
+use Rattle.model.specs.declared.Closer.the-variants.{End, Time, Event}
+use Rattle.model.specs.declared.Model.{Model}
+use Rattle.model.specs.declared.State.{State}
+use Rattle.model.specs.declared.State.the-variants.{Ended, Overrun, Ready, Waiting}
+use Rattle.model.specs.declared.Thread.{Thread}
+use Rattle.model.specs.declared.Threads.{Threads}
+use Rattle.model.specs.Values.{segmentAt, startAt, bodyOf}
+use Rattle.model.specs.Statement.{execute, notifiedBy}
+use Rattle.model.specs.Limits.{isBeforeHorizon, isBoundBeforeHorizon}
+use Rattle.model.specs.Record.{noThread, threadAt, readyCycle}
+use Rattle.model.specs.Effect.{closedAt, effectIn, effectOf}
+use Rattle.model.specs.Footprint.{listedIn, notifiesIn}
+use Rattle.model.specs.Rules.{closerFault, modelFault}
+use Rattle.model_rules.proofs.RuleLaws.{closerFault-delay, modelFault-horizon, modelFault-counts, modelFault-statements, modelFault-closer, modelFault-notifies}
+use Rattle.plain_words.specs.Pack.{IsCode}
+use Rattle.plain_words.specs.Unpack.{marked, endBy, executeBy, markedBy, followBy}
+use Rattle.plain_words.proofs.MarkLaws.{Tells, Within, marked-length, tells-none, tells-more}
+use Rattle.plain_words.proofs.CodeLaws.{code-end, code-execute, code-marked, code-follow}
+use Rattle.plain.specs.declared.PlainRun.{PlainRun}
+use Rattle.plain.specs.Start.{Place, started, freshThreads, freshVariables, startOf}
+use Rattle.plain.specs.Wake.{wokenThread, woken, floorOf, someReady}
+use Rattle.plain.specs.Step.{isAt, isDue, ranOn, passedOn, begun, closedOn, stepped}
+use Rattle.plain.specs.Run.{isDone, isOut, runFor, lastStep, reported}
+use Rattle.plain_laws.proofs.RecordLaws.{<→horizon}
+use Rattle.plain_core.specs.Words.{keyOf, wordOf, stateFrom, threadsTo, answer, closeWord, wakeWord, leastWord}
+use Rattle.plain_core.proofs.FloorLaws.{someReady-here, someReady-rest, begun-rest, stepped-close, runFor-done, runFor-out, runFor-on}
+use Rattle.plain_core.proofs.SoundLaws.{Ahead, Sound, isDue→≡, sound-start, sound-passed, sound-ran, floor-ahead, sound-begun, threadAt-fresh, threadAt-woken, woken-length}
+use Rattle.plain_core.proofs.WordLaws.{Small, InRange, unitsOf, stateFrom-word, word-due, word-not-due, closeWord-closed, wakeWord-woken}
+use Rattle.plain_core.proofs.RangeLaws.{Ranged, past-end, small-now, closedAt-range, ranged-start, ranged-set, ranged-woken}
+use Rattle.plain_core.proofs.LeastLaws.{leastWord-one, floor-word, floor-late}
+
+-- how many steps lie before a turn of a cycle: T + 1 for each cycle, whether it is run or not
+abbrev pub countAt : ℕ → ℕ → ℕ → ℕ
+countAt t key turn = key * (t + 1) + turn
+
+cycle-room : (t a b : ℕ) → a < b → a * (t + 1) + (t + 1) ≤ b * (t + 1)
+cycle-room t a b h =
+    let e : (a + 1) * (t + 1) ≡ a * (t + 1) + 1 * (t + 1) = add-mul a 1 (t + 1) in
+    let i : 1 * (t + 1) ≡ t + 1 = one-mul (t + 1) in
+    let l : (a + 1) * (t + 1) ≤ b * (t + 1) = mul-le-mul-right (t + 1) (omega arith) in
+    omega arith
+
+pub countAt-room : (t h : ℕ) (c : Cycle) (turn : ℕ) → c .time .0 < h → c .delta .0 ≤ 1023 → turn ≤ t → countAt t (keyOf c) turn < 1024 * h * (t + 1)
+countAt-room t h c turn l d u =
+    let r = cycle-room t (1024 * c .time .0 + c .delta .0) (1024 * h) (omega arith) in
+    omega arith
+
+key-later : {c d : Cycle} → Before c d → c .delta .0 ≤ 1023 → 1024 * c .time .0 + c .delta .0 < 1024 * d .time .0 + d .delta .0
+key-later (sooner h) l = omega arith
+key-later (same-time h k) l = omega arith
+
+pub countAt-later : (t : ℕ) {c d : Cycle} (turn : ℕ) → Before c d → c .delta .0 ≤ 1023 → turn ≤ t → countAt t (keyOf c) turn < countAt t (keyOf d) 0
+countAt-later t {c} {d} turn b l u =
+    let r = cycle-room t (1024 * c .time .0 + c .delta .0) (1024 * d .time .0 + d .delta .0) (key-later b l) in
+    omega arith
+
+abbrev countOf : Model → Place → ℕ
+countOf m p = countAt (m .t) (keyOf (p .now)) (p .turn)
+
+pub record Stands (m : Model) (budget : ℕ) (p : Place) : Type 0 where
+  pub sound : Sound m p
+  pub steps : ℕ
+  pub same : runFor m budget steps p ≡ runFor m budget (lastStep m) (startOf m)
+  pub left : lastStep m ≤ steps + countOf m p
+
+stands-steps : (m : Model) (budget s s′ : ℕ) (p q : Place) → s ≡ suc s′ → T (not (isOut m budget p)) → stepped m p ≡ q → runFor m budget s p ≡ runFor m budget s′ q
+stands-steps m budget s s′ p q e o f = rw (e, ← f) (runFor-on m budget s′ p o)
+
+pub stands-step : (m : Model) (budget : ℕ) (p q : Place) → Stands m budget p → T (not (isOut m budget p)) → stepped m p ≡ q → Sound m q → countOf m p < countOf m q → Stands m budget q
+stands-step m budget p q st o e s later =
+    let room : countOf m p < lastStep m = countAt-room (m .t) (m .horizon .0) (p .now) (p .turn) (st .sound .time) (st .sound .delta) (st .sound .turn) in
+    let left = st .left in
+    let n : st .steps ≡ suc (st .steps - 1) = omega arith in
+    record {
+      sound = s;
+      steps = st .steps - 1;
+      same = sym (stands-steps m budget (st .steps) (st .steps - 1) p q n o e) ∙ st .same;
+      left = omega arith;
+    }
+
+abbrev pub placeOf : List ℕ → List Thread → Cycle → ℕ → List ℕ → ℕ → Place
+placeOf v ts now turn es n = record { variables = v; threads = ts; now = now; turn = turn; notified = es; n = n }
+
+-- the words ws and segments ss stand for threads, the marks fs for events, and now for a cycle
+pub record Loop (m : Model) (budget : ℕ) (v ws ss : List ℕ) (fs : List Bool) (now turn n : ℕ) : Type 0 where
+  pub threads : List Thread
+  pub cycle : Cycle
+  pub events : List ℕ
+  pub key : now ≡ keyOf cycle
+  pub words : (k : ℕ) → k < m .t → getD ws k 0 ≡ wordOf (threadAt threads k .state)
+  pub segments : (k : ℕ) → k < m .t → getD ss k 0 ≡ threadAt threads k .segment
+  pub ranged : Ranged (m .t) threads
+  pub tells : Tells fs events
+  pub marks-size : length fs ≡ 32
+  pub words-size : length ws ≡ 32
+  pub segments-size : length ss ≡ 32
+  pub stands : Stands m budget (placeOf v threads cycle turn events n)
+
+-- what the run answers
+abbrev pub answerOf : Model → ℕ → PlainRun
+answerOf m budget = reported m (runFor m budget (lastStep m) (startOf m))
+
+reported-as : (m : Model) (p : Place) (spent : Bool) → someReady m (p .threads) ≡ spent → answer (p .variables) (p .threads) (p .n) spent ≡ reported m p
+unfolding reported
+reported-as m p spent e = rw (← e) refl
+
+-- tests of a place, from what the code has tested
+isDue-at : (p : Place) → isAt (p .now) (readyCycle (threadAt (p .threads) (p .turn) .state)) ≡ isDue p
+unfolding isDue
+isDue-at p = refl
+
+isOut-not-due : (m : Model) (budget : ℕ) (p : Place) → isDue p ≡ false → T (not (isOut m budget p))
+unfolding isOut
+isOut-not-due m budget p e = go (ltb (p .turn) (m .t))
+  where
+    go : (b : Bool) → T (not ((b && isDue p) && leb budget (p .n)))
+    go true = rw e tt
+    go false = tt
+
+isOut-room : (m : Model) (budget : ℕ) (p : Place) → p .n < budget → T (not (isOut m budget p))
+unfolding isOut
+isOut-room m budget p h = go (ltb (p .turn) (m .t) && isDue p)
+  where
+    go : (b : Bool) → T (not (b && leb budget (p .n)))
+    go true = rw (lt-leb budget (p .n) h) tt
+    go false = tt
+
+isOut-closed : (m : Model) (budget : ℕ) (p : Place) → m .t ≤ p .turn → T (not (isOut m budget p))
+unfolding isOut
+isOut-closed m budget p h = rw (le-ltb (p .turn) (m .t) h) tt
+
+isOut-full : (m : Model) (budget : ℕ) (p : Place) → p .turn < m .t → isDue p ≡ true → budget ≤ p .n → T (isOut m budget p)
+unfolding isOut
+isOut-full m budget p h d l = rw (lt-ltb (p .turn) (m .t) h, d, le-leb budget (p .n) l) tt
+
+stepped-passed : (m : Model) (p : Place) → p .turn < m .t → isDue p ≡ false → stepped m p ≡ passedOn p
+unfolding stepped
+stepped-passed m p h d = rw (lt-ltb (p .turn) (m .t) h, d) refl
+
+stepped-ran : (m : Model) (p : Place) → p .turn < m .t → isDue p ≡ true → stepped m p ≡ ranOn m p
+unfolding stepped
+stepped-ran m p h d = rw (lt-ltb (p .turn) (m .t) h, d) refl
+
+isDone-rest : (m : Model) (p : Place) → m .t ≤ p .turn → p .notified ≡ [] → someReady m (p .threads) ≡ false → T (isDone m p)
+unfolding isDone
+isDone-rest m p h e r = rw (le-leb (m .t) (p .turn) h, e, r) tt
+
+closedOn-as : (m : Model) (p : Place) → closedOn m p ≡ begun m (floorOf m (woken (p .notified) (p .now) (p .threads))) (placeOf (p .variables) (woken (p .notified) (p .now) (p .threads)) (p .now) (p .turn) [] (p .n))
+unfolding closedOn
+closedOn-as m p = refl
+
+begun-at : (m : Model) (f : Bound) (c : Cycle) (p : Place) → f ≡ At c → T (isBeforeHorizon m c) → begun m f p ≡ placeOf (p .variables) (p .threads) c 0 (p .notified) (p .n)
+unfolding begun
+begun-at m f c p e t = rw (e, T→true (isBeforeHorizon m c) t) refl
+
+-- a due thread is ready before the horizon
+someReady-due : (m : Model) (p : Place) → Sound m p → p .turn < m .t → T (isDue p) → someReady m (p .threads) ≡ true
+unfolding isBoundBeforeHorizon
+someReady-due m p s h d =
+    T→true (someReady m (p .threads))
+    (someReady-here m (p .threads) (p .turn) h (rw (isDue→≡ p d) (<→horizon m (p .now) (s .time))))
+
+-- a record and its word, set together
+set-both : (t : ℕ) (ws : List ℕ) (ts : List Thread) (i w : ℕ) (x : Thread) (f : Thread → ℕ) → i < length ws → i < length ts → w ≡ f x →
+    ((k : ℕ) → k < t → getD ws k 0 ≡ f (threadAt ts k)) → (k : ℕ) → k < t → getD (set ws i w) k 0 ≡ f (threadAt (set ts i x) k)
+unfolding threadAt
+set-both t ws ts i w x f h l e g k b = go (ℕ-discrete k i)
+  where
+    go : Dec (k ≡ i) → getD (set ws i w) k 0 ≡ f (getD (set ts i x) k noThread)
+    go (yes q) = rw (q, getD-set-same ws i w 0 h, getD-set-same ts i x noThread l) e
+    go (no q) = rw (getD-set-other ws i k w 0 q, getD-set-other ts i k x noThread q) (g k b)
+
+threadsTo-length : (ws ss : List ℕ) (t : ℕ) → t ≤ 32 → length (threadsTo ws ss t) ≡ 32
+unfolding threadsTo
+threadsTo-length ws ss t h =
+    let f : ℕ → Thread = λ j. record { segment = getD ss j 0; state = stateFrom (getD ws j 0) } in
+    length-append (tabulate t 0 f) (replicate (32 - t) noThread) ∙ omega (arith, tabulate-length t 0 f, length-replicate (32 - t) noThread)
+
+-- the words are read back as the threads that they stand for
+threadsTo-as : (ws ss : List ℕ) (t : ℕ) (ts : List Thread) → t ≤ 32 → length ts ≡ 32 →
+    ((k : ℕ) → k < t → getD ws k 0 ≡ wordOf (threadAt ts k .state)) → ((k : ℕ) → k < t → getD ss k 0 ≡ threadAt ts k .segment) → Ranged t ts → threadsTo ws ss t ≡ ts
+unfolding threadsTo threadAt
+threadsTo-as ws ss t ts h size words segments r =
+    ext-getD noThread (threadsTo ws ss t) ts (threadsTo-length ws ss t h ∙ sym size) (λ k l. go k (decLt k t))
+  where
+    f : ℕ → Thread
+    f j = record { segment = getD ss j 0; state = stateFrom (getD ws j 0) }
+
+    go : (k : ℕ) → Dec (k < t) → getD (tabulate t 0 f ++ replicate (32 - t) noThread) k noThread ≡ getD ts k noThread
+    go k (yes l) =
+        let b : k < length (tabulate t 0 f) = omega (arith, tabulate-length t 0 f) in
+        let z : 0 + k ≡ k = omega arith in
+        List·getD-append (tabulate t 0 f) (replicate (32 - t) noThread) noThread k b ∙
+        (tabulate-at t 0 k f noThread l ∙ rw (z, words k l, segments k l, stateFrom-word (getD ts k noThread .state) (r .range k l)) refl)
+    go k (no l) =
+        past-end (tabulate t 0 f) (32 - t) k (omega (arith, tabulate-length t 0 f)) ∙ sym (r .rest k (omega arith))
+
+state-ahead : (c : Cycle) → Small c → (s : State) → Ahead c s → keyOf c < wordOf s
+state-ahead c small (Ready d) a = key-later (a d refl .0) (small .delta)
+state-ahead c small (Ended d) a = let k = small .key in omega arith
+state-ahead c small (Overrun d) a = let k = small .key in omega arith
+state-ahead c small (Waiting e d) a = let k = small .key in omega arith
+
+effect-within : (m : Model) → modelFault m ≡ 0 → (s : ℕ) → s < m .n → Within 32 (notifiedBy (bodyOf (segmentAt m s)))
+unfolding notifiesIn listedIn
+effect-within m fit s l e t = let few = modelFault-counts m fit .events in omega (arith, modelFault-notifies m fit 0 s l e t)
+
+closes : (m : Model) (fit : modelFault m ≡ 0) (code : List ℕ) → IsCode m 64 code → (s : ℕ) → s < m .n → (c : Cycle) → Small c → (x : List ℕ) →
+    InRange (closedAt s (segmentAt m s .closer) c x .state) → closeWord (endBy code s) (keyOf c) ≡ wordOf (closedAt s (segmentAt m s .closer) c x .state)
+closes m fit code is s l c small x r =
+    let few = modelFault-statements m fit s l in
+    rw (code-end m fit code is s l) (closeWord-closed c small (segmentAt m s .n) (omega arith) s (segmentAt m s .closer) x (units (m .v) (m .e) (segmentAt m s .closer) (modelFault-closer m fit s l)) r)
+  where
+    units : (v e : ℕ) (z : Closer) → closerFault v e z ≡ 0 → unitsOf z < 4294967296
+    units v e End f = omega arith
+    units v e (Time k y) f = omega (arith, closerFault-delay v e (Time k y) f)
+    units v e (Event w y) f = omega arith
+
+module _ (m : Model) (fit : modelFault m ≡ 0) (budget : ℕ) where
+  pub loop-start : (ss : List ℕ) → length ss ≡ 32 → ((k : ℕ) → k < m .t → getD ss k 0 ≡ startAt m k .first) →
+      Loop m budget freshVariables (replicate 32 0) ss (replicate 32 false) 0 0 0
+  unfolding startOf started
+  loop-start ss size first =
+      let few = modelFault-counts m fit .threads in
+      record {
+        threads = freshThreads m;
+        cycle = cycleAt 0 0;
+        events = [];
+        key = refl;
+        words = λ k h. rw (threadAt-fresh m fit k h) (getD-replicate 32 k 0 0 (omega arith));
+        segments = λ k h. rw (threadAt-fresh m fit k h) (first k h);
+        ranged = ranged-start m fit;
+        tells = tells-none;
+        marks-size = refl;
+        words-size = refl;
+        segments-size = size;
+        stands = record { sound = sound-start m fit; steps = lastStep m; same = refl; left = omega arith };
+      }
+
+  module _ (v ws ss : List ℕ) (fs : List Bool) (now turn n : ℕ) (loop : Loop m budget v ws ss fs now turn n) where
+    here : Place
+    here = placeOf v (loop .threads) (loop .cycle) turn (loop .events) n
+
+    soon : loop .cycle .time .0 < 1000000000
+    soon = let (low, high) = modelFault-horizon m fit in omega (arith, loop .stands .sound .time)
+
+    small : Small (loop .cycle)
+    small = small-now (loop .cycle) soon (loop .stands .sound .delta)
+
+    pub loop-small : now < 2 ^ 44
+    loop-small = let k = small .key in omega (arith, loop .key)
+
+    pub loop-segment : turn < m .t → getD ss turn 0 < m .n
+    loop-segment h = rw (loop .segments turn h) (loop .stands .sound .segment turn h)
+
+    -- the measure has room to fall
+    pub loop-room : countAt (m .t) now turn < lastStep m
+    loop-room = rw (loop .key) (countAt-room (m .t) (m .horizon .0) (loop .cycle) turn (loop .stands .sound .time) (loop .stands .sound .delta) (loop .stands .sound .turn))
+
+    -- every thread that was looked at is ahead
+    word-ahead : (k : ℕ) → k < m .t → k < turn → now < getD ws k 0
+    word-ahead k h l = rw (loop .key, loop .words k h) (state-ahead (loop .cycle) small (threadAt (loop .threads) k .state) (loop .stands .sound .ahead k l))
+
+    pub loop-ahead : m .t ≤ turn → now < leastWord (m .t) ws
+    loop-ahead h = go (leastWord-one (m .t) ws)
+      where
+        go : (leastWord (m .t) ws ≡ 18446744073709551615) ⊎ ((k : ℕ) × (k < m .t) × (leastWord (m .t) ws ≡ getD ws k 0)) → now < leastWord (m .t) ws
+        go (inl e) = omega (arith, loop-small)
+        go (inr (k, l, e)) = rw e (word-ahead k l (omega arith))
+
+    pub loop-threads : threadsTo ws ss (m .t) ≡ loop .threads
+    loop-threads = threadsTo-as ws ss (m .t) (loop .threads) (modelFault-counts m fit .threads) (loop .stands .sound .size) (loop .words) (loop .segments) (loop .ranged)
+
+    due-word : turn < m .t → getD ws turn 0 ≡ now → isDue here ≡ true
+    unfolding here
+    due-word h e = sym (isDue-at here) ∙ word-due (loop .cycle) small (threadAt (loop .threads) turn .state) (loop .ranged .range turn h) (sym (loop .words turn h) ∙ (e ∙ loop .key))
+
+    not-due-word : turn < m .t → (getD ws turn 0 ≡ now → ⊥) → isDue here ≡ false
+    unfolding here
+    not-due-word h e = sym (isDue-at here) ∙ word-not-due (loop .cycle) small (threadAt (loop .threads) turn .state) (λ q. e (loop .words turn h ∙ (q ∙ sym (loop .key))))
+
+    pub loop-passed : turn < m .t → (getD ws turn 0 ≡ now → ⊥) → Loop m budget v ws ss fs now (turn + 1) n
+    unfolding here passedOn
+    loop-passed h d =
+        let due : isDue here ≡ false = not-due-word h d in
+        record {
+          threads = loop .threads;
+          cycle = loop .cycle;
+          events = loop .events;
+          key = loop .key;
+          words = loop .words;
+          segments = loop .segments;
+          ranged = loop .ranged;
+          tells = loop .tells;
+          marks-size = loop .marks-size;
+          words-size = loop .words-size;
+          segments-size = loop .segments-size;
+          stands =
+              stands-step m budget here (passedOn here) (loop .stands) (isOut-not-due m budget here due) (stepped-passed m here h due)
+              (sound-passed m fit here (loop .stands .sound) h (false→T (isDue here) due)) (omega arith);
+        }
+
+    module _ (h : turn < m .t) (d : getD ws turn 0 ≡ now) where
+      -- "spent": the budget is out, and this thread is ready
+      pub loop-out : budget ≤ n → answer v (threadsTo ws ss (m .t)) n true ≡ answerOf m budget
+      unfolding here
+      loop-out full =
+          let due : isDue here ≡ true = due-word h d in
+          let out : T (isOut m budget here) = isOut-full m budget here h due full in
+          rw loop-threads
+          (reported-as m here true (someReady-due m here (loop .stands .sound) h (true→T (isDue here) due)) ∙
+          ap (reported m) (sym (runFor-out m here budget (loop .stands .steps) out) ∙ loop .stands .same))
+
+      ran-stands : n < budget → Stands m budget (ranOn m here)
+      unfolding here ranOn
+      ran-stands room =
+          stands-step m budget here (ranOn m here) (loop .stands) (isOut-room m budget here room) (stepped-ran m here h (due-word h d))
+          (sound-ran m fit here (loop .stands .sound) h) (omega arith)
+
+      -- "the ready threads of that cycle run their segment whole"
+      pub loop-ran : n < budget → (code : List ℕ) → IsCode m 64 code → (s : ℕ) → s ≡ getD ss turn 0 → (x : List ℕ) → x ≡ executeBy code s v →
+          Loop m budget x (set ws turn (closeWord (endBy code s) now)) (set ss turn (followBy code s x)) (markedBy code s fs) now (turn + 1) (n + 1)
+      unfolding here ranOn effectOf effectIn
+      loop-ran room code is s same x e =
+          let r = threadAt (loop .threads) turn .segment in
+          let p : s ≡ r = same ∙ loop .segments turn h in
+          let l : s < m .n = rw same (loop-segment h) in
+          let after : x ≡ execute (bodyOf (segmentAt m s)) v = e ∙ code-execute m fit code is s l v in
+          let told : markedBy code s fs ≡ marked fs (notifiedBy (bodyOf (segmentAt m s))) = code-marked m fit code is s l fs in
+          let i : turn < length ws = omega (arith, loop .words-size, modelFault-counts m fit .threads) in
+          let j : turn < length (loop .threads) = omega (arith, loop .stands .sound .size, modelFault-counts m fit .threads) in
+          let k : turn < length ss = omega (arith, loop .segments-size, modelFault-counts m fit .threads) in
+          let y = closedAt s (segmentAt m s .closer) (loop .cycle) x in
+          let range : InRange (y .state) = closedAt-range (loop .cycle) soon (loop .stands .sound .delta) (m .v) (m .e) s (segmentAt m s .closer) x (modelFault-counts m fit .events) (modelFault-closer m fit s l) in
+          let close : closeWord (endBy code s) now ≡ wordOf (y .state) = ap (closeWord (endBy code s)) (loop .key) ∙ closes m fit code is s l (loop .cycle) small x range in
+          record {
+            threads = set (loop .threads) turn y;
+            cycle = loop .cycle;
+            events = loop .events ++ notifiedBy (bodyOf (segmentAt m s));
+            key = loop .key;
+            words = set-both (m .t) ws (loop .threads) turn _ y (λ (z : Thread). wordOf (z .state)) i j close (loop .words);
+            segments = set-both (m .t) ss (loop .threads) turn _ y (λ (z : Thread). z .segment) k j (code-follow m fit code is s l (loop .cycle) x) (loop .segments);
+            ranged = ranged-set (m .t) (loop .threads) turn y j h range (loop .ranged);
+            tells = rw told (tells-more fs (loop .events) (notifiedBy (bodyOf (segmentAt m s))) (rw (loop .marks-size) (effect-within m fit s l)) (loop .tells));
+            marks-size = ap length told ∙ (marked-length fs (notifiedBy (bodyOf (segmentAt m s))) ∙ loop .marks-size);
+            words-size = length-set ws turn _ ∙ loop .words-size;
+            segments-size = length-set ss turn _ ∙ loop .segments-size;
+            stands = rw (after, p) (ran-stands room);
+          }
+
+    -- "At the cycle's end"
+    module _ (h : m .t ≤ turn) (us : List ℕ) (w : (k : ℕ) → k < m .t → getD us k 0 ≡ wakeWord fs now (getD ws k 0)) where
+      woke : List Thread
+      woke = woken (loop .events) (loop .cycle) (loop .threads)
+
+      woke-words : (k : ℕ) → k < m .t → getD us k 0 ≡ wordOf (threadAt woke k .state)
+      unfolding woke wokenThread
+      woke-words k l =
+          w k l ∙
+          rw (loop .words k l, loop .key, threadAt-woken (loop .events) (loop .cycle) (loop .threads) k)
+          (wakeWord-woken (loop .cycle) small fs (loop .events) (loop .tells) (threadAt (loop .threads) k .state) (loop .ranged .range k l))
+
+      woke-segments : (k : ℕ) → k < m .t → getD ss k 0 ≡ threadAt woke k .segment
+      unfolding woke wokenThread
+      woke-segments k l = rw (threadAt-woken (loop .events) (loop .cycle) (loop .threads) k) (loop .segments k l)
+
+      woke-ranged : Ranged (m .t) woke
+      unfolding woke
+      woke-ranged = ranged-woken (m .t) (loop .events) (loop .cycle) (loop .threads) soon (loop .stands .sound .delta) (loop .ranged)
+
+      closed-stands : (q : Place) → closedOn m here ≡ q → Sound m q → countAt (m .t) (keyOf (loop .cycle)) turn < countAt (m .t) (keyOf (q .now)) (q .turn) → Stands m budget q
+      unfolding here
+      closed-stands q e s later = stands-step m budget here q (loop .stands) (isOut-closed m budget here h) (stepped-close m here h ∙ e) s later
+
+      -- the next cycle, as a cycle
+      next-cycle : leastWord (m .t) us < 1024 * m .horizon .0 →
+          (c : Cycle) × (floorOf m woke ≡ At c) × (keyOf c ≡ leastWord (m .t) us) × Small c × (c .time .0 < m .horizon .0)
+      next-cycle l = floor-word m (modelFault-horizon m fit .1) us woke woke-words (woke-ranged .range) l
+
+      count-later : (c : Cycle) → floorOf m woke ≡ At c → countAt (m .t) (keyOf (loop .cycle)) turn < countAt (m .t) (keyOf c) 0
+      unfolding here woke
+      count-later c g = countAt-later (m .t) turn (floor-ahead m fit here (loop .stands .sound) h c g .0) (loop .stands .sound .delta) (loop .stands .sound .turn)
+
+      pub loop-later : leastWord (m .t) us < 1024 * m .horizon .0 → countAt (m .t) now turn < countAt (m .t) (leastWord (m .t) us) 0
+      loop-later l = let (c, g, e, s, t) = next-cycle l in rw (loop .key, ← e) (count-later c g)
+
+      pub loop-begun : length us ≡ 32 → leastWord (m .t) us < 1024 * m .horizon .0 → Loop m budget v us ss (replicate 32 false) (leastWord (m .t) us) 0 n
+      unfolding here woke
+      loop-begun size l =
+          let (c, g, e, s, t) = next-cycle l in
+          let b = <→horizon m c t in
+          record {
+            threads = woke;
+            cycle = c;
+            events = [];
+            key = sym e;
+            words = woke-words;
+            segments = woke-segments;
+            ranged = woke-ranged;
+            tells = tells-none;
+            marks-size = refl;
+            words-size = size;
+            segments-size = loop .segments-size;
+            stands =
+                closed-stands (placeOf v woke c 0 [] n)
+                (closedOn-as m here ∙ begun-at m (floorOf m woke) c _ g b)
+                (sound-begun m fit here (loop .stands .sound) h c g b)
+                (count-later c g);
+          }
+
+      -- no thread is ready before the horizon
+      pub loop-rest : 1024 * m .horizon .0 ≤ leastWord (m .t) us → answer v (threadsTo us ss (m .t)) n false ≡ answerOf m budget
+      unfolding here woke
+      loop-rest l =
+          let u : T (not (isBoundBeforeHorizon m (floorOf m woke))) = floor-late m (modelFault-horizon m fit .1) us woke woke-words (woke-ranged .range) l in
+          let q = placeOf v woke (loop .cycle) turn [] n in
+          let r : someReady m woke ≡ false = someReady-rest m woke u in
+          let e : stepped m here ≡ q = stepped-close m here h ∙ (closedOn-as m here ∙ begun-rest m (floorOf m woke) q u) in
+          let ts : threadsTo us ss (m .t) ≡ woke =
+          threadsTo-as us ss (m .t) woke (modelFault-counts m fit .threads) (woken-length m fit here (loop .stands .sound) h) woke-words woke-segments woke-ranged in
+          rw ts (reported-as m q false r ∙ ap (reported m) (rest-same q e (isDone-rest m q h refl r)))
+        where
+          rest-same : (q : Place) → stepped m here ≡ q → T (isDone m q) → q ≡ runFor m budget (lastStep m) (startOf m)
+          rest-same q e t =
+              let room : countAt (m .t) (keyOf (loop .cycle)) turn < lastStep m = rw (loop .key) at loop-room in
+              let left = loop .stands .left in
+              let s : loop .stands .steps ≡ suc (loop .stands .steps - 1) = omega arith in
+              sym (runFor-done m q budget (loop .stands .steps - 1) t) ∙
+              (sym (stands-steps m budget (loop .stands .steps) (loop .stands .steps - 1) here q s (isOut-closed m budget here h) e) ∙ loop .stands .same)
+
+-- for the code: the measure falls
+pub falls-later : (l a b : ℕ) → a < b → a < l → l - b < l - a
+falls-later l a b h k = omega arith

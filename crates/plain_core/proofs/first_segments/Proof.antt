@@ -1,0 +1,51 @@
+-- `plain_core::first_segments` meets its contract.
+use Prim.Native.Nat.{ℕ, _≤_, _<_, _-_}
+use mathlib.Core.Path.{_≡_, refl}
+use native.Mathlib.Omega.{arith}
+use lib.ListN.{length, getD, replicate, length-set}
+use Rattle.model.specs.Values.{startAt}
+use Rattle.plain_core.proofs.FillLaws.{fill-none, fill-more, started-first}
+use Rattle.plain_core.proofs.first_segments.Statement.{statement}
+use Rattle.plain_core.proofs.first_segments.Tie as tie
+
+abbrev Inv-loop : tie.InvT-loop
+Inv-loop m segments₀ k₀ segments k = (k ≤ 32) × ((length segments ≡ 32) × ((i : ℕ) → i < k → getD segments i 0 ≡ startAt m i .first))
+
+abbrev μ-loop : tie.MeasureT-loop
+μ-loop m segments₀ k₀ segments k = 32 - k
+
+loop-holds : tie.Need-loop-holds Inv-loop μ-loop
+loop-holds c = (omega arith, (refl, fill-none (λ (i x : ℕ). x ≡ startAt (c .args .t1) i .first) (replicate 32 0)))
+
+element-copy-out-s : tie.Need-element-copy-out-s Inv-loop μ-loop
+element-copy-out-s c = omega arith
+
+array-write-segments : tie.Need-array-write-segments Inv-loop μ-loop
+array-write-segments c = omega arith
+
+add-k : tie.Need-add-k Inv-loop μ-loop
+add-k c = omega arith
+
+loop-less : tie.Need-loop-less Inv-loop μ-loop
+loop-less c = omega arith
+
+loop-again : tie.Need-loop-again Inv-loop μ-loop
+loop-again c = let size = c .before .before .loop .inv .1 .0 in
+    (omega arith, (simp length-set size, fill-more (λ (i x : ℕ). x ≡ startAt (c .before .before .before .args .t1) i .first) (c .before .before .loop .segments) (c .before .before .loop .k) _ (omega arith) (started-first (c .before .before .before .args .t1) (c .before .before .loop .k)) (c .before .before .loop .inv .1 .1)))
+
+returns : tie.Need-returns Inv-loop μ-loop
+returns c = (c .before .loop .inv .1 .0, λ k h. c .before .loop .inv .1 .1 k (omega arith))
+
+pub first-segments-spec : {M : Type 1} → statement M
+first-segments-spec =
+    tie.close
+    (tie.spec
+    Inv-loop
+    μ-loop
+    loop-holds
+    element-copy-out-s
+    array-write-segments
+    add-k
+    loop-less
+    loop-again
+    returns)

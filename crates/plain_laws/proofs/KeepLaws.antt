@@ -1,0 +1,88 @@
+-- Every model without a fault keeps what a run uses of the file rules.
+--     effectOf-waits-on, effectOf-time, effectOf-delta, effectOf-notifies     what a thread does in a segment, by its closer and its statements
+--     modelFault-keeps     the record Keeps, from the rules
+use Prim.Native.Nat.{ℕ, _+_, _<_, _≤_}
+use mathlib.Core.Path.{_≡_, refl, ap, sym, _∙_}
+use mathlib.Core.List.{List}
+use native.Mathlib.Omega.{arith}
+use lib.Dec.{T}
+use Rattle.clock.specs.declared.Cycle.{Cycle}
+use Rattle.clock.specs.declared.Wait.the-variants as wait
+use Rattle.clock.specs.Wait.{lastDelta, waitEnds}
+use Rattle.model.specs.declared.Next.{Next}
+use Rattle.model.specs.declared.Closer.{Closer}
+use Rattle.model.specs.declared.Closer.the-variants.{End, Time, Event}
+use Rattle.model.specs.declared.Model.{Model}
+use Rattle.model.specs.declared.State.the-variants.{Waiting}
+use Rattle.model.specs.declared.Thread.{Thread}
+use Rattle.model.specs.Limits.{largestTime}
+use Rattle.model.specs.Values.{segmentAt}
+use Rattle.model.specs.Record.{cycleOf}
+use Rattle.model.specs.Effect.{closedAt, effectOf}
+use Rattle.model.specs.Footprint.{has, notifiesIn}
+use Rattle.model.specs.Rules.{modelFault}
+use Rattle.model_effect.proofs.EffectLaws.{delayOf, closedAt-cycle}
+use Rattle.model_effect.proofs.FrameLaws.{notified-listed, effectOf-length}
+use Rattle.model_rules.proofs.RuleLaws.{closerFault-delay, closerFault-event, closedAt-segment, modelFault-horizon, modelFault-counts, modelFault-closer, modelFault-next, modelFault-first, modelFault-notifies}
+use Rattle.plain_laws.proofs.RecordLaws.{stateAfter-not-Waiting, stateAfter-delta, effectOf-thread}
+use Rattle.plain_laws.proofs.RangeLaws.{Keeps}
+
+closedAt-waits-on : (s : ℕ) (g : Closer) (c d : Cycle) (v : List ℕ) (e : ℕ) → closedAt s g c v .state ≡ Waiting e d → (x : Next) × (g ≡ Event e x)
+unfolding closedAt
+closedAt-waits-on s End c d v w e = absurd (let z : _≡_ {A = ℕ} 0 1 = cc in omega arith)
+closedAt-waits-on s (Time k x) c d v w e = absurd (stateAfter-not-Waiting (waitEnds (wait.Time k) c) w d e)
+closedAt-waits-on s (Event u x) c d v w e = let f : u ≡ w = cc in (x, rw f refl)
+
+closedAt-delta : (s : ℕ) (g : Closer) (c : Cycle) (v : List ℕ) → c .delta .0 ≤ lastDelta → cycleOf (closedAt s g c v .state) .delta .0 ≤ lastDelta
+unfolding closedAt
+closedAt-delta s End c v h = h
+closedAt-delta s (Time k x) c v h = stateAfter-delta (wait.Time k) c h
+closedAt-delta s (Event w x) c v h = h
+
+module _ (m : Model) (k s : ℕ) (c : Cycle) (v : List ℕ) where
+  -- its closer names the event that it waits on
+  pub effectOf-waits-on : (e : ℕ) (d : Cycle) → effectOf m k s c v .thread .state ≡ Waiting e d → (x : Next) × (segmentAt m s .closer ≡ Event e x)
+  effectOf-waits-on e d f =
+      closedAt-waits-on s (segmentAt m s .closer) c d (effectOf m k s c v .variables) e (ap (λ (t : Thread). t .state) (sym (effectOf-thread m k s c v)) ∙ f)
+
+  pub effectOf-time : cycleOf (effectOf m k s c v .thread .state) .time .0 ≤ c .time .0 + delayOf (segmentAt m s .closer)
+  effectOf-time = rw (effectOf-thread m k s c v) (closedAt-cycle s (segmentAt m s .closer) c (effectOf m k s c v .variables))
+
+  pub effectOf-delta : c .delta .0 ≤ lastDelta → cycleOf (effectOf m k s c v .thread .state) .delta .0 ≤ lastDelta
+  effectOf-delta h = rw (effectOf-thread m k s c v) (closedAt-delta s (segmentAt m s .closer) c (effectOf m k s c v .variables) h)
+
+  -- what it notifies is listed
+  pub effectOf-notifies : (e : ℕ) → T (has (effectOf m k s c v .notified) e) → T (notifiesIn m k s e)
+  unfolding notifiesIn
+  effectOf-notifies e t = rw (notified-listed m k s c v) at t
+
+-- every model that keeps the file rules
+pub modelFault-keeps : (m : Model) → modelFault m ≡ 0 → Keeps m
+modelFault-keeps m fit =
+    record {
+      horizon-some = modelFault-horizon m fit .0;
+      horizon-most = modelFault-horizon m fit .1;
+      thread-some = modelFault-counts m fit .some-thread;
+      thread-most = modelFault-counts m fit .threads;
+      first = λ k h. modelFault-first m fit k h;
+      next = next;
+      event = event;
+      notifies = λ k s c v e h t. modelFault-notifies m fit k s h e (effectOf-notifies m k s c v e t);
+      time = time;
+      delta = λ k s c v h. effectOf-delta m k s c v h;
+      sized = λ k s c v. effectOf-length m k s c v;
+    }
+  where
+    next : (k s : ℕ) (c : Cycle) (v : List ℕ) → s < m .n → effectOf m k s c v .thread .segment < m .n
+    next k s c v h =
+        rw (effectOf-thread m k s c v)
+        (closedAt-segment (m .n) s (segmentAt m s .closer) c (effectOf m k s c v .variables) h (modelFault-next m fit s h))
+
+    event : (k s : ℕ) (c : Cycle) (v : List ℕ) (e : ℕ) (d : Cycle) → s < m .n → effectOf m k s c v .thread .state ≡ Waiting e d → e < m .e
+    event k s c v e d h w =
+        let (x, q) = effectOf-waits-on m k s c v e d w in
+        closerFault-event (m .v) (m .e) e x (rw q at (modelFault-closer m fit s h))
+
+    time : (k s : ℕ) (c : Cycle) (v : List ℕ) → s < m .n → cycleOf (effectOf m k s c v .thread .state) .time .0 ≤ c .time .0 + largestTime
+    time k s c v h =
+        omega (arith, effectOf-time m k s c v, closerFault-delay (m .v) (m .e) (segmentAt m s .closer) (modelFault-closer m fit s h))

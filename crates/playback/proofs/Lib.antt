@@ -1,3 +1,0 @@
-pub mod FillLaws
-pub mod TextLaws
-pub mod Edges

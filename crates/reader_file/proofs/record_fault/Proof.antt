@@ -1,0 +1,53 @@
+-- `reader_file::record_fault` meets its contract: 1 to 3, then 4, then a segment's 5 to 7.
+use mathlib.Core.Path.{sym, _∙_}
+use native.Mathlib.Omega.{arith}
+use borrow.Author.Needs.{needs}
+use denote.Ref.{now}
+use Rattle.reader_laws.proofs.FrameLaws.{framed}
+use Rattle.reader_file.proofs.RecordLaws.{Opened, opened-length, opened-head}
+use Rattle.reader_file.proofs.BodyLaws.{recordFault-framing, recordFault-count, recordFault-other, recordFault-segment}
+use Rattle.reader_file.proofs.record_fault.Statement.{statement}
+use Rattle.reader_file.proofs.record_fault.Tie as tie
+
+opened : (c : tie.After-r) → Opened (c .before .before .before .before .before .before .before .args .last) (now (c .before .before .before .before .before .before .before .args .b)) (c .before .before .size-of .result) (c .before .word-at2 .result)
+opened c = record {
+  none = sym (c .before .before .before .before .before .framing-fault .ensures) ∙ c .before .before .before .before .if1 .left;
+  is-size = c .before .before .size-of .ensures ∙ c .before .before .before .word-at .ensures .0;
+  is-kind = c .before .word-at2 .ensures .0;
+}
+
+framing-fault-requires : tie.Need-framing-fault-requires
+framing-fault-requires c κs = search needs
+
+returns : tie.Need-returns
+returns c = recordFault-framing _ _ _ _ (c .before .framing-fault .ensures) (c .if1 .taken)
+
+word-at-requires : tie.Need-word-at-requires
+word-at-requires c κs = omega (arith, framed _ _ (sym (c .before .framing-fault .ensures) ∙ c .if1 .left) .whole .head)
+
+size-of-requires : tie.Need-size-of-requires
+size-of-requires c κs = search needs
+
+word-at-requires-2 : tie.Need-word-at-requires-2
+word-at-requires-2 c κs = framed _ _ (sym (c .before .before .before .framing-fault .ensures) ∙ c .before .before .if1 .left) .whole .head
+
+slice-aggregate-r : tie.Need-slice-aggregate-r
+slice-aggregate-r c = sym (opened-length (opened c))
+
+count-fault-requires : tie.Need-count-fault-requires
+count-fault-requires c κs = λ e. omega (arith, opened-head (opened c) e)
+
+returns-2 : tie.Need-returns-2
+returns-2 c = recordFault-count (opened (c .before .before)) _ _ (c .before .count-fault .ensures) (c .if2 .taken)
+
+returns-3 : tie.Need-returns-3
+returns-3 c = recordFault-other (opened (c .before .before .before)) _ _ (c .before .before .count-fault .ensures) (c .before .if2 .left) (c .if3 .taken)
+
+segment-fault-requires : tie.Need-segment-fault-requires
+segment-fault-requires c κs = search needs
+
+returns-4 : tie.Need-returns-4
+returns-4 c = recordFault-segment (opened (c .before .before .before .before)) _ _ (c .before .before .before .count-fault .ensures) _ (c .before .before .if2 .left) (c .before .if3 .left) (c .segment-fault .ensures)
+
+pub record-fault-spec : {M : Type 1} → statement M
+record-fault-spec = tie.close (tie.spec framing-fault-requires returns word-at-requires size-of-requires word-at-requires-2 slice-aggregate-r count-fault-requires returns-2 returns-3 segment-fault-requires returns-4)

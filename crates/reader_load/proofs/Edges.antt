@@ -1,0 +1,25 @@
+-- The edge of 16: one word less than N × N, and N × N of them. And the reader's number before 16.
+use Prim.Native.Nat.{ℕ}
+use mathlib.Core.Path.{_≡_, refl}
+use mathlib.Core.List.{[], _∷_}
+use Rattle.base.specs.Index.{orElse}
+use Rattle.model.specs.Values.{noModel, noSegment, noStart}
+use Rattle.model.specs.declared.Model.{Model}
+use Rattle.reader.specs.declared.Read.{Read}
+use Rattle.tables.specs.Outcome.{isShort}
+use Rattle.reader_load.specs.Load.{loadNumber}
+
+-- two segments
+abbrev two : Model
+two = record { horizon = record { 0 = 10 }; v = 0; e = 0; n = 2; t = 1; segments = noSegment ∷ noSegment ∷ []; starts = noStart ∷ [] }
+
+abbrev read : ℕ → Read
+read n = record { number = n; model = two }
+
+pub loadNumber-edges :
+    (loadNumber (read 0) (0 ∷ 0 ∷ 0 ∷ []) ≡ 16) ×
+    (loadNumber (read 0) (0 ∷ 0 ∷ 0 ∷ 0 ∷ []) ≡ 0) ×
+    (loadNumber (read 0) (0 ∷ 0 ∷ 0 ∷ 0 ∷ 0 ∷ []) ≡ 0) ×
+    (loadNumber (read 9) (0 ∷ 0 ∷ 0 ∷ []) ≡ 9)
+unfolding loadNumber isShort orElse
+loadNumber-edges = (refl, refl, refl, refl)

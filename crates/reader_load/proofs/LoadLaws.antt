@@ -1,0 +1,99 @@
+-- The exits of `load`, and the marks of what was loaded.
+use Prim.Native.Nat.{ℕ, zero, suc}
+use mathlib.Core.Path.{_≡_, refl, sym, subst, ap, _∙_}
+use mathlib.Core.Bool.{Bool, true, false, cond}
+use mathlib.Core.List.{List}
+use native.Mathlib.Omega.{arith}
+use lib.Dec.{eqb}
+use borrow.Author.Tests.{eq-eqb, ne-eqb}
+use Rattle.base.specs.Index.{orElse}
+use Rattle.base.proofs.IndexLaws.{orElse-none, orElse-zero}
+use Rattle.model.specs.Refusal.{accepted, shortTable}
+use Rattle.model.specs.Values.{noModel}
+use Rattle.model.specs.Rules.{modelFault, headFault}
+use Rattle.reader.specs.declared.Read.{Read}
+use Rattle.reader.specs.File.{readOr, readFile}
+use Rattle.reader_laws.proofs.Accepted.{accepted-kept, readOr-accepted, readOr-refused, refused-zero}
+use Rattle.tables.specs.Conflict.{marksOf, noMarks}
+use Rattle.tables.specs.Word.{stored}
+use Rattle.tables.specs.Outcome.{isShort, distancesNumber, distancesBuffer, conflictMarks}
+use Rattle.tables.proofs.OutcomeLaws.{ifHeld-yes, conflict-unfit, conflict-held}
+use Rattle.reader_load.specs.Load.{loadNumber, loadOf, loadBuffer, loadMarks}
+
+abbrev pub Loads : List ℕ → List ℕ → Read → List ℕ → Type 0
+Loads bytes ws r us = (r ≡ loadOf bytes ws) × (us ≡ loadBuffer bytes ws)
+
+-- the reader's number stands
+orElse-some : (a b : ℕ) → (a ≡ 0 → ⊥) → orElse a b ≡ a
+unfolding orElse
+orElse-some zero b h = absurd (h refl)
+orElse-some (suc a) b h = refl
+
+readOr-some : (n : ℕ) (m : _) → (n ≡ 0 → ⊥) → readOr n m ≡ record { number = n; model = noModel }
+readOr-some n m h = rw (ne-eqb n 0 h) refl
+
+-- a zero model has no horizon
+no-head : modelFault noModel ≡ 4
+unfolding modelFault headFault orElse
+no-head = refl
+
+module _ (bytes ws : List ℕ) where
+  pub load-refused : (r : Read) → r ≡ readFile bytes → (r .number ≡ 0 → ⊥) → Loads bytes ws r ws
+  unfolding loadOf loadBuffer loadNumber
+  load-refused r e h =
+      let g : readFile bytes .number ≡ 0 → ⊥ = rw e at h in
+      let n = orElse-some (readFile bytes .number) (cond (isShort (readFile bytes .model) ws) shortTable accepted) g in
+      (rw (n, readOr-some (readFile bytes .number) (readFile bytes .model) g, ← refused-zero bytes g, e) refl, rw (n, ne-eqb (readFile bytes .number) 0 g) refl)
+
+  -- on an accepted file the tables' answer is the buffer's
+  module _ (r : Read) (e : r ≡ readFile bytes) (z : r .number ≡ 0) where
+    held : modelFault (r .model) ≡ 0
+    held = rw e (accepted-kept bytes (rw e at z))
+
+    number : loadNumber r ws ≡ distancesNumber (r .model) ws
+    unfolding loadNumber distancesNumber
+    number = orElse-none (r .number) _ z ∙ sym (ifHeld-yes (r .model) _ 11 held)
+
+    -- short, or not
+    bufferOf : Bool → ℕ × List ℕ
+    bufferOf short = (cond short shortTable accepted, cond short ws (stored (r .model) ws))
+
+    tables : (distancesNumber (r .model) ws ≡ bufferOf (isShort (r .model) ws) .0) × (distancesBuffer (r .model) ws ≡ bufferOf (isShort (r .model) ws) .1)
+    unfolding distancesNumber distancesBuffer bufferOf
+    tables = (ifHeld-yes (r .model) _ 11 held, ifHeld-yes (r .model) _ ws held)
+
+    buffer : distancesBuffer (r .model) ws ≡ cond (eqb (distancesNumber (r .model) ws) accepted) (stored (r .model) ws) ws
+    unfolding bufferOf
+    buffer = rw (tables .0, tables .1) (go (isShort (r .model) ws))
+      where
+        go : (b : Bool) → cond b ws (stored (r .model) ws) ≡ cond (eqb (cond b shortTable accepted) accepted) (stored (r .model) ws) ws
+        go true = refl
+        go false = refl
+
+    same : Loads bytes ws (readOr (distancesNumber (r .model) ws) (r .model)) (distancesBuffer (r .model) ws)
+    unfolding loadOf loadBuffer
+    same = rw (← e, number, buffer) (refl, refl)
+
+    pub load-short : (n : ℕ) (us : List ℕ) → n ≡ distancesNumber (r .model) ws → (n ≡ 0 → ⊥) → us ≡ distancesBuffer (r .model) ws → Loads bytes ws (record { number = n; model = noModel }) us
+    load-short n us p h q = rw (q, ← readOr-some n (r .model) h, p) same
+
+    pub load-done : (n : ℕ) (us : List ℕ) → n ≡ distancesNumber (r .model) ws → n ≡ 0 → us ≡ distancesBuffer (r .model) ws → Loads bytes ws r us
+    load-done n us p h q =
+        let d : distancesNumber (r .model) ws ≡ 0 = sym p ∙ h in
+        let (x, y) = same in
+        (ap (λ (k : ℕ). record { number = k; model = r .model }) z ∙ (rw d at x), q ∙ y)
+
+  -- the marks: those of the model, or unset beside a number
+  pub loaded-marks : loadOf bytes ws .number ≡ 0 → loadMarks bytes ws ≡ marksOf (readFile bytes .model)
+  unfolding loadMarks loadOf loadNumber
+  loaded-marks e =
+      let (z, same) = readOr-accepted (loadNumber (readFile bytes) ws) (readFile bytes .model) e in
+      let kept = accepted-kept bytes (orElse-zero (readFile bytes .number) _ z .0) in
+      rw same (sym (conflict-held (readFile bytes .model) kept .1))
+
+  pub refused-marks : (loadOf bytes ws .number ≡ 0 → ⊥) → loadMarks bytes ws ≡ noMarks
+  unfolding loadMarks loadOf
+  refused-marks h = rw (readOr-refused (loadNumber (readFile bytes) ws) (readFile bytes .model) h) (sym (conflict-unfit noModel none .1))
+    where
+      none : modelFault noModel ≡ 0 → ⊥
+      none e = absurd (omega (arith, no-head))

@@ -1,0 +1,51 @@
+-- `reader_segment::closer_from` meets its contract, kind by kind.
+use borrow.Author.Needs.{needs}
+use borrow.Author.Tests.{ne-eqb}
+use Rattle.reader.specs.Closer.{closerFrom}
+use Rattle.reader_segment.proofs.closer_from.Statement.{statement}
+use Rattle.reader_segment.proofs.closer_from.Tie as tie
+
+shared-slice-read-kind : tie.Need-shared-slice-read-kind
+shared-slice-read-kind c = search needs
+
+long-at-requires : tie.Need-long-at-requires
+long-at-requires c κs = search needs
+
+next-from-requires : tie.Need-next-from-requires
+next-from-requires c κs = search needs
+
+shared-slice-read-t10 : tie.Need-shared-slice-read-t10
+shared-slice-read-t10 c = search needs
+
+next-from-requires-2 : tie.Need-next-from-requires-2
+next-from-requires-2 c κs = search needs
+
+returns : tie.Need-returns
+unfolding closerFrom
+returns c = rw (c .before .before .match .keys1, c .before .long-at .ensures, c .next-from .ensures)
+
+returns-2 : tie.Need-returns-2
+unfolding closerFrom
+returns-2 c = rw (c .before .before .match .keys2, c .next-from2 .ensures)
+
+returns-3 : tie.Need-returns-3
+unfolding closerFrom
+returns-3 c = rw (c .match .keys3)
+
+returns-4 : tie.Need-returns-4
+unfolding closerFrom
+returns-4 c = simp (ne-eqb _ 1 (c .match .rest .0 .0 .1), ne-eqb _ 2 (c .match .rest .0 .1))
+
+pub closer-from-spec : {M : Type 1} → statement M
+closer-from-spec =
+    tie.close
+    (tie.spec
+    shared-slice-read-kind
+    long-at-requires
+    next-from-requires
+    shared-slice-read-t10
+    next-from-requires-2
+    returns
+    returns-2
+    returns-3
+    returns-4)

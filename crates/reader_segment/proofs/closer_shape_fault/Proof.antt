@@ -1,0 +1,59 @@
+-- `reader_segment::closer_shape_fault` meets its contract, kind by kind.
+use borrow.Author.Needs.{needs}
+use borrow.Author.Tests.{ne-eqb}
+use Rattle.reader.specs.Closer.{closerShapeFault}
+use Rattle.reader_segment.proofs.closer_shape_fault.Statement.{statement}
+use Rattle.reader_segment.proofs.closer_shape_fault.Tie as tie
+
+shared-slice-read-kind : tie.Need-shared-slice-read-kind
+shared-slice-read-kind c = search needs
+
+rest-is-zero-requires : tie.Need-rest-is-zero-requires
+rest-is-zero-requires c κs = search needs
+
+unless-kept-requires : tie.Need-unless-kept-requires
+unless-kept-requires c κs = search needs
+
+shared-slice-read-unless-kept : tie.Need-shared-slice-read-unless-kept
+shared-slice-read-unless-kept c = search needs
+
+unless-kept-requires-2 : tie.Need-unless-kept-requires-2
+unless-kept-requires-2 c κs = search needs
+
+long-at-requires : tie.Need-long-at-requires
+long-at-requires c κs = search needs
+
+unless-kept-requires-3 : tie.Need-unless-kept-requires-3
+unless-kept-requires-3 c κs = search needs
+
+returns : tie.Need-returns
+unfolding closerShapeFault
+returns c = rw (c .before .before .match .keys1, ← c .before .rest-is-zero .ensures) (c .unless-kept .ensures)
+
+returns-2 : tie.Need-returns-2
+unfolding closerShapeFault
+returns-2 c = rw (c .before .before .match .keys2) (c .unless-kept2 .ensures)
+
+returns-3 : tie.Need-returns-3
+unfolding closerShapeFault
+returns-3 c = rw (c .before .before .match .keys3, ← c .before .long-at .ensures) (c .unless-kept3 .ensures)
+
+returns-4 : tie.Need-returns-4
+unfolding closerShapeFault
+returns-4 c = simp (ne-eqb _ 0 (c .match .rest .0 .0 .1), ne-eqb _ 1 (c .match .rest .0 .1), ne-eqb _ 2 (c .match .rest .1))
+
+pub closer-shape-fault-spec : {M : Type 1} → statement M
+closer-shape-fault-spec =
+    tie.close
+    (tie.spec
+    shared-slice-read-kind
+    rest-is-zero-requires
+    unless-kept-requires
+    shared-slice-read-unless-kept
+    unless-kept-requires-2
+    long-at-requires
+    unless-kept-requires-3
+    returns
+    returns-2
+    returns-3
+    returns-4)

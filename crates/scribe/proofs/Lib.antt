@@ -1,3 +1,0 @@
-pub mod LabelLaws
-pub mod LineLaws
-pub mod WholeLaws

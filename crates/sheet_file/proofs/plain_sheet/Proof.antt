@@ -1,0 +1,49 @@
+-- `sheet_file::plain_sheet` meets its contract: accepted or refused.
+use borrow.Author.Needs.{needs}
+use Rattle.sheet_file.proofs.ReportLaws.{held-run, held-refused}
+use Rattle.sheet_file.proofs.plain_sheet.Statement.{statement}
+use Rattle.sheet_file.proofs.plain_sheet.Tie as tie
+
+read-file-requires : tie.Need-read-file-requires
+read-file-requires c κs = search needs
+
+plain-run-requires : tie.Need-plain-run-requires
+plain-run-requires c κs = search needs
+
+sheet-requires : tie.Need-sheet-requires
+sheet-requires c κs = search needs
+
+same-length : tie.Need-same-length
+same-length c = search needs
+
+returns : tie.Need-returns
+returns c =
+    let s = c .before .before .before .before .before .before .before .before .before .before .before in
+    let r = c .before .before .before .before .before .before .before .before .read-file in
+    let run = c .before .before .before .before .plain-run in
+    held-run (s .args .budget) (s .args .file .now) (r .result) (r .ensures) (s .args .out .now) _ _ (run .result) (c .before .before .before .before .before .before .if1 .taken) (run .ensures) (c .before .before .sheet .ensures)
+
+refusal-requires : tie.Need-refusal-requires
+refusal-requires c κs = search needs
+
+same-length-2 : tie.Need-same-length-2
+same-length-2 c = search needs
+
+returns-2 : tie.Need-returns-2
+returns-2 c =
+    let s = c .before .before .before .before .before .before .before .before .before in
+    let r = c .before .before .before .before .before .before .read-file in
+    held-refused (s .args .budget) (s .args .file .now) (r .result) (r .ensures) (s .args .out .now) _ _ (c .before .before .before .before .if1 .left) (c .before .before .refusal .ensures)
+
+pub plain-sheet-spec : {M : Type 1} → statement M
+plain-sheet-spec =
+    tie.close
+    (tie.spec
+    read-file-requires
+    plain-run-requires
+    sheet-requires
+    same-length
+    returns
+    refusal-requires
+    same-length-2
+    returns-2)

@@ -1,0 +1,57 @@
+-- `tables_conflict::all_marks` meets its contract: a row for each segment.
+use Prim.Native.Nat.{_≤_, _-_}
+use mathlib.Core.Path.{_≡_}
+use native.Mathlib.Omega.{arith}
+use borrow.Author.Needs.{needs}
+use Rattle.tables_conflict.specs.Mask.{rowsTo}
+use Rattle.tables_conflict.proofs.MaskLaws.{rowsTo-none, rowsTo-more}
+use Rattle.tables_conflict.proofs.all_marks.Tie as tie
+use Rattle.tables_conflict.proofs.all_marks.Statement.{statement}
+
+abbrev Inv-loop : tie.InvT-loop
+Inv-loop all n out₀ r₀ out r = (r ≤ n) × (out ≡ rowsTo all n r)
+
+abbrev μ-loop : tie.MeasureT-loop
+μ-loop all n out₀ r₀ out r = n - r
+
+loop-holds : tie.Need-loop-holds Inv-loop μ-loop
+loop-holds c = (omega arith, rowsTo-none _ _)
+
+row-marks-requires : tie.Need-row-marks-requires Inv-loop μ-loop
+row-marks-requires c κs = search needs
+
+mul-out : tie.Need-mul-out Inv-loop μ-loop
+mul-out c = search needs
+
+array-set-from-out : tie.Need-array-set-from-out Inv-loop μ-loop
+array-set-from-out c = search needs
+
+add-r : tie.Need-add-r Inv-loop μ-loop
+add-r c = search needs
+
+loop-less : tie.Need-loop-less Inv-loop μ-loop
+loop-less c = search needs
+
+loop-again : tie.Need-loop-again Inv-loop μ-loop
+loop-again c =
+    let x = c .before .before .before .args in
+    let l = c .before .before .loop in
+    (omega arith, rowsTo-more (x .all) (x .n) (l .r) _ _ (l .inv .1) (c .row-marks .ensures))
+
+returns : tie.Need-returns Inv-loop μ-loop
+returns c = let e : c .before .loop .r ≡ c .before .before .args .n = omega arith in rw e at (c .before .loop .inv .1)
+
+pub all-marks-spec : {M : Type 1} → statement M
+all-marks-spec =
+    tie.close
+    (tie.spec
+    Inv-loop
+    μ-loop
+    loop-holds
+    row-marks-requires
+    mul-out
+    array-set-from-out
+    add-r
+    loop-less
+    loop-again
+    returns)

@@ -1,0 +1,67 @@
+-- `tables_distance::direct_row` meets its contract: a store for each column.
+use Prim.Native.Nat.{_≤_, _-_}
+use mathlib.Core.Path.{_≡_, refl, ap, _∙_}
+use native.Mathlib.Omega.{arith}
+use lib.ListN.{length}
+use borrow.Author.Needs.{needs}
+use Rattle.tables_distance.specs.Store.{directTo}
+use Rattle.tables_distance.proofs.StoreLaws.{directTo-length, directTo-none, directTo-more}
+use Rattle.tables_distance.proofs.direct_row.Statement.{statement}
+use Rattle.tables_distance.proofs.direct_row.Tie as tie
+
+abbrev Inv-loop : tie.InvT-loop
+Inv-loop words₀ n r p g s₀ words s = (s ≤ n) × (length words ≡ length words₀) × (words ≡ directTo g r p words₀ s)
+
+abbrev μ-loop : tie.MeasureT-loop
+μ-loop words₀ n r p g s₀ words s = n - s
+
+loop-holds : tie.Need-loop-holds Inv-loop μ-loop
+loop-holds c = (omega arith, refl, directTo-none _ _ _ _)
+
+direct-word-requires : tie.Need-direct-word-requires Inv-loop μ-loop
+direct-word-requires c κs = search needs
+
+add-words : tie.Need-add-words Inv-loop μ-loop
+add-words c = search needs
+
+mul-words : tie.Need-mul-words Inv-loop μ-loop
+mul-words c = search needs
+
+slice-write-words : tie.Need-slice-write-words Inv-loop μ-loop
+slice-write-words c = search needs
+
+add-s : tie.Need-add-s Inv-loop μ-loop
+add-s c = search needs
+
+loop-less : tie.Need-loop-less Inv-loop μ-loop
+loop-less c = search needs
+
+loop-again : tie.Need-loop-again Inv-loop μ-loop
+loop-again c =
+    let x = c .before .before .before .before .args in
+    let l = c .before .before .loop in
+    let e = directTo-more (x .g) (x .r) (x .p) (x .words .now) (l .s) _ _ (l .inv .2) (c .direct-word .ensures) in
+    (omega arith, ap length e ∙ directTo-length (x .g) (x .r) (x .p) (x .words .now) _, e)
+
+same-length : tie.Need-same-length Inv-loop μ-loop
+same-length c = search needs
+
+returns : tie.Need-returns Inv-loop μ-loop
+returns c = let e : c .before .loop .s ≡ c .before .before .before .args .n = omega arith in rw e at (c .before .loop .inv .2)
+
+pub direct-row-spec : {M : Type 1} → statement M
+direct-row-spec =
+    tie.close
+    (tie.spec
+    Inv-loop
+    μ-loop
+    loop-holds
+    direct-word-requires
+    add-words
+    mul-words
+    slice-write-words
+    add-s
+    loop-less
+    loop-again
+    same-length
+    returns)

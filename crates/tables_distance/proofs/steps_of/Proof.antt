@@ -1,0 +1,39 @@
+-- `tables_distance::steps_of` meets its contract, by the kind of closer.
+use mathlib.Core.Path.{refl}
+use borrow.Author.Needs.{needs}
+use Rattle.tables_distance.proofs.StoreLaws.{stepsOf-end, stepsOf-time, stepsOf-event}
+use Rattle.tables_distance.proofs.steps_of.Tie as tie
+use Rattle.tables_distance.proofs.steps_of.Statement.{statement}
+
+enum-told : tie.Need-enum-told
+enum-told c = search needs
+
+enum-known-closer : tie.Need-enum-known-closer
+enum-known-closer c = search needs
+
+units-word-requires : tie.Need-units-word-requires
+units-word-requires c κs = search needs
+
+enum-known-closer-2 : tie.Need-enum-known-closer-2
+enum-known-closer-2 c = search needs
+
+returns : tie.Need-returns
+returns c = stepsOf-end _ (c .enum-told .given .1)
+
+returns-2 : tie.Need-returns-2
+returns-2 c = stepsOf-time _ _ _ _ (c .before .before .closer .given .1) (c .units-word .ensures)
+
+returns-3 : tie.Need-returns-3
+returns-3 c = stepsOf-event _ _ _ _ (c .before .closer2 .given .1) refl
+
+pub steps-of-spec : {M : Type 1} → statement M
+steps-of-spec =
+    tie.close
+    (tie.spec
+    enum-told
+    enum-known-closer
+    units-word-requires
+    enum-known-closer-2
+    returns
+    returns-2
+    returns-3)

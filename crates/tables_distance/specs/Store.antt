@@ -1,0 +1,83 @@
+-- How the code makes the words, one store after the other. Only private contracts cite this; `proofs/StoreLaws.antt` says that the words are those of `stored`.
+-- While the rounds run, a word at `far` or above stands for never: its time is 1,000,000,000 units or more.
+use Prim.Native.Nat.{ℕ, zero, suc, _+_, _*_, _/_}
+use mathlib.Core.Bool.{cond, _||_}
+use mathlib.Core.List.{List}
+use lib.Dec.{ltb, eqb}
+use lib.ListN.{getD, set}
+use Rattle.clock.specs.declared.Wait.the-variants as wait
+use Rattle.clock.specs.declared.Bound.{Bound}
+use Rattle.clock.specs.Advance.{advanceOf}
+use Rattle.model.specs.declared.Closer.{Closer}
+use Rattle.model.specs.declared.Closer.the-variants.{End, Time, Event}
+use Rattle.model.specs.declared.Model.{Model}
+use Rattle.model.specs.Values.{segmentAt}
+use Rattle.tables_distance.specs.declared.Steps.{Steps}
+use Rattle.tables.specs.Word.{allOnes, wordOf}
+
+-- 1,000,000,000 × 1,024
+abbrev pub far : ℕ
+far = 1024000000000
+
+-- the lesser of two words
+unfoldable pub lesser : ℕ → ℕ → ℕ
+lesser w c = cond (ltb c w) c w
+
+-- a bound while the rounds run
+unfoldable pub heldWord : Bound → ℕ
+heldWord b = lesser far (wordOf b)
+
+-- the sum of two words: the first's delta counts only if the second takes no time
+unfoldable pub sumWord : ℕ → ℕ → ℕ
+sumWord a b = cond (ltb b far) (cond (ltb b 1024) (a + b) (a / 1024 * 1024 + b)) far
+
+-- the next segments of a closer, and the word of a step to them
+unfoldable pub stepsOf : Closer → Steps
+stepsOf End = record { a = 0; b = 0; word = far }
+stepsOf (Time k x) = record { a = x .a; b = x .b; word = heldWord (advanceOf (wait.Time k)) }
+stepsOf (Event e x) = record { a = x .a; b = x .b; word = 1 }
+
+unfoldable pub directWord : Steps → ℕ → ℕ → ℕ
+directWord g r s = cond (eqb r s) 0 (cond (eqb (g .a) s || eqb (g .b) s) (g .word) far)
+
+-- the first n words of row r, which begins at place p
+unfoldable pub directTo : Steps → ℕ → ℕ → List ℕ → ℕ → List ℕ
+directTo g r p ws zero = ws
+directTo g r p ws (suc s) = set (directTo g r p ws s) (p + s) (directWord g r s)
+
+-- the first rows of all
+unfoldable pub directRows : Model → List ℕ → ℕ → List ℕ
+directRows m ws zero = ws
+directRows m ws (suc r) = directTo (stepsOf (segmentAt m r .closer)) r (r * m .n) (directRows m ws r) (m .n)
+
+-- the first n words of the row that begins at p, each made the lesser of itself and the way of word a, then on by the row that begins at q
+unfoldable pub relaxedTo : ℕ → ℕ → ℕ → List ℕ → ℕ → List ℕ
+relaxedTo a p q ws zero = ws
+relaxedTo a p q ws (suc j) =
+    let vs = relaxedTo a p q ws j in
+    set vs (p + j) (lesser (getD vs (p + j) 0) (sumWord a (getD vs (q + j) 0)))
+
+-- one round, over place k: the first rows of n; a row with no way to k stays
+unfoldable pub roundTo : ℕ → ℕ → List ℕ → ℕ → List ℕ
+roundTo n k ws zero = ws
+roundTo n k ws (suc i) =
+    let vs = roundTo n k ws i in
+    let a = getD vs (i * n + k) 0 in
+    cond (ltb a far) (relaxedTo a (i * n) (k * n) vs n) vs
+
+-- the first rounds
+unfoldable pub roundsTo : ℕ → List ℕ → ℕ → List ℕ
+roundsTo n ws zero = ws
+roundsTo n ws (suc k) = roundTo n k (roundsTo n ws k) n
+
+-- "It is 'never' .. at 1,000,000,000 units or more", "'never' as all ones"
+unfoldable pub cutWord : ℕ → ℕ
+cutWord w = cond (ltb w far) w allOnes
+
+unfoldable pub cutTo : List ℕ → ℕ → List ℕ
+cutTo ws zero = ws
+cutTo ws (suc i) = let vs = cutTo ws i in set vs i (cutWord (getD vs i 0))
+
+-- all of it
+unfoldable pub filled : Model → List ℕ → List ℕ
+filled m ws = cutTo (roundsTo (m .n) (directRows m ws (m .n)) (m .n)) (m .n * m .n)

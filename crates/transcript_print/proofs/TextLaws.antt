@@ -1,0 +1,120 @@
+-- What is printed: of too many labels, of a refused file, of the whole list.
+use Prim.Native.Nat.{ℕ, _*_, _≤_, _<_}
+use mathlib.Core.Path.{_≡_, refl, sym, ap, _∙_}
+use mathlib.Core.Bool.{true, false}
+use mathlib.Core.Logic.{⊎-elim}
+use mathlib.Core.List.{List, _++_, map}
+use native.Mathlib.Nat.{mul-le-mul}
+use native.Mathlib.Omega.{arith}
+use lib.Dec.{eqb, eqb→eq, T-not}
+use lib.ListN.{length, take, drop, length-append, length-drop, length-map}
+use lib.Seq.{take-at}
+use borrow.Author.Tests.{lt-ltb, le-ltb, eq-eqb, ne-eqb}
+use Rattle.base.proofs.BoolLaws.{T-case, eq→eqb}
+use Rattle.base.proofs.IndexLaws.{orElse-none, orElse-some}
+use Rattle.model.specs.declared.Model.{Model}
+use Rattle.model_rules.proofs.RuleLaws.{modelFault-counts}
+use Rattle.reader.specs.File.{readFile}
+use Rattle.reader_laws.proofs.Accepted.{accepted-kept}
+use Rattle.tables.specs.Outcome.{isShort}
+use Rattle.reader_load.specs.Load.{loadNumber, loadOf}
+use Rattle.sheet.specs.Sheet.{refusedLine}
+use Rattle.early_request.specs.Answers as list
+use Rattle.early_request.specs.Answers.{answersWords}
+use Rattle.order.specs.Claim.{afterList}
+use Rattle.transcript.specs.Label.{threadOf}
+use Rattle.transcript.specs.Transcript.{mostRequests, transcriptOf}
+use Rattle.replay.specs.declared.Replayed.{Replayed}
+use Rattle.replay.specs.Replay.{doneOn, replayedOf, answersAfter}
+use Rattle.transcript_print.specs.Playback.{replayText}
+
+done-number : (m : Model) (ks : List ℕ) → doneOn m ks .number ≡ 0
+unfolding doneOn
+done-number m ks = refl
+
+-- 4,096 words are enough for the tables of every accepted file
+isShort-never : (m : Model) (words : List ℕ) → m .n ≤ 64 → 4096 ≤ length words → isShort m words ≡ false
+unfolding isShort
+isShort-never m words few room =
+    let h : m .n * m .n ≤ 64 * 64 = mul-le-mul few few in
+    le-ltb (length words) (m .n * m .n) (omega arith)
+
+module _ (file words : List ℕ) (room : 4096 ≤ length words) where
+  loadNumber-accepted : readFile file .number ≡ 0 → loadNumber (readFile file) words ≡ 0
+  unfolding loadNumber
+  loadNumber-accepted z =
+      let few = modelFault-counts (readFile file .model) (accepted-kept file z) .segments in
+      orElse-none (readFile file .number) _ z ∙ rw (isShort-never (readFile file .model) words few room) refl
+
+  loadNumber-refused : (readFile file .number ≡ 0 → ⊥) → loadNumber (readFile file) words ≡ readFile file .number
+  unfolding loadNumber
+  loadNumber-refused h = orElse-some (readFile file .number) _ h
+
+  load-accepted : readFile file .number ≡ 0 → loadOf file words ≡ record { number = 0; model = readFile file .model }
+  unfolding loadOf
+  load-accepted z = rw (loadNumber-accepted z) refl
+
+  load-refused : (readFile file .number ≡ 0 → ⊥) → loadOf file words .number ≡ readFile file .number
+  unfolding loadOf
+  load-refused h = rw (loadNumber-refused h, ne-eqb (readFile file .number) 0 h) refl
+
+  module _ (ks answers : List ℕ) (fits : 4 * length ks ≤ length answers) where
+    fits-no : list.isShort ks answers ≡ false
+    unfolding list.isShort
+    fits-no = le-ltb (length answers) (4 * length ks) fits
+
+    replayed-accepted : readFile file .number ≡ 0 → replayedOf file words ks answers ≡ doneOn (readFile file .model) ks
+    unfolding replayedOf
+    replayed-accepted z = rw (fits-no, load-accepted z) refl
+
+    answers-accepted : readFile file .number ≡ 0 → answersAfter file words ks answers ≡ answersWords (afterList (readFile file .model) ks .answers) ++ drop (4 * length ks) answers
+    unfolding answersAfter
+    answers-accepted z = rw (fits-no, load-accepted z) refl
+
+    replayed-refused : (readFile file .number ≡ 0 → ⊥) → replayedOf file words ks answers .number ≡ readFile file .number
+    unfolding replayedOf
+    replayed-refused h = rw (fits-no, load-refused h, ne-eqb (readFile file .number) 0 h) refl
+
+    -- the number is the reader's
+    replayed-number : replayedOf file words ks answers .number ≡ readFile file .number
+    replayed-number =
+        ⊎-elim
+        (λ t. accepts (eqb→eq (readFile file .number) 0 t))
+        (λ t. replayed-refused (λ z. T-not (eqb (readFile file .number) 0) t (eq→eqb (readFile file .number) 0 z)))
+        (T-case (eqb (readFile file .number) 0))
+      where
+        accepts : readFile file .number ≡ 0 → replayedOf file words ks answers .number ≡ readFile file .number
+        accepts z = ap (λ (r : Replayed). r .number) (replayed-accepted z) ∙ done-number (readFile file .model) ks ∙ sym z
+
+-- too many labels
+pub text-long : (file labels : List ℕ) → mostRequests < length labels → refusedLine 11 ≡ replayText file labels
+unfolding replayText
+text-long file labels h = rw (lt-ltb mostRequests (length labels) h) refl
+
+module _ (file labels words answers : List ℕ) (few : length labels ≤ mostRequests) (room : 4096 ≤ length words) (fits : 4096 ≤ length answers) (r : Replayed) (e : r ≡ replayedOf file words (map threadOf labels) answers) where
+  enough : 4 * length (map threadOf labels) ≤ length answers
+  enough = rw (length-map labels threadOf) (omega arith)
+
+  number : r .number ≡ readFile file .number
+  number = ap (λ (x : Replayed). x .number) e ∙ replayed-number file words room (map threadOf labels) answers enough
+
+  -- a refused file
+  pub text-refused : (r .number ≡ 0 → ⊥) → refusedLine (r .number) ≡ replayText file labels
+  unfolding replayText
+  text-refused h =
+      let g : readFile file .number ≡ 0 → ⊥ = rw number at h in
+      rw (le-ltb mostRequests (length labels) few, ne-eqb (readFile file .number) 0 g, number) refl
+
+  -- the whole list, from the words that hold its answers
+  pub text-done :
+      r .number ≡ 0 → (bs : List ℕ) → bs ≡ answersAfter file words (map threadOf labels) answers → length bs ≡ length answers →
+      transcriptOf labels (take (4 * length labels) bs) (r .v) (r .t) (r .site) (r .threads .at) ≡ replayText file labels
+  unfolding replayText doneOn
+  text-done z bs p l =
+      let g : readFile file .number ≡ 0 = sym number ∙ z in
+      let q = replayed-accepted file words room (map threadOf labels) answers enough g in
+      let a = answersWords (afterList (readFile file .model) (map threadOf labels) .answers) in
+      let b : bs ≡ a ++ drop (4 * length labels) answers = rw (length-map labels threadOf) at (p ∙ answers-accepted file words room (map threadOf labels) answers enough g) in
+      let n : length a ≡ 4 * length labels = omega (arith, l, ap length b, length-append a (drop (4 * length labels) answers), length-drop (4 * length labels) answers) in
+      let t : take (4 * length labels) bs ≡ a = rw b (take-at a (drop (4 * length labels) answers) (4 * length labels) n) in
+      rw (le-ltb mostRequests (length labels) few, eq-eqb (readFile file .number) 0 g, t, e ∙ q) refl

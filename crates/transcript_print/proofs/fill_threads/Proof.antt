@@ -1,0 +1,69 @@
+-- `transcript_print::fill_threads` meets its contract. The invariant: the threads of the first i labels are there, and the rest is as it was.
+use Prim.Native.Nat.{_-_, _≤_}
+use mathlib.Core.Path.{_≡_, refl}
+use mathlib.Core.List.{_++_, map}
+use native.Mathlib.Omega.{arith}
+use lib.ListN.{length, take, drop, length-set}
+use borrow.Author.Needs.{needs}
+use Rattle.transcript.specs.Label.{threadOf}
+use Rattle.transcript_print.proofs.FillLaws.{filled-more, filled-all}
+use Rattle.transcript_print.proofs.fill_threads.Statement.{statement}
+use Rattle.transcript_print.proofs.fill_threads.Tie as tie
+
+abbrev Inv-loop : tie.InvT-loop
+Inv-loop labels ks₀ i₀ ks i = (i ≤ length labels) × (length ks ≡ length ks₀) × (ks ≡ take i (map threadOf labels) ++ drop i ks₀)
+
+abbrev μ-loop : tie.MeasureT-loop
+μ-loop labels ks₀ i₀ ks i = length labels - i
+
+loop-holds : tie.Need-loop-holds Inv-loop μ-loop
+loop-holds c = (omega arith, refl, refl)
+
+mul-thread-of : tie.Need-mul-thread-of Inv-loop μ-loop
+mul-thread-of c = omega arith
+
+shared-slice-read-thread-of : tie.Need-shared-slice-read-thread-of Inv-loop μ-loop
+shared-slice-read-thread-of c = omega arith
+
+thread-of-requires : tie.Need-thread-of-requires Inv-loop μ-loop
+thread-of-requires c κs = search needs
+
+slice-write-ks : tie.Need-slice-write-ks Inv-loop μ-loop
+slice-write-ks c = omega arith
+
+add-i : tie.Need-add-i Inv-loop μ-loop
+add-i c = omega arith
+
+loop-less : tie.Need-loop-less Inv-loop μ-loop
+loop-less c = omega arith
+
+loop-again : tie.Need-loop-again Inv-loop μ-loop
+loop-again c =
+    let l = c .before .before .before in
+    let a = l .before .before .before .args in
+    (omega arith, simp length-set (l .loop .inv .1), rw (l .loop .inv .2, c .thread-of .ensures) (filled-more (a .labels .now) (a .ks .now) (l .loop .i) (omega arith) (omega arith)))
+
+same-length : tie.Need-same-length Inv-loop μ-loop
+same-length c = omega arith
+
+returns : tie.Need-returns Inv-loop μ-loop
+returns c =
+    let a = c .before .before .before .before .args in
+    filled-all (a .labels .now) (a .ks .now) (c .before .loop .ks) (c .before .loop .i) (omega arith) (c .before .loop .inv .2)
+
+pub fill-threads-spec : {M : Type 1} → statement M
+fill-threads-spec =
+    tie.close
+    (tie.spec
+    Inv-loop
+    μ-loop
+    loop-holds
+    mul-thread-of
+    shared-slice-read-thread-of
+    thread-of-requires
+    slice-write-ks
+    add-i
+    loop-less
+    loop-again
+    same-length
+    returns)

@@ -1,0 +1,78 @@
+-- `transcript_print::put_l_lines` meets its contract. The invariant: the lines of the first i pairs are put.
+use Prim.Native.Nat.{_+_, _*_, _-_, _≤_, min}
+use mathlib.Core.Path.{_≡_}
+use native.Mathlib.Omega.{arith}
+use borrow.Author.Needs.{needs}
+use Rattle.sheet_print.specs.Put.{Puts}
+use Rattle.sheet_print.proofs.PutLaws.{puts-none}
+use Rattle.transcript.specs.Transcript.{lLines}
+use Rattle.transcript_print.proofs.LineLaws.{puts-l-more}
+use Rattle.transcript_print.proofs.put_l_lines.Statement.{statement}
+use Rattle.transcript_print.proofs.put_l_lines.Tie as tie
+
+abbrev Inv-loop : tie.InvT-loop
+Inv-loop out₀ at site n to₀ i₀ out to i = (i ≤ n) × (Puts out₀ at out to (lLines i (site .log)) × (to ≤ at + 65 * i))
+
+abbrev μ-loop : tie.MeasureT-loop
+μ-loop out₀ at site n to₀ i₀ out to i = n - i
+
+wide-requires : tie.Need-wide-requires Inv-loop μ-loop
+wide-requires c κs = search needs
+
+least-requires : tie.Need-least-requires Inv-loop μ-loop
+least-requires c κs = search needs
+
+loop-holds : tie.Need-loop-holds Inv-loop μ-loop
+unfolding lLines
+loop-holds c = (omega arith, (puts-none _ _ _ (omega arith), omega arith))
+
+mul-x : tie.Need-mul-x Inv-loop μ-loop
+mul-x c = omega arith
+
+element-copy-out-x : tie.Need-element-copy-out-x Inv-loop μ-loop
+element-copy-out-x c = omega arith
+
+put-l-line-requires : tie.Need-put-l-line-requires Inv-loop μ-loop
+put-l-line-requires c κs = search needs
+
+add-i : tie.Need-add-i Inv-loop μ-loop
+add-i c = omega arith
+
+loop-less : tie.Need-loop-less Inv-loop μ-loop
+loop-less c = omega arith
+
+loop-again : tie.Need-loop-again Inv-loop μ-loop
+loop-again c =
+    let l = c .before .before .before .before .before .before in (
+      omega arith,
+      (
+        puts-l-more (l .before .before .before .before .args .t3 .log) (l .loop .i) (l .loop .inv .1 .0) (c .before .before .put-l-line .ensures .0),
+        omega arith,
+      ),
+    )
+
+same-length : tie.Need-same-length Inv-loop μ-loop
+same-length c = omega arith
+
+returns : tie.Need-returns Inv-loop μ-loop
+returns c =
+    let e : c .before .loop .i ≡ min (c .before .before .before .before .before .args .t3 .count) 128 = omega arith in
+    (rw e at (c .before .loop .inv .1 .0), omega arith)
+
+pub put-l-lines-spec : {M : Type 1} → statement M
+put-l-lines-spec =
+    tie.close
+    (tie.spec
+    Inv-loop
+    μ-loop
+    wide-requires
+    least-requires
+    loop-holds
+    mul-x
+    element-copy-out-x
+    put-l-line-requires
+    add-i
+    loop-less
+    loop-again
+    same-length
+    returns)

@@ -1,0 +1,58 @@
+-- `transcript_print::put_r_lines` meets its contract. The invariant: the lines of the first i requests are put.
+use Prim.Native.Nat.{_*_, _-_, _≤_}
+use mathlib.Core.Path.{_≡_}
+use native.Mathlib.Omega.{arith}
+use lib.ListN.{length}
+use Rattle.sheet_print.specs.Put.{Puts}
+use Rattle.sheet_print.proofs.PutLaws.{puts-none}
+use Rattle.transcript.specs.Transcript.{rLines}
+use Rattle.transcript_print.proofs.LineLaws.{puts-r-more}
+use Rattle.transcript_print.proofs.put_r_lines.Statement.{statement}
+use Rattle.transcript_print.proofs.put_r_lines.Tie as tie
+
+abbrev Inv-loop : tie.InvT-loop
+Inv-loop out₀ labels answers to₀ i₀ out to i = (i ≤ length labels) × (Puts out₀ 0 out to (rLines i labels answers) × (to ≤ 94 * i))
+
+abbrev μ-loop : tie.MeasureT-loop
+μ-loop out₀ labels answers to₀ i₀ out to i = length labels - i
+
+loop-holds : tie.Need-loop-holds Inv-loop μ-loop
+unfolding rLines
+loop-holds c = (omega arith, (puts-none _ _ _ (omega arith), omega arith))
+
+put-r-line-requires : tie.Need-put-r-line-requires Inv-loop μ-loop
+put-r-line-requires c κs = omega arith
+
+add-i : tie.Need-add-i Inv-loop μ-loop
+add-i c = omega arith
+
+loop-less : tie.Need-loop-less Inv-loop μ-loop
+loop-less c = omega arith
+
+loop-again : tie.Need-loop-again Inv-loop μ-loop
+loop-again c =
+    let l = c .before .before .before .before .before in
+    let a = l .before .before .before .before .args in
+    (omega arith, (puts-r-more (a .labels .now) (a .answers .now) (l .loop .i) (l .loop .inv .1 .0) (c .before .before .put-r-line .ensures .0), omega arith))
+
+same-length : tie.Need-same-length Inv-loop μ-loop
+same-length c = omega arith
+
+returns : tie.Need-returns Inv-loop μ-loop
+returns c =
+    let e : c .before .loop .i ≡ length (c .before .before .before .before .before .args .labels .now) = omega arith in
+    (rw e at (c .before .loop .inv .1 .0), omega arith)
+
+pub put-r-lines-spec : {M : Type 1} → statement M
+put-r-lines-spec =
+    tie.close
+    (tie.spec
+    Inv-loop
+    μ-loop
+    loop-holds
+    put-r-line-requires
+    add-i
+    loop-less
+    loop-again
+    same-length
+    returns)

@@ -1,0 +1,110 @@
+-- `transcript_print::replay_text` meets its contract: too many labels, a refused file, the whole list.
+use mathlib.Core.Path.{_≡_, sym}
+use mathlib.Core.List.{map}
+use native.Mathlib.Omega.{arith}
+use lib.ListN.{replicate}
+use lib.Seq.{length-take-le}
+use borrow.Author.Needs.{needs}
+use Rattle.transcript.specs.Label.{threadOf}
+use Rattle.replay.specs.Replay.{replayedOf, answersAfter}
+use Rattle.transcript_print.proofs.FillLaws.{filled-front, shown}
+use Rattle.transcript_print.proofs.TextLaws.{text-long, text-refused, text-done}
+use Rattle.transcript_print.proofs.replay_text.Statement.{statement}
+use Rattle.transcript_print.proofs.replay_text.Tie as tie
+
+refusal-requires : tie.Need-refusal-requires
+refusal-requires c κs = search needs
+
+same-length : tie.Need-same-length
+same-length c = search needs
+
+returns : tie.Need-returns
+returns c =
+    let a = c .before .before .before .before .before .before .before .before .args in
+    let q = c .before .before .refusal in
+    shown _ _ (a .out .now) _ _ (text-long (a .file .now) (a .labels .now) (c .before .before .before .before .if1 .taken)) (q .ensures .0)
+
+slice-aggregate-fill-threads : tie.Need-slice-aggregate-fill-threads
+slice-aggregate-fill-threads c = search needs
+
+fill-threads-requires : tie.Need-fill-threads-requires
+fill-threads-requires c κs = search needs
+
+slice-aggregate-replay : tie.Need-slice-aggregate-replay
+slice-aggregate-replay c = search needs
+
+array-share-prefix-ks : tie.Need-array-share-prefix-ks
+array-share-prefix-ks c = search needs
+
+slice-aggregate-replay-2 : tie.Need-slice-aggregate-replay-2
+slice-aggregate-replay-2 c = sym (length-take-le _ _ (omega arith))
+
+slice-aggregate-replay-3 : tie.Need-slice-aggregate-replay-3
+slice-aggregate-replay-3 c = search needs
+
+replay-requires : tie.Need-replay-requires
+replay-requires c κs = search needs
+
+refusal-requires-2 : tie.Need-refusal-requires-2
+refusal-requires-2 c κs = search needs
+
+same-length-2 : tie.Need-same-length-2
+same-length-2 c = search needs
+
+returns-2 : tie.Need-returns-2
+returns-2 c =
+    let a = c .before .before .before .before .before .before .before .before .before .before .before .before .before .before .before .before .before .before .before .args in
+    let r = c .before .before .before .before .before .before .before .before .replay in
+    let k = filled-front (a .labels .now) _ _ (c .before .before .before .before .before .before .before .before .before .before .before .before .before .fill-threads .ensures) in
+    let e : r .result ≡ replayedOf (a .file .now) (replicate 4096 0) (map threadOf (a .labels .now)) (replicate 4096 0) = rw k at (r .ensures .0) in
+    let q = c .before .before .refusal2 in
+    shown _ _ (a .out .now) _ _ (text-refused (a .file .now) (a .labels .now) (replicate 4096 0) (replicate 4096 0) (c .before .before .before .before .before .before .before .before .before .before .before .before .before .before .before .if1 .left) (omega arith) (omega arith) (r .result) e (c .before .before .before .before .if2 .taken)) (q .ensures .0)
+
+mul-w : tie.Need-mul-w
+mul-w c = search needs
+
+array-share-prefix-answers : tie.Need-array-share-prefix-answers
+array-share-prefix-answers c = search needs
+
+slice-aggregate-transcript : tie.Need-slice-aggregate-transcript
+slice-aggregate-transcript c = sym (length-take-le _ _ (omega arith))
+
+transcript-requires : tie.Need-transcript-requires
+transcript-requires c κs = search needs
+
+same-length-3 : tie.Need-same-length-3
+same-length-3 c = search needs
+
+returns-3 : tie.Need-returns-3
+returns-3 c =
+    let a = c .before .before .before .before .before .before .before .before .before .before .before .before .before .before .before .before .before .before .before .before .before .before .args in
+    let r = c .before .before .before .before .before .before .before .before .before .before .before .replay in
+    let k = filled-front (a .labels .now) _ _ (c .before .before .before .before .before .before .before .before .before .before .before .before .before .before .before .before .fill-threads .ensures) in
+    let e : r .result ≡ replayedOf (a .file .now) (replicate 4096 0) (map threadOf (a .labels .now)) (replicate 4096 0) = rw k at (r .ensures .0) in
+    let b : _ ≡ answersAfter (a .file .now) (replicate 4096 0) (map threadOf (a .labels .now)) (replicate 4096 0) = rw k at (r .ensures .1 .1 .0) in
+    let q = c .before .before .transcript in
+    shown _ _ (a .out .now) _ _ (text-done (a .file .now) (a .labels .now) (replicate 4096 0) (replicate 4096 0) (c .before .before .before .before .before .before .before .before .before .before .before .before .before .before .before .before .before .before .if1 .left) (omega arith) (omega arith) (r .result) e (c .before .before .before .before .before .before .before .if2 .left) _ b (r .kept .1 .1 .1 .0)) (q .ensures .0)
+
+pub replay-text-spec : {M : Type 1} → statement M
+replay-text-spec =
+    tie.close
+    (tie.spec
+    refusal-requires
+    same-length
+    returns
+    slice-aggregate-fill-threads
+    fill-threads-requires
+    slice-aggregate-replay
+    array-share-prefix-ks
+    slice-aggregate-replay-2
+    slice-aggregate-replay-3
+    replay-requires
+    refusal-requires-2
+    same-length-2
+    returns-2
+    mul-w
+    array-share-prefix-answers
+    slice-aggregate-transcript
+    transcript-requires
+    same-length-3
+    returns-3)

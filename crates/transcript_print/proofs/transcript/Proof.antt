@@ -1,0 +1,88 @@
+-- `transcript_print::transcript` meets its contract. The text is shorter than the array that it is made in, so nothing of it was cut.
+use mathlib.Core.Path.{sym}
+use native.Mathlib.Omega.{arith}
+use lib.Seq.{length-take-le}
+use borrow.Author.Needs.{needs}
+use Rattle.sheet_print.proofs.PutLaws.{puts-then}
+use Rattle.transcript.specs.Transcript.{closingOf}
+use Rattle.transcript_print.proofs.WholeLaws.{transcript-long, transcript-short, transcript-whole, held-line, held-text, whole-fits}
+use Rattle.transcript_print.proofs.transcript.Statement.{statement}
+use Rattle.transcript_print.proofs.transcript.Tie as tie
+
+refusal-requires : tie.Need-refusal-requires
+refusal-requires c κs = search needs
+
+same-length : tie.Need-same-length
+same-length c = search needs
+
+returns : tie.Need-returns
+returns c =
+    let a = c .before .before .before .before .before .before .before .before .args in
+    held-line _ _ (a .out .now) _ _ (transcript-long (a .labels .now) (a .answers .now) (a .v) (a .t) (a .site) (a .threads .at) (c .before .before .before .before .if1 .taken)) (c .before .before .refusal .ensures)
+
+mul-if2 : tie.Need-mul-if2
+mul-if2 c = search needs
+
+refusal-requires-2 : tie.Need-refusal-requires-2
+refusal-requires-2 c κs = search needs
+
+same-length-2 : tie.Need-same-length-2
+same-length-2 c = search needs
+
+returns-2 : tie.Need-returns-2
+returns-2 c =
+    let a = c .before .before .before .before .before .before .before .before .before .args in
+    held-line _ _ (a .out .now) _ _ (transcript-short (a .labels .now) (a .answers .now) (a .v) (a .t) (a .site) (a .threads .at) (c .before .before .before .before .before .if1 .left) (c .before .before .before .before .if2 .taken)) (c .before .before .refusal2 .ensures)
+
+slice-aggregate-put-r-lines : tie.Need-slice-aggregate-put-r-lines
+slice-aggregate-put-r-lines c = search needs
+
+put-r-lines-requires : tie.Need-put-r-lines-requires
+put-r-lines-requires c κs = search needs
+
+slice-aggregate-put-closing : tie.Need-slice-aggregate-put-closing
+slice-aggregate-put-closing c = search needs
+
+put-closing-requires : tie.Need-put-closing-requires
+put-closing-requires c κs = search needs
+
+array-share-prefix-text : tie.Need-array-share-prefix-text
+array-share-prefix-text c = c .before .put-closing .ensures .0 .within
+
+slice-aggregate-copy-in : tie.Need-slice-aggregate-copy-in
+slice-aggregate-copy-in c = sym (length-take-le _ _ (c .before .before .put-closing .ensures .0 .within))
+
+copy-in-requires : tie.Need-copy-in-requires
+copy-in-requires c κs = search needs
+
+same-length-3 : tie.Need-same-length-3
+same-length-3 c = search needs
+
+returns-3 : tie.Need-returns-3
+returns-3 c =
+    let a = c .before .before .before .before .before .before .before .before .before .before .before .before .before .before .before .before .args in
+    let rs = c .before .before .before .before .before .before .before .before .before .put-r-lines in
+    let cs = c .before .before .before .before .before .before .put-closing in
+    let g = c .before .before .before .before .before .before .before .before .before .before .before .before .if1 .left in
+    held-text _ (a .out .now) _ _ (puts-then {ys = closingOf (a .v) (a .t) (a .site) (a .threads .at)} (rs .ensures .0) (cs .ensures .0)) (omega arith) (whole-fits (a .labels .now) g (rs .ensures .1) (cs .ensures .1)) (transcript-whole (a .labels .now) (a .answers .now) (a .v) (a .t) (a .site) (a .threads .at) g (c .before .before .before .before .before .before .before .before .before .before .before .if2 .left)) (c .before .before .copy-in .ensures)
+
+pub transcript-spec : {M : Type 1} → statement M
+transcript-spec =
+    tie.close
+    (tie.spec
+    refusal-requires
+    same-length
+    returns
+    mul-if2
+    refusal-requires-2
+    same-length-2
+    returns-2
+    slice-aggregate-put-r-lines
+    put-r-lines-requires
+    slice-aggregate-put-closing
+    put-closing-requires
+    array-share-prefix-text
+    slice-aggregate-copy-in
+    copy-in-requires
+    same-length-3
+    returns-3)

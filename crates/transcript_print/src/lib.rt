@@ -1,0 +1,207 @@
+// What `replayrun` prints, as bytes in a lent buffer: the transcript of a list of requests, and that of a list on a model file.
+use early::Notification;
+use early::Site;
+use model::Threads;
+ghost use Prim.Native.Nat.{_+_, _*_, _<_, _≤_, min};
+ghost use mathlib.Core.Path.{_≡_};
+ghost use mathlib.Core.List.{_∷_, _++_, map};
+ghost use lib.ListN.{length, drop};
+ghost use Rattle.sheet.specs.Sheet.{restOf, sheetIn, bytesIn};
+ghost use Rattle.sheet_print.specs.Put.{Puts};
+ghost use Rattle.early.specs.Log.{places};
+ghost use Rattle.transcript.specs.Label.{labelOf, threadOf};
+ghost use Rattle.transcript.specs.Transcript.{labelWord, printedAnswer, rLineAt, rLines, lLine, lLines, closingOf, transcriptOf, mostRequests, longestTranscript};
+ghost use Rattle.transcript_print.specs.Playback.{replayText};
+
+// Stands for an argument that is no number.
+const NO_NUMBER: u64 = 18446744073709551615;
+
+// The number that an argument's digits say.
+pub fn label_of(arg: &[u8]) -> u64
+    ensures { λ r. ⌜ r ≡ labelOf (now (arg .entry)) ⌝ }
+{
+    if arg.len() == 0 {
+        return NO_NUMBER;
+    }
+    if 19 < arg.len() {
+        return NO_NUMBER;
+    }
+    let mut x: u64 = 0;
+    let mut i = 0;
+    while i < arg.len() {
+        let b = arg[i];
+        if b < 48 {
+            return NO_NUMBER;
+        }
+        if 57 < b {
+            return NO_NUMBER;
+        }
+        x = x * 10 + sheet_print::long_byte(b - 48);
+        i += 1;
+    }
+    x
+}
+
+// The thread that a label asks for.
+pub fn thread_of(label: u64) -> u8
+    ensures { λ r. ⌜ r ≡ threadOf label ⌝ }
+{
+    if label < 255 {
+        return label as u8;
+    }
+    255
+}
+
+// A space, and the label or `?`.
+fn put_label(out: &mut [u8], at: usize, label: u64) -> usize
+    ensures { λ r. ⌜ Puts (now (out .entry)) at (now (out .exit)) r (32 ∷ labelWord label) × (r ≤ at + 21) ⌝ }
+{
+    if label == NO_NUMBER {
+        return sheet_print::put_word(out, at, b" ?");
+    }
+    sheet_print::put_number(out, at, label)
+}
+
+// An answer, to the end of its line.
+fn put_answer(out: &mut [u8], at: usize, number: u64, segment: u64, time: u64, delta: u64) -> usize
+    ensures { λ r. ⌜ Puts (now (out .entry)) at (now (out .exit)) r (restOf (printedAnswer number segment time delta)) × (r ≤ at + 72) ⌝ }
+{
+    if number == 0 {
+        let a = sheet_print::put_word(out, at, b" granted");
+        let b = sheet_print::put_number(out, a, segment);
+        let c = sheet_print::put_number(out, b, time);
+        return sheet_print::put_last(out, c, delta);
+    }
+    let a = sheet_print::put_word(out, at, b" refused");
+    sheet_print::put_last(out, a, number)
+}
+
+// The line of request i.
+fn put_r_line(out: &mut [u8], at: usize, labels: &[u64], answers: &[u64], i: usize) -> usize
+    requires { ⌜ i < length (now labels) ⌝ }
+    requires { ⌜ 4 * length (now labels) ≤ length (now answers) ⌝ }
+    ensures { λ r. ⌜ Puts (now (out .entry)) at (now (out .exit)) r (rLineAt (now (labels .entry)) (now (answers .entry)) i) × (r ≤ at + 94) ⌝ }
+{
+    let w = 4 * i;
+    let a = sheet_print::put_byte(out, at, b'r');
+    let b = put_label(out, a, labels[i]);
+    put_answer(
+        out,
+        b,
+        answers[w],
+        answers[w + 1],
+        answers[w + 2],
+        answers[w + 3],
+    )
+}
+
+// The lines of the requests, in their order.
+fn put_r_lines(out: &mut [u8], labels: &[u64], answers: &[u64]) -> usize
+    requires { ⌜ 4 * length (now labels) ≤ length (now answers) ⌝ }
+    ensures { λ r. ⌜ Puts (now (out .entry)) 0 (now (out .exit)) r (rLines (length (now (labels .entry))) (now (labels .entry)) (now (answers .entry))) × (r ≤ 94 * length (now (labels .entry))) ⌝ }
+{
+    let mut to = 0;
+    let mut i = 0;
+    while i < labels.len() {
+        to = put_r_line(out, to, labels, answers, i);
+        i += 1;
+    }
+    to
+}
+
+// Document 01: "notifications (event, cycle)".
+fn put_l_line(out: &mut [u8], at: usize, x: Notification) -> usize
+    ensures { λ r. ⌜ Puts (now (out .entry)) at (now (out .exit)) r (lLine x) × (r ≤ at + 65) ⌝ }
+{
+    let event = sheet_print::long_byte(x.event);
+    let c = x.cycle;
+    let a = sheet_print::put_byte(out, at, b'l');
+    let b = sheet_print::put_number(out, a, event);
+    sheet_print::put_cycle(out, b, c)
+}
+
+// The lines of the log, in its order.
+fn put_l_lines(out: &mut [u8], at: usize, site: Site) -> usize
+    requires { ⌜ at ≤ length (now out) ⌝ }
+    ensures { λ r. ⌜ Puts (now (out .entry)) at (now (out .exit)) r (lLines (min (site .count) places) (site .log)) × (r ≤ at + 8320) ⌝ }
+{
+    let n = sheet_print::least(sheet_print::wide(site.count), 128);
+    let mut to = at;
+    let mut i = 0;
+    while i < n {
+        let x = site.log[i];
+        to = put_l_line(out, to, x);
+        i += 1;
+    }
+    to
+}
+
+// The variables, the threads, the log.
+fn put_closing(out: &mut [u8], at: usize, v: u8, t: u8, site: Site, threads: Threads) -> usize
+    ensures { λ r. ⌜ Puts (now (out .entry)) at (now (out .exit)) r (closingOf v t site (threads .at)) × (r ≤ at + 14720) ⌝ }
+{
+    let xs = site.variables;
+    let a = sheet_print::put_v_lines(out, at, v, xs);
+    let b = sheet_print::put_t_lines(out, a, t, threads);
+    put_l_lines(out, b, site)
+}
+
+// The transcript at the front of out; its length in bytes. Where out is too short for it: 0, and nothing is written.
+// More than 1,024 requests, or fewer than 4 words for each: `refused 11`. No transcript is longer than 110,976 bytes.
+pub fn transcript(
+    labels: &[u64],
+    answers: &[u64],
+    v: u8,
+    t: u8,
+    site: Site,
+    threads: Threads,
+    out: &mut [u8],
+) -> usize
+    ensures { λ r. ⌜ (r ≡ bytesIn (transcriptOf (now (labels .entry)) (now (answers .entry)) v t site (threads .at)) (now (out .entry))) × (now (out .exit) ≡ sheetIn (transcriptOf (now (labels .entry)) (now (answers .entry)) v t site (threads .at)) (now (out .entry))) ⌝ }
+    ensures { λ _. ⌜ length (transcriptOf (now (labels .entry)) (now (answers .entry)) v t site (threads .at)) ≤ longestTranscript ⌝ }
+{
+    if 1024 < labels.len() {
+        return sheet_print::refusal(11, out);
+    }
+    if answers.len() < 4 * labels.len() {
+        return sheet_print::refusal(11, out);
+    }
+    let mut text = [0u8; 131072];
+    let a = put_r_lines(&mut text, labels, answers);
+    let n = put_closing(&mut text, a, v, t, site, threads);
+    sheet_print::copy_in(&text[..n], out)
+}
+
+// The threads that labels ask for, at the front of ks.
+fn fill_threads(labels: &[u64], ks: &mut [u8])
+    requires { ⌜ length (now labels) ≤ length (now ks) ⌝ }
+    ensures { λ _. ⌜ now (ks .exit) ≡ map threadOf (now (labels .entry)) ++ drop (length (now (labels .entry))) (now (ks .entry)) ⌝ }
+{
+    let mut i = 0;
+    while i < labels.len() {
+        ks[i] = thread_of(labels[i]);
+        i += 1;
+    }
+}
+
+// What is printed of a file and of labels, at the front of out; how many bytes. A buffer that is too short stays, and the answer is 0.
+pub fn replay_text(file: &[u8], labels: &[u64], out: &mut [u8]) -> usize
+    ensures { λ r. ⌜ (r ≡ bytesIn (replayText (now (file .entry)) (now (labels .entry))) (now (out .entry))) × (now (out .exit) ≡ sheetIn (replayText (now (file .entry)) (now (labels .entry))) (now (out .entry))) ⌝ }
+{
+    if 1024 < labels.len() {
+        return sheet_print::refusal(11, out);
+    }
+    let n = labels.len();
+    let mut ks = [0u8; 1024];
+    fill_threads(labels, &mut ks);
+    let mut words = [0u64; 4096];
+    let mut answers = [0u64; 4096];
+    let r = replay::replay(file, &mut words, &ks[..n], &mut answers);
+    if r.number != 0 {
+        return sheet_print::refusal(r.number, out);
+    }
+    let site = r.site;
+    let threads = r.threads;
+    let w = 4 * n;
+    transcript(labels, &answers[..w], r.v, r.t, site, threads, out)
+}
