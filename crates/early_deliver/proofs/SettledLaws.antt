@@ -59,7 +59,7 @@ module _ (m : Model) (ws : List ℕ) (l : List Notification) where
   module _ (ts : List Thread) (fit : FitState m ws l ts) where
     firstLimit-is : (k : ℕ) → k < m .t → firstLimit l (threadAt ts k .state) ≡ limitOf (sourceOf l (threadAt ts k .state))
     unfolding limitOf
-    firstLimit-is k h = go (threadAt ts k .state) (isFitThread→ m (threadAt ts k) (fit-threads fit k h) .cycle)
+    firstLimit-is k h = go (threadAt ts k .state) (isFitThread→ m k (threadAt ts k) (fit-threads fit k h) .cycle)
       where
         go : (s : State) → FitCycle recordTime (cycleOf s) → firstLimit l s ≡ limitOf (sourceOf l s)
         go (Ended c) f = rw (sourceOf-idle l (Ended c) tt) refl
@@ -90,7 +90,7 @@ module _ (m : Model) (ws : List ℕ) (l : List Notification) where
     heardBy-is : (k : ℕ) → k < m .t
         → heardBy (reachOf m ws) (m .t) l (segmentsOf (m .t) ts) (aheadOf (reachOf m ws) (m .t) l ts) (awaitedBy (threadAt ts k .state)) ≡ heardAt m ws l ts k
     unfolding heardBy heardNow
-    heardBy-is k h = rw aheadOf-is (go (threadAt ts k .state) (isFitThread→ m (threadAt ts k) (fit-threads fit k h) .event))
+    heardBy-is k h = rw aheadOf-is (go (threadAt ts k .state) (isFitThread→ m k (threadAt ts k) (fit-threads fit k h) .event))
       where
         go : (s : State) → ((e : ℕ) (since : Cycle) → s ≡ Waiting e since → e < m .e)
             → heardBy (reachOf m ws) (m .t) l (segmentsOf (m .t) ts) (limitsOf m ws l ts) (awaitedBy s) ≡ heardNow m ws l ts (awaitedBy s)

@@ -95,12 +95,12 @@ unfit-here : (a b n : ℕ) (f : ℕ → Bool) (i : ℕ) → i < n → f i ≡ fa
 unfit-here a b n f i h e = rw (anyBelow-here n (λ i. not (f i)) i h (ap not e)) (sym (or-true (ltb a b)))
 
 module _ (m : Model) (ts : List Thread) where
-  pub isFitThread-at : (k : ℕ) → isFitThread m (threadAt ts k) ≡ isFitThread m (getD ts k noThread)
+  pub isFitThread-at : (k : ℕ) → isFitThread m k (threadAt ts k) ≡ isFitThread m (getD ts k noThread)
   isFitThread-at k = ap (isFitThread m) (threadAt-at ts k)
 
-  pub isUnfitThreads-here : (k : ℕ) → k < m .t → isFitThread m (threadAt ts k) ≡ false → true ≡ isUnfitThreads m ts
+  pub isUnfitThreads-here : (k : ℕ) → k < m .t → isFitThread m k (threadAt ts k) ≡ false → true ≡ isUnfitThreads m ts
   unfolding isUnfitThreads
-  isUnfitThreads-here k h e = unfit-here (length ts) (m .t) (m .t) (λ i. isFitThread m (threadAt ts i)) k h e
+  isUnfitThreads-here k h e = unfit-here (length ts) (m .t) (m .t) (λ i. isFitThread m i (threadAt ts i)) k h e
 
 module _ (m : Model) (site : Site) where
   pub isUnfitLog-above : places < site .count → true ≡ isUnfitLog m site

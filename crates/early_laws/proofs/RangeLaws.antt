@@ -87,7 +87,7 @@ within-word w f =
 
 -- fit records, a fit log and fit words
 module _ (m : Model) (ws : List ℕ) (l : List Notification) (ts : List Thread)
-    (fit-threads : (k : ℕ) → k < m .t → T (isFitThread m (threadAt ts k)))
+    (fit-threads : (k : ℕ) → k < m .t → T (isFitThread m k (threadAt ts k)))
     (fit-log : (x : Notification) → In x l → FitPair m x)
     (fit-words : (i : ℕ) → i < m .n * m .n → T (isFitWord (getD ws i 0)))
   where
@@ -109,7 +109,7 @@ module _ (m : Model) (ws : List ℕ) (l : List Notification) (ts : List Thread)
             (fits .cycle .time, fits .cycle .delta)
 
     within-source : (k : ℕ) → k < m .t → Within recordTime 1024 (sourceOf l (threadAt ts k .state))
-    within-source k h = go (threadAt ts k .state) (isFitThread→ m (threadAt ts k) (fit-threads k h) .cycle)
+    within-source k h = go (threadAt ts k .state) (isFitThread→ m k (threadAt ts k) (fit-threads k h) .cycle)
       where
         go : (s : State) → FitCycle recordTime (cycleOf s) → Within recordTime 1024 (sourceOf l s)
         go (Ended c) f = rw (sourceOf-idle l (Ended c) tt) tt
@@ -139,7 +139,7 @@ module _ (m : Model) (ws : List ℕ) (l : List Notification) (ts : List Thread)
         x
         (distanceIn m ws (threadAt ts k .segment) s)
         w
-        (within-distance (threadAt ts k .segment) s (isFitThread→ m (threadAt ts k) (fit-threads k h) .segment) p)
+        (within-distance (threadAt ts k .segment) s (isFitThread→ m k (threadAt ts k) (fit-threads k h) .segment) p)
 
     pub within-notify : (t d : ℕ) (x : Bound) (k e : ℕ) → k < m .t → Within t d x → Within (t + cutTime) (d + lastDelta) (soonestNotify m ws ts k x e)
     within-notify t d x k e h w = go (soonestNotify m ws ts k x e) refl

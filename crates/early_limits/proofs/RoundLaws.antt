@@ -124,7 +124,7 @@ module _ (m : Model) (ws : List ℕ) (l : List Notification) (ts : List Thread) 
             (ap limitOf (sym (least-Never-right x)))
         go (awaits e since) p =
             let waits = awaits→state (threadAt ts k .state) e since p in
-            let event = isFitThread→ m (threadAt ts k) (fit-threads fit k h) .event e since waits in
+            let event = isFitThread→ m k (threadAt ts k) (fit-threads fit k h) .event e since waits in
             rw
             (eventsOf-at (m .t) ts k (fit-counts fit .threads) h, p, lt-ltb e 32 (omega (arith, fit-counts fit .events)), same k h)
             (woken-limit e since waits event)

@@ -44,18 +44,18 @@ module _ {m : Model} {ws : List ℕ} {l : List Notification} {ts : List Thread} 
   pub fit-counts : Counts m
   fit-counts = modelFault-counts m (fit .model)
 
-  pub fit-threads : (k : ℕ) → k < m .t → T (isFitThread m (threadAt ts k))
+  pub fit-threads : (k : ℕ) → k < m .t → T (isFitThread m k (threadAt ts k))
   fit-threads = isUnfitThreads→ m ts (fit .threads) .1
 
   pub fit-words : (i : ℕ) → i < m .n * m .n → T (isFitWord (getD ws i 0))
   fit-words = isUnfitWords→ m ws (fit .words) .1
 
   pub fit-segment : (k : ℕ) → k < m .t → threadAt ts k .segment < m .n
-  fit-segment k h = isFitThread→ m (threadAt ts k) (fit-threads k h) .segment
+  fit-segment k h = isFitThread→ m k (threadAt ts k) (fit-threads k h) .segment
 
   -- the cycle of a ready thread
   pub ready-fit : (i : ℕ) (c : Cycle) → i < m .t → readyCycle (threadAt ts i .state) ≡ At c → FitCycle recordTime c
-  ready-fit i c h p = go (threadAt ts i .state) (isFitThread→ m (threadAt ts i) (fit-threads i h) .cycle) p
+  ready-fit i c h p = go (threadAt ts i .state) (isFitThread→ m i (threadAt ts i) (fit-threads i h) .cycle) p
     where
       go : (s : State) → FitCycle recordTime (cycleOf s) → readyCycle s ≡ At c → FitCycle recordTime c
       go (Ended d) f q = absurd (let z : _≡_ {A = ℕ} 0 1 = cc in omega arith)

@@ -33,7 +33,7 @@ use Rattle.model.specs.declared.State.the-variants.{Ended, Overrun, Ready, Wait
 use Rattle.model.specs.declared.Thread.{Thread}
 use Rattle.model.specs.Limits.{isBeforeHorizon, isBoundBeforeHorizon}
 use Rattle.model.specs.Record.{noThread, threadAt, readyCycle, cycleOf, stateAfter}
-use Rattle.model.specs.Values.{segmentAt}
+use Rattle.model.specs.Values.{segmentFor}
 use Rattle.model.specs.Effect.{closedAt, effectIn, effectOf}
 use Rattle.model.specs.Footprint.{has}
 
@@ -118,19 +118,19 @@ heard-time c = go (waitEnds wait.Event c) refl
     go (step.Overrun d) e = ap (λ (x : Cycle). x .time .0) (waitEnds-overrun wait.Event c e)
 
 module _ (m : Model) (k s : ℕ) (c : Cycle) (v : List ℕ) where
-  pub effectOf-thread : effectOf m k s c v .thread ≡ closedAt s (segmentAt m s .closer) c (effectOf m k s c v .variables)
+  pub effectOf-thread : effectOf m k s c v .thread ≡ closedAt s (segmentFor m k s .closer) c (effectOf m k s c v .variables)
   unfolding effectOf effectIn
   effectOf-thread = refl
 
   -- a thread that has run is ready in a later cycle
   pub effectOf-later : (d : Cycle) → effectOf m k s c v .thread .state ≡ Ready d → Before c d
   effectOf-later d e =
-      closedAt-later s (segmentAt m s .closer) c d (effectOf m k s c v .variables) (ap (λ (t : Thread). t .state) (sym effectOf-thread) ∙ e)
+      closedAt-later s (segmentFor m k s .closer) c d (effectOf m k s c v .variables) (ap (λ (t : Thread). t .state) (sym effectOf-thread) ∙ e)
 
   -- one that now waits has begun to in this cycle
   pub effectOf-waits : (e : ℕ) (d : Cycle) → effectOf m k s c v .thread .state ≡ Waiting e d → d ≡ c
   effectOf-waits e d f =
-      closedAt-waits s (segmentAt m s .closer) c d (effectOf m k s c v .variables) e (ap (λ (t : Thread). t .state) (sym effectOf-thread) ∙ f)
+      closedAt-waits s (segmentFor m k s .closer) c d (effectOf m k s c v .variables) e (ap (λ (t : Thread). t .state) (sym effectOf-thread) ∙ f)
 
 -- "ready before H"
 module _ (m : Model) where

@@ -17,7 +17,7 @@ use Rattle.early_fit.proofs.is_unfit_threads.Statement.{statement}
 use Rattle.early_fit.proofs.is_unfit_threads.Tie as tie
 
 abbrev Inv-loop : tie.InvT-loop
-Inv-loop t n e threads count k₀ k = (k ≤ count) × ((m : Model) → m .n ≡ n → m .e ≡ e → (i : ℕ) → i < k → T (isFitThread m (threadAt (threads .at) i)))
+Inv-loop t n e threads count k₀ k = (k ≤ count) × ((m : Model) → m .n ≡ n → m .e ≡ e → (i : ℕ) → i < k → T (isFitThread m i (threadAt (threads .at) i)))
 
 abbrev μ-loop : tie.MeasureT-loop
 μ-loop t n e threads count k₀ k = count - k
