@@ -96,6 +96,7 @@ module _ (m : Model) (ws : List ℕ) (l : List Notification) where
       let pair = fit .log (pairOf e x) (leastHeard-at l e since x (heardNow-at m ws l ts e since x q .0) .0) .cycle in
       →isFitThread
       m
+      k
       (heardThread x (threadAt ts k))
       (record {
         segment = fit-segment fit k h;
@@ -152,6 +153,7 @@ module _ (m : Model) (ws : List ℕ) (site : Site) (ts : List Thread) (fit : Fit
         let v = site .variables .at in
         →isFitThread
         m
+        k
         (effectAt m site ts k c .thread)
         (record {
           segment = kept .next k s c v (fit-segment fit k thread);
