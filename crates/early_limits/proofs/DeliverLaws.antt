@@ -19,7 +19,7 @@ use Rattle.model.specs.declared.Thread.{Thread}
 use Rattle.model.specs.Limits.{isBeforeHorizon}
 use Rattle.model.specs.Footprint.{has}
 use Rattle.model.specs.Record.{threadAt, readyCycle, awaits}
-use Rattle.plain_laws.proofs.RecordLaws.{stateAfter-not-Waiting, horizon→<, heard-time, heard-delta}
+use Rattle.plain_laws.proofs.RecordLaws.{stateAfter-not-waits, horizon→<, heard-time, heard-delta}
 use Rattle.plain_laws.proofs.RangeLaws.{Keeps}
 use Rattle.plain_laws.proofs.KeepLaws.{modelFault-keeps}
 use Rattle.plain.specs.Wake.{floorOf}
@@ -101,7 +101,7 @@ module _ (m : Model) (ws : List ℕ) (l : List Notification) where
       (record {
         segment = fit-segment fit k h;
         cycle = record { time = omega (arith, heard-time x, pair .time); delta = heard-delta x (pair .delta) };
-        event = λ e c w. absurd (stateAfter-not-Waiting (waitEnds wait.Event x) e c w);
+        event = λ e c w. absurd (stateAfter-not-waits (waitEnds wait.Event x) e c w);
       })
 
   pub lookedAt-fit : (ts : List Thread) (k : ℕ) → FitState m ws l ts → FitState m ws l (lookedAt m ws l ts k)

@@ -42,7 +42,7 @@ use Rattle.model_rules.proofs.RuleLaws.{modelFault-horizon, modelFault-counts, 
 use Rattle.plain.specs.Start.{Place, started, freshThreads, startOf}
 use Rattle.plain.specs.Wake.{isWoken, wokenState, wokenThread, woken, floorOf}
 use Rattle.plain.specs.Step.{isAt, isDue, ranOn, passedOn}
-use Rattle.plain_laws.proofs.RecordLaws.{Ready-same}
+use Rattle.plain_laws.proofs.RecordLaws.{ready-same}
 use Rattle.plain_laws.proofs.WakeLaws.{floorOf-least, floorOf-attained}
 
 -- a thread that is ready only after a cycle, at a delta in range
@@ -61,7 +61,7 @@ stateAfter-ahead w now h = go (waitEnds w now) refl
   where
     go : (z : Step) → waitEnds w now ≡ z → Ahead now (stateAfter z)
     go (step.Ready d) e c r =
-        let f : waitEnds w now ≡ step.Ready c = e ∙ ap step.Ready (Ready-same r) in
+        let f : waitEnds w now ≡ step.Ready c = e ∙ ap step.Ready (ready-same r) in
         (waitEnds-later w now f, waitEnds-delta w now f h)
     go (step.Overrun d) e c r = let z : _≡_ {A = ℕ} 0 1 = cc in absurd (omega arith)
 
@@ -140,7 +140,7 @@ module _ (m : Model) (fit : modelFault m ≡ 0) where
         delta = omega arith;
         segment = λ k h. rw (threadAt-fresh k h) (modelFault-first m fit k h);
         abreast = λ k h c e.
-            let r : cycleAt 0 0 ≡ c = Ready-same (sym (ap (λ (x : Thread). x .state) (threadAt-fresh k h)) ∙ e) in
+            let r : cycleAt 0 0 ≡ c = ready-same (sym (ap (λ (x : Thread). x .state) (threadAt-fresh k h)) ∙ e) in
             rw (← r) (⊑-refl, omega arith);
         ahead = λ k h. absurd (omega arith);
       }
