@@ -17,12 +17,11 @@ use Rattle.clock.specs.declared.Cycle.{Cycle}
 use Rattle.clock.specs.Cycle.{cycleAt}
 use Rattle.clock.specs.Wait.{lastDelta}
 use Rattle.model.specs.declared.Model.{Model}
-use Rattle.model.specs.declared.State.{State}
-use Rattle.model.specs.declared.State.the-variants.{Ended, Overrun, Ready, Waiting}
 use Rattle.model.specs.declared.Thread.{Thread}
 use Rattle.model.specs.Refusal.{accepted}
 use Rattle.model.specs.Limits.{cutTime, recordTime}
-use Rattle.model.specs.Record.{threadAt, cycleOf, awaitedBy}
+use Rattle.model.specs.Record as view
+use Rattle.model.specs.Record.{threadAt, cycleOf, awaitedBy, viewOf, View, awaitedOf}
 use Rattle.model.specs.Rules.{modelFault}
 use Rattle.tables.specs.Word.{allOnes}
 use Rattle.early.specs.declared.Notification.{Notification}
@@ -54,7 +53,7 @@ unfolding isFitCycle
 pub record FitThread (m : Model) (t : Thread) : Type 0 where
   pub segment : t .segment < m .n
   pub cycle : FitCycle recordTime (cycleOf (t .state))
-  pub event : (e : ℕ) (since : Cycle) → t .state ≡ Waiting e since → e < m .e
+  pub event : (e : ℕ) (since : Cycle) → viewOf (t .state) ≡ view.waits e since → e < m .e
 
 pub isFitThread→ : (m : Model) (k : ℕ) (t : Thread) → T (isFitThread m k t) → FitThread m t
 unfolding isFitThread isFitWait
@@ -64,7 +63,7 @@ isFitThread→ m k t u =
     record {
       segment = ltb→lt (t .segment) (m .n) p;
       cycle = isFitCycle→ recordTime (cycleOf (t .state)) r;
-      event = λ e since w. ltb→lt e (m .e) (subst (λ (x : State). T (isFitWait m (awaitedBy x))) w s);
+      event = λ e since w. ltb→lt e (m .e) (subst (λ (v : View). T (isFitWait m (awaitedOf v))) w s);
     }
 
 pub →isFitThread : (m : Model) (k : ℕ) (t : Thread) → FitThread m t → T (isFitThread m k t)
@@ -78,13 +77,12 @@ unfolding isFitThread isFitWait
     (isFitCycle recordTime (cycleOf (t .state)))
     (isFitWait m (awaitedBy (t .state)))
     (→isFitCycle recordTime (cycleOf (t .state)) (f .cycle))
-    (wait (t .state) (f .event)))
+    (wait (viewOf (t .state)) (f .event)))
   where
-    wait : (s : State) → ((e : ℕ) (since : Cycle) → s ≡ Waiting e since → e < m .e) → T (isFitWait m (awaitedBy s))
-    wait (Ended c) h = tt
-    wait (Overrun c) h = tt
-    wait (Ready c) h = tt
-    wait (Waiting e c) h = lt→ltb e (m .e) (h e c refl)
+    wait : (v : View) → ((e : ℕ) (since : Cycle) → v ≡ view.waits e since → e < m .e) → T (isFitWait m (awaitedOf v))
+    wait view.idle h = tt
+    wait (view.ready c) h = tt
+    wait (view.waits e c) h = lt→ltb e (m .e) (h e c refl)
 
 pub record FitPair (m : Model) (x : Notification) : Type 0 where
   pub event : x .event < m .e

@@ -9,7 +9,7 @@
 use Prim.Native.Nat.{ℕ, _<_, _≤_}
 use mathlib.Core.Path.{_≡_, refl, ap, sym, _∙_, subst}
 use mathlib.Core.Logic.{_⊎_, inl, inr}
-use mathlib.Core.Bool.{_||_}
+use mathlib.Core.Bool.{not, _||_}
 use mathlib.Core.List.{List, [], _∷_, _++_, map}
 use native.Mathlib.Omega.{arith}
 use lib.Dec.{T, eqb, ltb→lt, lt→ltb}
@@ -33,7 +33,7 @@ use Rattle.model.specs.declared.State.the-variants.{Ended, Overrun, Ready, Wait
 use Rattle.model.specs.declared.Thread.{Thread}
 use Rattle.model.specs.Limits.{endTime, isBeforeHorizon, isBoundBeforeHorizon}
 use Rattle.model.specs.Record as view
-use Rattle.model.specs.Record.{noThread, threadAt, cycleOf, stateAfter, View, viewOf, readyCycleOf}
+use Rattle.model.specs.Record.{awaits, noThread, threadAt, cycleOf, stateAfter, View, viewOf, readyCycleOf, isLiveView, awaitedOf}
 use Rattle.model.specs.Values.{segmentFor}
 use Rattle.model.specs.Effect.{closedAt, effectIn, effectOf}
 use Rattle.model.specs.Footprint.{has}
@@ -78,6 +78,16 @@ pub readyCycle→ready : (v : View) (c : Cycle) → readyCycleOf v ≡ At c → 
 readyCycle→ready view.idle c e = absurd (let z : _≡_ {A = ℕ} 0 1 = cc in omega arith)
 readyCycle→ready (view.ready d) c e = cc
 readyCycle→ready (view.waits f d) c e = absurd (let z : _≡_ {A = ℕ} 0 1 = cc in omega arith)
+
+pub awaits→waits : (v : View) (e : ℕ) (since : Cycle) → awaitedOf v ≡ awaits e since → v ≡ view.waits e since
+awaits→waits view.idle e since p = absurd (let z : _≡_ {A = ℕ} 0 1 = cc in omega arith)
+awaits→waits (view.ready d) e since p = absurd (let z : _≡_ {A = ℕ} 0 1 = cc in omega arith)
+awaits→waits (view.waits f d) e since p = cc
+
+pub not-live→idle : (v : View) → T (not (isLiveView v)) → v ≡ view.idle
+not-live→idle view.idle t = refl
+not-live→idle (view.ready c) t = absurd t
+not-live→idle (view.waits e c) t = absurd t
 
 -- a ready state, and a waiting one, are those that their view shows
 pub ready→state : (s : State) (c : Cycle) → viewOf s ≡ view.ready c → s ≡ Ready c
