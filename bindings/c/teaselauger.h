@@ -1,8 +1,16 @@
 /* Teaselauger for C: a model file's number, tables and sheet, and requests one at a time or as a list.
  *
- * Every call answers for every argument. Numbers of refusal are document 01's (docs/REFUSALS.md), 0 where there is none;
- * on a refusal every buffer holds what it held. A pointer is never null and points to as many elements as the count beside
- * it says; no two buffers overlap. Link target/staticlib/libexports.a (`rt staticlib exports`), x86-64.
+ * Every call answers for every argument. A number of refusal is 1 to 16 (docs/REFUSALS.md lists them, docs/RULES.md says exactly
+ * when each applies); 0 says that there is none. Of several that apply the first is answered, in the order given beside the call.
+ * On a refusal every buffer holds what it held.
+ *
+ * The caller keeps every buffer. A pointer is never null and points to as many elements as the count beside it says; no two
+ * buffers that a call is given overlap. Words past those that a call speaks of are neither read nor written.
+ *
+ * The library holds no state, uses no heap, and reads and writes nothing but the buffers: several threads may call it at once,
+ * each with its own buffers. A call needs at most 169 KB of stack (bench/stack.sh measures it).
+ *
+ * Link target/staticlib/libexports.a (`rt staticlib exports` makes it), x86-64.
  */
 #ifndef TEASELAUGER_H
 #define TEASELAUGER_H
@@ -14,35 +22,51 @@
 extern "C" {
 #endif
 
-/* Buffers: words of the distance table for the largest model, variables, log, records, a sheet. */
+/* Words of the distance table for the largest model. A model of N segments needs N x N; the word from segment r to s is at
+ * r * N + s: time * 1,024 + delta, or all ones for never. */
 #define TEASELAUGER_WORDS 4096
+/* Variables, whatever their number in the model; those past it are 0 in a fresh state and are not touched. */
 #define TEASELAUGER_VARIABLES 64
-#define TEASELAUGER_LOG 385      /* the count, then 128 places: event, time, delta */
-#define TEASELAUGER_RECORDS 160  /* 32 threads: segment, state, event, time, delta */
+/* The log: the count, then 128 places of three words: event, time, delta. Places past the count are 0 after a grant. */
+#define TEASELAUGER_LOG 385
+/* Records of 32 threads, five words each: segment, state, event (0 unless waiting), time, delta. Those past the model's threads
+ * are 0 in a fresh state: ended, in segment 0, at (0, 0). */
+#define TEASELAUGER_RECORDS 160
+/* Bytes that are enough for every sheet. */
 #define TEASELAUGER_SHEET 8192
 
-/* States of a thread record. */
+/* States of a thread record. The segment of a record is the next to run; of an ended thread, the last that ran. The cycle is that
+ * at which it is ready, ended or overrun, or in which its wait began. */
 enum { TEASELAUGER_ENDED, TEASELAUGER_OVERRUN, TEASELAUGER_READY, TEASELAUGER_WAITING };
 
 /* The reader's number of a model file: 0, or 1 to 9. */
 uint8_t teaselauger_read(const uint8_t *file, size_t file_count);
 
-/* The distance table of a model file in words, N x N of them: 0, 1 to 9, or 16. */
+/* The distance table of a model file, in the first N x N words: 0; or the reader's number, then 16 for fewer than N x N words. */
 uint8_t teaselauger_load(const uint8_t *file, size_t file_count, uint64_t *words, size_t words_count);
 
-/* The sheet of the plain run with a budget, or the line of the refusal: how many bytes; 0 if out is too short. */
+/* The sheet of the plain run with a budget, or the line `refused NUMBER`, as the program plainrun prints it: how many bytes of out
+ * it takes. If out is too short it is not written, and the answer is 0. */
 size_t teaselauger_sheet(const uint8_t *file, size_t file_count, uint64_t budget, uint8_t *out, size_t out_count);
 
-/* The fresh state: 0, 1 to 9, or 11 for a buffer that is too short. */
+/* The fresh state of a model file, in 64 variables, 385 words of log and 160 words of records: 0; or the reader's number, then 11
+ * for a buffer that is too short. */
 uint8_t teaselauger_fresh(const uint8_t *file, size_t file_count, uint32_t *variables, size_t variables_count, uint64_t *log, size_t log_count,
                           uint64_t *records, size_t records_count);
 
-/* One request by a thread: 0 where it is granted, with segment, time and delta in answer (3 words) and the state after it; else 1 to 9 or 10 to 15. */
+/* One request by a thread, on the state in variables, log and records, with the file's own conflict marks and the words that
+ * teaselauger_load made of the same file. 0 where it is granted: answer has segment, time and delta (3 words), and the buffers the
+ * state after it. Else, in this order: the reader's number; 11 for a buffer that is too short, or for a number that no state has (a
+ * state above 3, an event beside a state that does not wait, a segment, event or count above 255, a delta above 4,294,967,295, in
+ * any place of the log and in any record); then the request's own 11, 10, 12, 13, 14, 15. */
 uint8_t teaselauger_request(const uint8_t *file, size_t file_count, const uint64_t *words, size_t words_count, uint32_t *variables,
                             size_t variables_count, uint64_t *log, size_t log_count, uint64_t *records, size_t records_count, uint8_t thread,
                             uint64_t *answer, size_t answer_count);
 
-/* A list of requests from the fresh state, with 4 words of answers for each (number, segment, time, delta) and the state after it: 0, 1 to 9, 11 or 16. */
+/* A list of requests from the fresh state on. 0 where the list was made: answers has 4 words for each request (its number, 0 where it
+ * was granted, then segment, time and delta, 0 where it was refused), words the distance table, and the other buffers the state after
+ * the list. Else, in this order: 11 for a buffer of the state that is too short, or for fewer than 4 words of answers for each
+ * request; the reader's number; 16 for fewer than N x N words. */
 uint8_t teaselauger_replay(const uint8_t *file, size_t file_count, uint64_t *words, size_t words_count, const uint8_t *threads, size_t threads_count,
                            uint64_t *answers, size_t answers_count, uint32_t *variables, size_t variables_count, uint64_t *log, size_t log_count,
                            uint64_t *records, size_t records_count);

@@ -1,4 +1,5 @@
-//! Safe wrappers of the Teaselauger scheduler library. Numbers of refusal are document 01's (`docs/REFUSALS.md`).
+//! Safe wrappers of the Teaselauger scheduler library. `docs/REFUSALS.md` has the numbers of refusal, `docs/RULES.md` every rule.
+//! The library holds no state: any thread may call it, on a stack of 256 KB or more.
 
 mod c {
     extern "C" {
