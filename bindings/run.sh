@@ -2,7 +2,7 @@
 # Builds the library and both examples, and runs them on model M.
 set -e
 cd "$(dirname "$0")/.."
-rt staticlib exports >/dev/null
+bindings/library.sh
 mkdir -p target/examples
 cc -O2 -Wall -Wextra -I bindings/c -o target/examples/example bindings/c/example.c -L target/staticlib -lexports
 target/examples/example models/m.model
