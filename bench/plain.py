@@ -1,27 +1,64 @@
 #!/usr/bin/env python3
-"""Segments per second on the peer's seven models: the proved plain run beside SystemC and the native yardstick, interleaved in one run.
+"""Segments per second on the seven models of bench/peer: the proved plain run beside the native yardstick and SystemC, in turns in one run.
 
-  plain.py PEER ENGINE [ROUNDS]     PEER: the peer's folder, its build in $B; ENGINE: the program of plain.rs
+  plain.py ENGINE [ROUNDS]     ENGINE: the program of plain.rs; target/peer has the others (bench/peer/build.sh)
+
+Without target/peer/systemc its columns are left out.
 """
-import statistics, struct, sys
+import os
+import pathlib
+import statistics
+import struct
+import subprocess
+import sys
 
-sys.path.insert(0, sys.argv[1])
-import peer
+PEER = pathlib.Path(__file__).resolve().parent / "peer"
+BUILT = PEER.parents[1] / "target/peer"
+BUDGET = 1000000
+sys.path.insert(0, str(PEER))
+from models import MODELS
 
-rounds = int(sys.argv[3]) if sys.argv[3:] else 9
-who = [("proved", [sys.argv[2]], []), ("native", peer.NATIVE, ["-r", "1"]), ("method", peer.SC, ["-m", "-t"]), ("thread", peer.SC, ["-t"])]
-print("| model | " + " | ".join(w[0] for w in who) + " | proved / native | proved / method | proved / thread |")
-print("|---" * (len(who) + 4) + "|")
-for name, f in peer.bench_models().items():
-    cut = f[:4] + struct.pack("<I", 300) + f[8:]  # done within the budget: all engines agree
-    assert len({peer.go(cmd, cut, *opt)[0] for _, cmd, opt in who}) == 1, name
-    ns = {}
+os.environ["SYSTEMC_DISABLE_COPYRIGHT_MESSAGE"] = "1"
+
+
+def run(command, file):
+    """The sheet, the nanoseconds and n."""
+    ran = subprocess.run(command, input=file, capture_output=True, check=True)
+    _, ns, n = ran.stderr.split()
+    return ran.stdout, int(ns), int(n)
+
+
+def engines(proved):
+    yield "proved", [proved]
+    yield "native", [BUILT / "native", "-r", "1"]
+    if (BUILT / "systemc").exists():
+        yield "method", [BUILT / "systemc", "-m", "-t"]
+        yield "thread", [BUILT / "systemc", "-t"]
+
+
+def speeds(name, file, all_engines, rounds):
+    """Million segments a second, the median of the rounds. On a horizon that is within the budget all sheets must be equal."""
+    short = file[:4] + struct.pack("<I", 300) + file[8:]
+    assert len({run(command, short)[0] for command in all_engines.values()}) == 1, name
+    times = {engine: [] for engine in all_engines}
     for _ in range(rounds):
-        for w, cmd, opt in who:
-            out, err = peer.go(cmd, f, *opt)
-            t, n = map(int, err.split()[1:3])
-            assert n == 10**6 and out.endswith("spent\n"), (name, w, out)
-            ns.setdefault(w, []).append(t)
-    x = {w: 1e9 / statistics.median(ns[w]) for w in ns}
-    row = ["%.1f" % x[w[0]] for w in who] + ["%.2f" % (x["proved"] / x[w]) for w in ("native", "method", "thread")]
-    print("| %s | %s |" % (name, " | ".join(row)), flush=True)
+        for engine, command in all_engines.items():
+            sheet, ns, n = run(command, file)
+            assert n == BUDGET and sheet.endswith(b"spent\n"), (name, engine)
+            times[engine].append(ns)
+    return {engine: 1e3 * BUDGET / statistics.median(ns) for engine, ns in times.items()}
+
+
+def main(proved, rounds=9):
+    all_engines = dict(engines(proved))
+    others = [x for x in all_engines if x != "proved"]
+    print("| model | " + " | ".join([*all_engines, *("proved / " + x for x in others)]) + " |")
+    print("|---" * (1 + len(all_engines) + len(others)) + "|")
+    for name, file in MODELS.items():
+        x = speeds(name, file, all_engines, rounds)
+        row = ["%.1f" % v for v in x.values()] + ["%.2f" % (x["proved"] / x[o]) for o in others]
+        print("| %s | %s |" % (name, " | ".join(row)), flush=True)
+
+
+if __name__ == "__main__":
+    main(sys.argv[1], *map(int, sys.argv[2:3]))

@@ -1,4 +1,4 @@
-// The proved plain run as one more engine of the peer's benchmark: a model file on standard input, its sheet on standard output, the time and n on standard error.
+// The proved plain run as an engine of plain.py: a model file on standard input, its sheet on standard output, the time and n on standard error.
 use std::io::{Read, Write};
 use std::time::Instant;
 

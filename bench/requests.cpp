@@ -1,7 +1,7 @@
-// Requests by plain loops, to measure the proved ones against. Document 01, "Early issue"; tables and state are made as the proved library makes them, fresh for each list.
+// Requests by plain loops, to measure the proved ones against. docs/RULES.md, section 6; tables and state are made as the proved library makes them, fresh for each list.
 #include "model.h"
 #include <algorithm>
-#include <vector>
+#include <cstring>
 
 typedef uint64_t B;  // a bound: time x 65,536 + delta, or NEVER
 static const B NEVER = ~0ull;
@@ -24,10 +24,10 @@ struct Kit {
   int count;
 
   void tables() {
-    int n = m.N;
+    int n = m.n;
     static uint64_t w[64 * 64];
     for (int i = 0; i < n; i++) {
-      const Seg &g = m.seg[i];
+      const Segment &g = m.segment[i];
       uint64_t step = g.kind == 0 ? FAR : g.kind == 2 || g.delay == 0 ? 1 : (uint64_t)g.delay << 10;
       for (int j = 0; j < n; j++) w[i * n + j] = i == j ? 0 : g.kind && (g.a == j || g.b == j) ? step : FAR;
     }
@@ -44,13 +44,13 @@ struct Kit {
       for (int j = 0; j < n; j++) dist[i][j] = w[i * n + j] >= FAR ? NEVER : at(w[i * n + j] >> 10, w[i * n + j] & 1023);
     uint64_t uses[64], writes[64];
     for (int i = 0; i < n; i++) {
-      const Seg &g = m.seg[i];
+      const Segment &g = m.segment[i];
       uses[i] = g.kind && g.test != 255 ? 1ull << g.test : 0;
       writes[i] = 0;
       tells[i] = 0;
       for (int j = 0; j < g.n; j++) {
-        const Stmt &s = g.st[j];
-        if (s.op == 6) { tells[i] |= 1u << s.a; continue; }
+        const Statement &s = g.body[j];
+        if (s.op == NOTIFY) { tells[i] |= 1u << s.a; continue; }
         writes[i] |= 1ull << s.a;
         if (s.op >= 3) uses[i] |= 1ull << s.b;
       }
@@ -63,10 +63,10 @@ struct Kit {
   void fresh() {
     memset(v, 0, sizeof v);
     count = 0;
-    for (int k = 0; k < m.T; k++) r[k] = {m.first[k], READY, 0, 0, 0};
+    for (int k = 0; k < m.t; k++) r[k] = {m.first[k], READY, 0, 0, 0};
   }
 
-  bool live(int k) { return r[k].st == READY || r[k].st == WAIT; }
+  bool live(int k) { return r[k].st == READY || r[k].st == WAITING; }
 
   const Pair *heard(int k) {
     const Pair *best = 0;
@@ -77,24 +77,24 @@ struct Kit {
 
   B forecast(const B *x, int e) {
     B b = NEVER;
-    for (int j = 0; j < m.T; j++)
+    for (int j = 0; j < m.t; j++)
       if (live(j))
-        for (int s = 0; s < m.N; s++)
+        for (int s = 0; s < m.n; s++)
           if (tells[s] >> e & 1) b = std::min(b, plus(x[j], dist[r[j].seg][s]));
     return b;
   }
 
   void earliest(B *x) {
-    for (int k = 0; k < m.T; k++) {
+    for (int k = 0; k < m.t; k++) {
       x[k] = NEVER;
       if (r[k].st == READY) x[k] = at(r[k].t, r[k].d);
-      if (r[k].st == WAIT)
+      if (r[k].st == WAITING)
         if (const Pair *p = heard(k)) x[k] = at(p->t, p->d) + 1;
     }
     for (bool changed = true; changed;) {
       changed = false;
-      for (int k = 0; k < m.T; k++)
-        if (r[k].st == WAIT) {
+      for (int k = 0; k < m.t; k++)
+        if (r[k].st == WAITING) {
           B b = plus(forecast(x, r[k].ev), 1);
           if (b < x[k]) x[k] = b, changed = true;
         }
@@ -103,7 +103,7 @@ struct Kit {
 
   B floor() {
     B f = NEVER;
-    for (int k = 0; k < m.T; k++)
+    for (int k = 0; k < m.t; k++)
       if (r[k].st == READY) f = std::min(f, at(r[k].t, r[k].d));
     return f;
   }
@@ -111,9 +111,9 @@ struct Kit {
   bool hazard(int i) {
     B x[32], c = at(r[i].t, r[i].d);
     earliest(x);
-    for (int j = 0; j < m.T; j++)
+    for (int j = 0; j < m.t; j++)
       if (j != i && live(j))
-        for (int s = 0; s < m.N; s++)
+        for (int s = 0; s < m.n; s++)
           if (mark[r[i].seg][s]) {
             B b = plus(x[j], dist[r[j].seg][s]);
             if (b < c || (b == c && j < i)) return true;
@@ -129,44 +129,35 @@ struct Kit {
   }
 
   int request(unsigned k, uint64_t *a) {
-    if (k >= (unsigned)m.T) return 10;
+    if (k >= (unsigned)m.t) return 10;
     if (r[k].st != READY) return 12;
-    if (r[k].t >= m.H) return 13;
+    if (r[k].t >= m.horizon) return 13;
     if (hazard(k)) return 14;
-    const Seg &g = m.seg[r[k].seg];
+    const Segment &g = m.segment[r[k].seg];
     uint64_t t = r[k].t;
     uint32_t d = r[k].d;
     int full = count;
     for (int i = 0; i < g.n; i++)
-      if (g.st[i].op == 6) {
+      if (g.body[i].op == NOTIFY) {
         bool held = false;
-        for (int j = 0; j < full; j++) held |= log[j].e == g.st[i].a && log[j].t == t && log[j].d == d;
-        if (!held) log[full++] = {g.st[i].a, t, d};
+        for (int j = 0; j < full; j++) held |= log[j].e == g.body[i].a && log[j].t == t && log[j].d == d;
+        if (!held) log[full++] = {g.body[i].a, t, d};
       }
     if (full > 128 || (floor() < at(t, d) && full > 96)) return 15;
     count = full;
     a[1] = r[k].seg, a[2] = t, a[3] = d;
-    for (int i = 0; i < g.n; i++) {
-      const Stmt &s = g.st[i];
-      switch (s.op) {
-        case 1: v[s.a] = s.b; break;
-        case 2: v[s.a] += s.b; break;
-        case 3: v[s.a] = v[s.b]; break;
-        case 4: v[s.a] += v[s.b]; break;
-        case 5: v[s.a] -= v[s.b]; break;
-      }
-    }
+    execute(g, v, [](uint8_t) {});
     if (g.kind == 0) r[k].st = ENDED;
     else {
-      r[k].seg = g.test == 255 || v[g.test] < g.limit ? g.a : g.b;
-      if (g.kind == 2) r[k].st = WAIT, r[k].ev = g.ev;
+      r[k].seg = next_segment(g, v);
+      if (g.kind == 2) r[k].st = WAITING, r[k].ev = g.event;
       else if (g.delay) r[k].t += g.delay, r[k].d = 0;
       else wake(k, t, d);
     }
     for (bool heard_any = true; heard_any;) {
       heard_any = false;
-      for (int j = 0; j < m.T; j++)
-        if (r[j].st == WAIT)
+      for (int j = 0; j < m.t; j++)
+        if (r[j].st == WAITING)
           if (const Pair *p = heard(j)) {
             B x[32];
             earliest(x);

@@ -3,7 +3,7 @@
 set -e
 cd "$(dirname "$0")/.."
 rt check plainrun replayrun >/dev/null
-rt staticlib exports >/dev/null
+bindings/library.sh
 mkdir -p target/bench
 cc -O2 -Wall -Wextra -I bindings/c -o target/bench/stack bench/stack.c -L target/staticlib -lexports -lpthread
 target/bench/stack models/*.model

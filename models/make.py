@@ -1,5 +1,5 @@
 #!/usr/bin/env python3
-"""Writes the model files beside this script, in the format of document 01, "Model file". README.md says what each models."""
+"""Writes the model files beside this script, in the format of docs/MODEL-FILE.md. README.md says what each models."""
 import os
 import struct
 
@@ -64,7 +64,13 @@ FILES = {
     "refused7": model(10, 0, 0, [end((SET, 0, 1))], [0]),
 }
 
-here = os.path.dirname(os.path.abspath(__file__))
-for name, text in FILES.items():
-    with open(os.path.join(here, name + ".model"), "wb") as file:
-        file.write(text)
+
+def main():
+    here = os.path.dirname(os.path.abspath(__file__))
+    for name, text in FILES.items():
+        with open(os.path.join(here, name + ".model"), "wb") as file:
+            file.write(text)
+
+
+if __name__ == "__main__":
+    main()

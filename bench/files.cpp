@@ -1,4 +1,4 @@
-// What the proved library is measured against, by plain loops: the peer's reader, and the tables of a model.
+// What the proved library is measured against, by plain loops: the reader of bench/peer, and the tables of a model.
 #include "model.h"
 #include <algorithm>
 
@@ -12,9 +12,9 @@ static uint64_t plus(uint64_t a, uint64_t d) {
 }
 
 static void distances(uint64_t *w) {
-  int n = m.N;
+  int n = m.n;
   for (int r = 0; r < n; r++) {
-    const Seg &g = m.seg[r];
+    const Segment &g = m.segment[r];
     uint64_t step = g.kind == 0 ? FAR : g.kind == 2 || g.delay == 0 ? 1 : (uint64_t)g.delay << 10;
     for (int s = 0; s < n; s++) w[r * n + s] = r == s ? 0 : g.kind && (g.a == s || g.b == s) ? step : FAR;
   }
@@ -33,7 +33,7 @@ extern "C" uint8_t native_read(const uint8_t *p, size_t len) { return read_model
 extern "C" uint8_t native_load(const uint8_t *p, size_t len, uint64_t *w, size_t words) {
   int number = read_model(p, len, m);
   if (number) return number;
-  if (words < (size_t)(m.N * m.N)) return 16;
+  if (words < (size_t)(m.n * m.n)) return 16;
   distances(w);
   return 0;
 }
