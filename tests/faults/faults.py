@@ -1,0 +1,112 @@
+#!/usr/bin/env python3
+"""Plants each fault of docs/TESTING.md in a copy of the crates, and shows that the tests named beside it catch it.
+
+    faults.py [WORD]      only the faults whose name has WORD
+
+Nothing is proved: the tests are run by `rt try`. `versus` runs on its first 60 generated models alone, `test_files` on all its files and runs. First both run
+without a fault. A fault is caught by `versus` if it writes a line `difference:`, by `test_files` if it writes anything else than its file `stdout`.
+A text that is not in its file exactly once is gone: the table below is then to be brought up to date. The exit status is 0 if every fault was
+planted and caught by each test named beside it.
+"""
+import pathlib
+import re
+import shutil
+import subprocess
+import sys
+import tempfile
+
+ROOT = pathlib.Path(__file__).resolve().parents[2]
+MODELS = ("versus/src/main.rt", "const MODELS: u64 = 2400;", "const MODELS: u64 = 60;")
+SEED = 24000
+PLAIN, BOTH = ["versus"], ["versus", "test_files"]
+
+# tests, name, file under crates/, old text, new text
+FAULTS = [
+    (PLAIN, "the horizon counted in", "plain_core/src/lib.rt", "if limit <= due.key {", "if limit < due.key {"),
+    (PLAIN, "a wait begun in the notifying cycle is not woken", "plain_core/src/lib.rt", "if key < x % 17592186044416 {", "if key <= x % 17592186044416 {"),
+    (PLAIN, "overrun at 1,024", "plain_core/src/lib.rt", "if key % 1024 < 1023 {", "if key % 1024 < 1024 {"),
+    (PLAIN, "one segment over the budget", "plain_core/src/lib.rt", "if budget <= n {", "if budget < n {"),
+    (PLAIN, "the limit counted in", "plain_words/src/lib.rt", "if x < next / 16777216 {", "if x <= next / 16777216 {"),
+    (BOTH, "a hazard of the segments that threads are in now alone", "early_ahead/src/lib.rt", "        if row[s] {", "        if row[s] && s == q {"),
+    (BOTH, "the first notification logged, not the least", "early_log/src/lib.rt", "best = clock::least_of(Bound::At(c), best);", "best = Bound::At(c);"),
+    (BOTH, "a notification in the cycle of the wait is lost", "early_log/src/lib.rt", "return !clock::is_before(c, since);", "return clock::is_before(since, c);"),
+    (BOTH, "a forecast equal to the logged cycle", "early_deliver/src/lib.rt", "xs, t, e) < early_ahead::limit_of(c) {", "xs, t, e) <= early_ahead::limit_of(c) {"),
+    (BOTH, "96 counted in", "early_request/src/lib.rt", "return 96 < count;", "return 96 <= count;"),
+    (BOTH, "notifications at the floor dropped", "early_log/src/lib.rt", "    clock::is_before(c, f)\n", "    !clock::is_before(f, c)\n"),
+    (BOTH, "equal cycles are no hazard", "early_ahead/src/lib.rt", "        return j < i;\n", "        return false;\n"),
+]
+
+
+class Gone(Exception):
+    pass
+
+
+def planted(copy, file, old, new):
+    """The file with the new text; what it held."""
+    path = copy / "crates" / file
+    text = path.read_text() if path.is_file() else ""
+    if text.count(old) != 1:
+        raise Gone(f"GONE: {old.strip()!r} is {text.count(old)} times in crates/{file}")
+    path.write_text(text.replace(old, new))
+    return path, text
+
+
+def tried(copy, test):
+    return subprocess.run(["rt", "try", test], cwd=copy, capture_output=True, text=True, errors="replace")
+
+
+def by_versus(copy):
+    """The first difference that versus writes, or None."""
+    ran = tried(copy, "versus")
+    if "on standard output" not in ran.stdout + ran.stderr:
+        return "NOT RUN: " + (ran.stdout + ran.stderr)[:300]
+    found = re.search(r"difference: (\d+)[ 0-9]*", ran.stdout + ran.stderr)
+    return found and f"model {int(found.group(1)) - SEED + 1} ({found.group()})"
+
+
+def by_test_files(copy):
+    """The run or file at which test_files writes something else, or None."""
+    ran = tried(copy, "test_files")
+    if ran.returncode == 0:
+        return None
+    at = re.search(r"on standard output, at byte (\d+)", ran.stdout + ran.stderr)
+    if not at:
+        return "NOT RUN: " + (ran.stdout + ran.stderr)[:300]
+    before = (copy / "crates/test_files/stdout").read_bytes()[:int(at.group(1))].decode()
+    return next((line for line in reversed(before.splitlines()) if line[:1].isupper()), "its first file")
+
+
+TESTS = {"versus": by_versus, "test_files": by_test_files}
+
+
+def hold(copy, tests, name, change):
+    """Whether the fault was planted and each test caught it."""
+    try:
+        path, text = planted(copy, *change)
+    except Gone as gone:
+        print(f"{name}: {gone}", flush=True)
+        return False
+    caught = {test: TESTS[test](copy) for test in tests}
+    path.write_text(text)
+    for test, how in caught.items():
+        print(f"{name}: " + (f"{test}: {how}" if how else f"NOT CAUGHT by {test}"), flush=True)
+    return all(how and not how.startswith("NOT RUN") for how in caught.values())
+
+
+def main(word):
+    with tempfile.TemporaryDirectory() as folder:
+        copy = pathlib.Path(folder)
+        shutil.copytree(ROOT / "crates", copy / "crates")
+        shutil.copy(ROOT / "crates.txt", copy)
+        planted(copy, *MODELS)
+        (copy / "crates/versus/stdin").write_bytes(b"")
+        for test, how in TESTS.items():
+            if how(copy):
+                sys.exit(f"without a fault: {test}: {how(copy)}")
+        held = [hold(copy, tests, name, change) for tests, name, *change in FAULTS if word in name]
+    print(f"{sum(held)} of {len(held)} faults caught")
+    return not held or not all(held)
+
+
+if __name__ == "__main__":
+    sys.exit(main(sys.argv[1] if sys.argv[1:] else ""))
