@@ -3,8 +3,8 @@
 
     faults.py [WORD]      only the faults whose name has WORD
 
-Nothing is proved: the tests are run by `rt try`. `versus` runs on its first 60 generated models alone, `test_files` on all its files and runs. First both run
-without a fault. A fault is caught by `versus` if it writes a line `difference:`, by `test_files` if it writes anything else than its file `stdout`.
+Nothing is proved: the tests are run by `rt try`. `runs` and `lists` are the two parts of `versus`, on its first 60 generated models; `test_files` has
+all its files and runs. First all three run without a fault. A fault is caught by a part of `versus` if it writes a line `difference:`, by `test_files` if it writes anything else than its file `stdout`.
 A text that is not in its file exactly once is gone: the table below is then to be brought up to date. The exit status is 0 if every fault was
 planted and caught by each test named beside it.
 """
@@ -16,24 +16,28 @@ import sys
 import tempfile
 
 ROOT = pathlib.Path(__file__).resolve().parents[2]
-MODELS = ("versus/src/main.rt", "const MODELS: u64 = 2400;", "const MODELS: u64 = 60;")
+MAIN = "versus/src/main.rt"
+MODELS = (MAIN, "const MODELS: u64 = 2400;", "const MODELS: u64 = 60;")
+PARTS = "    all_stored();\n    all_drawn();\n    all_orders();\n"
+RUNS_FIRST = (MAIN, PARTS, "    all_drawn();\n    all_orders();\n    all_stored();\n")
+LISTS_FIRST = (MAIN, PARTS, "    all_orders();\n    all_drawn();\n    all_stored();\n")
 SEED = 24000
-PLAIN, BOTH = ["versus"], ["versus", "test_files"]
+PLAIN, EARLY = ["runs"], ["lists", "test_files"]
 
 # tests, name, file under crates/, old text, new text
 FAULTS = [
     (PLAIN, "the horizon counted in", "plain_core/src/lib.rt", "if limit <= due.key {", "if limit < due.key {"),
-    (PLAIN, "a wait begun in the notifying cycle is not woken", "plain_core/src/lib.rt", "if key < x % 17592186044416 {", "if key <= x % 17592186044416 {"),
+    (PLAIN, "a wait begun in the notifying cycle is not woken", "plain_core/src/lib.rt", "if key < x % 175", "if key <= x % 175"),
     (PLAIN, "overrun at 1,024", "plain_core/src/lib.rt", "if key % 1024 < 1023 {", "if key % 1024 < 1024 {"),
     (PLAIN, "one segment over the budget", "plain_core/src/lib.rt", "if budget <= n {", "if budget < n {"),
     (PLAIN, "the limit counted in", "plain_words/src/lib.rt", "if x < next / 16777216 {", "if x <= next / 16777216 {"),
-    (BOTH, "a hazard of the segments that threads are in now alone", "early_ahead/src/lib.rt", "        if row[s] {", "        if row[s] && s == q {"),
-    (BOTH, "the first notification logged, not the least", "early_log/src/lib.rt", "best = clock::least_of(Bound::At(c), best);", "best = Bound::At(c);"),
-    (BOTH, "a notification in the cycle of the wait is lost", "early_log/src/lib.rt", "return !clock::is_before(c, since);", "return clock::is_before(since, c);"),
-    (BOTH, "a forecast equal to the logged cycle", "early_deliver/src/lib.rt", "xs, t, e) < early_ahead::limit_of(c) {", "xs, t, e) <= early_ahead::limit_of(c) {"),
-    (BOTH, "96 counted in", "early_request/src/lib.rt", "return 96 < count;", "return 96 <= count;"),
-    (BOTH, "notifications at the floor dropped", "early_log/src/lib.rt", "    clock::is_before(c, f)\n", "    !clock::is_before(f, c)\n"),
-    (BOTH, "equal cycles are no hazard", "early_ahead/src/lib.rt", "        return j < i;\n", "        return false;\n"),
+    (EARLY, "a hazard of the segments that threads are in now alone", "early_ahead/src/lib.rt", "        if row[s] {", "        if row[s] && s == q {"),
+    (EARLY, "the first notification logged, not the least", "early_log/src/lib.rt", "best = clock::least_of(Bound::At(c), best);", "best = Bound::At(c);"),
+    (EARLY, "a notification in the cycle of the wait is lost", "early_log/src/lib.rt", "return !clock::is_before(c, since);", "return clock::is_before(since, c);"),
+    (EARLY, "a forecast equal to the logged cycle", "early_deliver/src/lib.rt", "xs, t, e) < early_ahead::limit_of(c) {", "xs, t, e) <= early_ahead::limit_of(c) {"),
+    (EARLY, "96 counted in", "early_request/src/lib.rt", "return 96 < count;", "return 96 <= count;"),
+    (EARLY, "notifications at the floor dropped", "early_log/src/lib.rt", "    clock::is_before(c, f)\n", "    !clock::is_before(f, c)\n"),
+    (EARLY, "equal cycles are no hazard", "early_ahead/src/lib.rt", "        return j < i;\n", "        return false;\n"),
 ]
 
 
@@ -55,12 +59,15 @@ def tried(copy, test):
     return subprocess.run(["rt", "try", test], cwd=copy, capture_output=True, text=True, errors="replace")
 
 
-def by_versus(copy):
-    """The first difference that versus writes, or None."""
+def by_versus(copy, part_first):
+    """The first difference that this part of versus writes, or None. `rt try` shows the beginning of what a program has written wrongly: that is all of it here."""
+    path, text = planted(copy, *part_first)
     ran = tried(copy, "versus")
-    if "on standard output" not in ran.stdout + ran.stderr:
-        return "NOT RUN: " + (ran.stdout + ran.stderr)[:300]
-    found = re.search(r"difference: (\d+)[ 0-9]*", ran.stdout + ran.stderr)
+    path.write_text(text)
+    said = ran.stdout + ran.stderr
+    if 'found "' not in said:
+        return "NOT RUN: " + said[:300]
+    found = re.search(r"difference: (\d+)[ 0-9]*", said)
     return found and f"model {int(found.group(1)) - SEED + 1} ({found.group()})"
 
 
@@ -76,7 +83,7 @@ def by_test_files(copy):
     return next((line for line in reversed(before.splitlines()) if line[:1].isupper()), "its first file")
 
 
-TESTS = {"versus": by_versus, "test_files": by_test_files}
+TESTS = {"runs": lambda copy: by_versus(copy, RUNS_FIRST), "lists": lambda copy: by_versus(copy, LISTS_FIRST), "test_files": by_test_files}
 
 
 def hold(copy, tests, name, change):
@@ -99,14 +106,19 @@ def main(word):
         shutil.copytree(ROOT / "crates", copy / "crates")
         shutil.copy(ROOT / "crates.txt", copy)
         planted(copy, *MODELS)
-        (copy / "crates/versus/stdin").write_bytes(b"")
+        for name in ["stdin", "stdout"]:
+            (copy / "crates/versus" / name).write_bytes(b"")
         for test, how in TESTS.items():
-            if how(copy):
-                sys.exit(f"without a fault: {test}: {how(copy)}")
+            wrong = how(copy)
+            if wrong:
+                sys.exit(f"without a fault: {test}: {wrong}")
         held = [hold(copy, tests, name, change) for tests, name, *change in FAULTS if word in name]
     print(f"{sum(held)} of {len(held)} faults caught")
     return not held or not all(held)
 
 
 if __name__ == "__main__":
-    sys.exit(main(sys.argv[1] if sys.argv[1:] else ""))
+    try:
+        sys.exit(main(sys.argv[1] if sys.argv[1:] else ""))
+    except Gone as gone:
+        sys.exit(str(gone))

@@ -1,4 +1,4 @@
-"""The generator of crates/versus (src/draw.rt) once more: the model file of a seed, in document 01's bytes.
+"""The generator of crates/versus (src/draw.rt) once more: the model file of a seed (docs/MODEL-FILE.md).
 
 The table is read from draw.rt; all else is written anew."""
 import os
