@@ -4,7 +4,8 @@
     faults.py [WORD]      only the faults whose name has WORD
 
 Nothing is proved: the tests are run by `rt try`. `runs` and `lists` are the two parts of `versus`, on its first 60 generated models; `test_files` has
-all its files and runs. First all three run without a fault. A fault is caught by a part of `versus` if it writes a line `difference:`, by `test_files` if it writes anything else than its file `stdout`.
+all its files and runs. First all three run without a fault. A fault is caught by a part of `versus` if it
+writes a line `difference:`, by `test_files` if it writes anything else than its file `stdout`.
 A text that is not in its file exactly once is gone: the table below is then to be brought up to date. The exit status is 0 if every fault was
 planted and caught by each test named beside it.
 """
@@ -60,7 +61,7 @@ def tried(copy, test):
 
 
 def by_versus(copy, part_first):
-    """The first difference that this part of versus writes, or None. `rt try` shows the beginning of what a program has written wrongly: that is all of it here."""
+    """The first difference that this part of versus writes, or None. Its `stdout` is empty here, so that `rt try` shows what it writes first."""
     path, text = planted(copy, *part_first)
     ran = tried(copy, "versus")
     path.write_text(text)
