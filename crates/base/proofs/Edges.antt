@@ -1,6 +1,6 @@
 -- Searches over an index at, below and above their ends: closed examples.
 -- Assumes nothing.
-use Prim.Native.Nat.{ℕ}
+use Prim.Native.Nat.{ℕ, _-_}
 use mathlib.Core.Path.{_≡_, refl}
 use mathlib.Core.Bool.{true, false}
 use mathlib.Core.List.{[], _∷_}
@@ -22,9 +22,11 @@ pub firstBelow-edges :
     (firstBelow 3 (λ i. i) ≡ 1) ×
     (firstBelow 1 (λ i. i) ≡ 0) ×
     (orElse 0 7 ≡ 7) ×
-    (orElse 5 7 ≡ 5)
+    (orElse 5 7 ≡ 5) ×
+    (orElse 7 5 ≡ 7) ×
+    (firstBelow 3 (λ i. 3 - i) ≡ 3)
 unfolding computed
-firstBelow-edges = (refl, refl, refl, refl)
+firstBelow-edges = (refl, refl, refl, refl, refl, refl)
 
 -- from i on, n of them
 pub tabulate-edges :

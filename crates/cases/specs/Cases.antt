@@ -1,6 +1,6 @@
 -- Document 01, "Cases": those marked P, in one table.
 use Prim.Native.Nat.{ℕ, _+_, _*_}
-use mathlib.Core.Bool.{Bool, true, false, not, _&&_}
+use mathlib.Core.Bool.{Bool, true, false, cond, not, _&&_}
 use mathlib.Core.List.{List, [], _∷_}
 use lib.Dec.{eqb}
 use lib.ListN.{getD, length}
@@ -8,6 +8,7 @@ use Rattle.clock.specs.declared.Cycle.{Cycle}
 use Rattle.clock.specs.declared.Bound.{Bound}
 use Rattle.clock.specs.declared.Bound.the-variants.{Never, At}
 use Rattle.clock.specs.Cycle.{cycleAt, isSame}
+use Rattle.clock.specs.Advance.{_⊕_}
 use Rattle.model.specs.declared.Model.{Model}
 use Rattle.model.specs.declared.State.{State}
 use Rattle.model.specs.declared.State.the-variants.{Ended, Overrun, Ready, Waiting}
@@ -15,12 +16,16 @@ use Rattle.model.specs.declared.Thread.{Thread}
 use Rattle.model.specs.Record.{threadAt}
 use Rattle.model.specs.Effect.{effectOf}
 use Rattle.reader.specs.File.{readFile}
+use Rattle.tables.specs.Conflict.{markAt, marksOf}
 use Rattle.tables.specs.Distance.{distanceOf}
 use Rattle.tables.specs.Word.{wordsOf, distanceIn}
 use Rattle.plain.specs.Start.{freshVariables}
 use Rattle.plain.specs.Run.{plainRun}
+use Rattle.early.specs.declared.Notification.{Notification}
 use Rattle.early.specs.declared.Answer.{Answer}
 use Rattle.early.specs.declared.Answer.the-variants.{Granted, Refused}
+use Rattle.early.specs.Log.{logOf}
+use Rattle.early.specs.Earliest.{earliestOf}
 use Rattle.early.specs.Answer.{numberOf, valuesOf}
 use Rattle.early.specs.Request.{Listed}
 use Rattle.order.specs.Claim.{afterList}
@@ -71,6 +76,18 @@ abbrev pub isGranted : ℕ → Cycle → Answer → Bool
 isGranted s c (Granted r d) = eqb s r && isSame c d
 isGranted s c (Refused n) = false
 
+-- a log that holds one pair
+abbrev pub isLogged : ℕ → Cycle → List Notification → Bool
+isLogged e c [] = false
+isLogged e c (x ∷ []) = eqb e (x .event) && isSame c (x .cycle)
+isLogged e c (x ∷ y ∷ rest) = false
+
+-- the earliest that thread k could run segment s, after a list of requests
+abbrev pub couldRun : Model → List ℕ → ℕ → ℕ → Bound
+couldRun m ks k s =
+    let a = afterList m ks in
+    getD (earliestOf m (wordsOf m) (logOf (a .site)) (a .threads)) k Never ⊕ distanceIn m (wordsOf m) (threadAt (a .threads) k .segment) s
+
 -- a case's number, and whether it holds
 pub record Row : Type 0 where
   pub number : ℕ
@@ -95,14 +112,16 @@ cases =
     ∷ row 4 (isGranted 2 (cycleAt 0 0) (answerTo modelM (1 ∷ [])))
     ∷ row 5 (isGranted 0 (cycleAt 0 0) (answerTo modelM (0 ∷ [])))
     ∷ row 5 (eqb (numberOf (answerTo modelM (0 ∷ 0 ∷ []))) 14)
+    ∷ row 5 (markAt (marksOf modelM) 0 3 && isBound (cycleAt 0 1) (couldRun modelM (0 ∷ []) 1 3))
     ∷ row 6 (eqb (numberOf (answerTo (setters 0) (0 ∷ 1 ∷ 1 ∷ []))) 14)
     ∷ row 6 (isReady (cycleAt 5 0) (stateOf 0 (afterList (setters 0) (0 ∷ 1 ∷ 1 ∷ []) .threads)))
+    ∷ row 6 (isGranted 2 (cycleAt 5 0) (answerTo (setters 0) (0 ∷ 1 ∷ 1 ∷ 0 ∷ [])))
     ∷ row 6 (isGranted 3 (cycleAt 10 0) (answerTo (setters 0) (0 ∷ 1 ∷ 1 ∷ 0 ∷ 1 ∷ [])))
     ∷ row 6 (eqb (getD (afterList (setters 0) (0 ∷ 1 ∷ 1 ∷ 0 ∷ 1 ∷ []) .site .variables .at) 0 0) 1)
     ∷ row 7 (isGranted 3 (cycleAt 10 0) (answerTo (setters 1) (0 ∷ 1 ∷ 1 ∷ [])))
     ∷ row 8 (isGranted 4 (cycleAt 5 0) (answerTo notifiers (0 ∷ 1 ∷ 2 ∷ 1 ∷ [])))
     ∷ row 8 (isWaiting 0 (cycleAt 0 0) (stateOf 0 (afterList notifiers (0 ∷ 1 ∷ 2 ∷ 1 ∷ []) .threads)))
-    ∷ row 8 (eqb (afterList notifiers (0 ∷ 1 ∷ 2 ∷ 1 ∷ []) .site .count) 1)
+    ∷ row 8 (isLogged 0 (cycleAt 5 0) (logOf (afterList notifiers (0 ∷ 1 ∷ 2 ∷ 1 ∷ []) .site)))
     ∷ row 9 (isReady (cycleAt 2 1) (stateOf 0 (afterList notifiers (0 ∷ 1 ∷ 2 ∷ 1 ∷ 2 ∷ []) .threads)))
     ∷ row 10 (isBound (cycleAt 7 0) (distanceOf (waits 0 7) 0 2))
     ∷ row 10 (isBound (cycleAt 7 1) (distanceOf (waits 7 0) 0 2))
@@ -112,6 +131,15 @@ cases =
     ∷ row 12 (isReady (cycleAt 0 1023) (effectOf zeroWait 0 0 (cycleAt 0 1022) freshVariables .thread .state))
     ∷ row 13 (plainRun model1 0 .spent && eqb (plainRun model1 0 .n) 0)
     ∷ []
+
+-- the cases marked P
+abbrev pub marked : List ℕ
+marked = 1 ∷ 4 ∷ 5 ∷ 6 ∷ 7 ∷ 8 ∷ 9 ∷ 10 ∷ 11 ∷ 12 ∷ 13 ∷ []
+
+-- the numbers of a table's rows, those of neighbours once
+unfoldable pub numbersFrom : ℕ → List Row → List ℕ
+numbersFrom last [] = []
+numbersFrom last (r ∷ rs) = let rest = numbersFrom (r .number) rs in cond (eqb last (r .number)) rest (r .number ∷ rest)
 
 unfoldable pub allHold : List Row → Bool
 allHold [] = true

@@ -59,9 +59,12 @@ isFitPair-edges = (refl, refl, refl, refl)
 
 -- "a distance word, all ones apart, with time 1,000,000,000 or more"
 pub isFitWord-edges :
-    (isFitWord (999999999 * 1024 + 1023) ≡ true) × (isFitWord (1000000000 * 1024) ≡ false) × (isFitWord allOnes ≡ true)
+    (isFitWord (999999999 * 1024 + 1023) ≡ true) ×
+    (isFitWord (1000000000 * 1024) ≡ false) ×
+    (isFitWord 18446744073709551614 ≡ false) ×
+    (isFitWord 18446744073709551615 ≡ true)
 unfolding computed
-isFitWord-edges = (refl, refl, refl)
+isFitWord-edges = (refl, refl, refl, refl)
 
 -- "records below T", which is 2 here; a record past T is not judged
 pub isUnfitThreads-edges :

@@ -482,14 +482,21 @@ leaving :
 unfolding leavesModel
 leaving = (refl, refl, refl, refl, refl, refl, refl)
 
--- a next segment at N - 1 and N, a first segment at N - 1 and N
+-- a model of which n segments and t threads count
+abbrev counted : ℕ → ℕ → List Segment → List ℕ → Model
+counted n t gs ss = let m = model 1 0 0 gs ss in record { horizon = m .horizon; v = 0; e = 0; n = n; t = t; segments = m .segments; starts = m .starts }
+
+-- a next segment at N - 1 and N, a first segment at N - 1 and N; a segment past N and a thread past T name nothing
 targets :
     (targetsFault (model 1 0 0 (segment (waits 1 (always 1)) [] ∷ noSegment ∷ []) (1 ∷ [])) ≡ 0) ×
     (targetsFault (model 1 0 0 (noSegment ∷ segment (waits 1 (always 2)) [] ∷ []) (1 ∷ [])) ≡ 8) ×
     (targetsFault (model 1 0 0 (noSegment ∷ noSegment ∷ []) (0 ∷ 2 ∷ [])) ≡ 8) ×
-    (targetsFault (model 1 0 0 (noSegment ∷ noSegment ∷ []) (0 ∷ 1 ∷ [])) ≡ 0)
+    (targetsFault (model 1 0 0 (noSegment ∷ noSegment ∷ []) (0 ∷ 1 ∷ [])) ≡ 0) ×
+    (targetsFault (counted 1 1 (noSegment ∷ segment (waits 1 (always 9)) [] ∷ []) (0 ∷ 9 ∷ [])) ≡ 0) ×
+    (targetsFault (counted 2 1 (noSegment ∷ segment (waits 1 (always 9)) [] ∷ []) (0 ∷ 9 ∷ [])) ≡ 8) ×
+    (targetsFault (counted 1 2 (noSegment ∷ segment (waits 1 (always 9)) [] ∷ []) (0 ∷ 9 ∷ [])) ≡ 8)
 unfolding targetsFault anySegmentLeaves anyStartLeaves leavesModel segmentAt startAt anyBelow
-targets = (refl, refl, refl, refl)
+targets = (refl, refl, refl, refl, refl, refl, refl)
 
 -- none; 4 before all; a segment's fault before a missing thread; a missing thread before 8; 8 last
 whole :

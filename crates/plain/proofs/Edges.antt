@@ -141,13 +141,14 @@ pub isOut-edges :
 unfolding models
 isOut-edges = (refl, refl, refl, refl)
 
--- the event that is heard and not another; a thread is passed over, or does not hear
+-- the event that is heard and not another, by who overruns on hearing too; a thread is passed over, or does not hear
 pub itemsAt-edges :
     (itemsAt four (placed (thread 3 (Waiting 1 (cycleAt 4 0)) ∷ []) (cycleAt 5 1) 4 (0 ∷ 1 ∷ [])) 0 ≡ heard 1 (cycleAt 5 1) ∷ []) ×
+    (itemsAt four (placed (thread 3 (Waiting 1 (cycleAt 4 0)) ∷ []) (cycleAt 5 1023) 4 (0 ∷ 1 ∷ [])) 0 ≡ heard 1 (cycleAt 5 1023) ∷ []) ×
     (itemsAt four (placed (thread 3 (Waiting 2 (cycleAt 4 0)) ∷ []) (cycleAt 5 1) 4 (0 ∷ 1 ∷ [])) 0 ≡ []) ×
     (itemsAt four (placed (thread 3 (Waiting 1 (cycleAt 4 0)) ∷ []) (cycleAt 5 1) 3 (0 ∷ 1 ∷ [])) 0 ≡ []) ×
     (itemsAt four (placed (thread 3 (Ready (cycleAt 5 1)) ∷ []) (cycleAt 5 1) 0 []) 0 ≡ ran 3 (cycleAt 5 1) ∷ []) ×
     (itemsAt four (placed (thread 3 (Ready (cycleAt 5 1)) ∷ []) (cycleAt 5 1) 0 []) 1 ≡ []) ×
     (itemsAt four (placed (thread 3 (Ready (cycleAt 6 0)) ∷ []) (cycleAt 5 1) 0 []) 0 ≡ [])
 unfolding models
-itemsAt-edges = (refl, refl, refl, refl, refl, refl)
+itemsAt-edges = (refl, refl, refl, refl, refl, refl, refl)

@@ -4,13 +4,14 @@ use Prim.Native.Nat.{ℕ, zero, suc, _+_}
 use mathlib.Core.Path.{_≡_, refl}
 use mathlib.Core.List.{List, [], _∷_, _++_}
 use lib.ListN.{length, set, replicate}
+use Rattle.base.specs.Index.{orElse}
 use Rattle.model.specs.declared.Op.the-variants.{Set, Add, Copy, AddVariable, SubVariable, Notify}
 use Rattle.model.specs.declared.Closer.the-variants.{End, Time, Event}
 use Rattle.model.specs.declared.Model.{Model}
-use Rattle.model.specs.Values.{noStatement, noSegment, noStart}
+use Rattle.model.specs.Values.{noStatement, noSegment, noStart, noModel}
 use Rattle.reader.specs.Closer.{closerFrom, closerBytesFault}
 use Rattle.reader.specs.Statement.{opFrom, opBytesFault}
-use Rattle.reader.specs.Record.{bodyFault}
+use Rattle.reader.specs.Record.{framingFault, bodyFault}
 use Rattle.reader.specs.File.{readFile}
 use Rattle.reader.proofs.Computed.{computed}
 
@@ -144,6 +145,17 @@ pub read-thread-end-length :
 unfolding computed
 read-thread-end-length = refl
 
+-- a length's high byte counts: a head of 266 bytes, a segment of 273, a thread of 261 and an end of 260
+pub read-long-record :
+    numbersOf
+    ((10 ∷ 1 ∷ 1 ∷ 0 ∷ 10 ∷ replicate 261 0) ∷
+    headed (17 ∷ 1 ∷ 2 ∷ 0 ∷ replicate 269 0) ∷
+    segmented (5 ∷ 1 ∷ 3 ∷ 0 ∷ replicate 257 0) ∷
+    threaded (4 ∷ 1 ∷ 4 ∷ 0 ∷ replicate 256 0) ∷ [])
+    ≡ 3 ∷ 3 ∷ 3 ∷ 3 ∷ []
+unfolding computed
+read-long-record = refl
+
 -- "lower number first": past the end, kind 9; kind 9 of head's length; a second head of length 9; a head of length 9 with H = 0
 pub read-lower-first :
     numbersOf ((11 ∷ 0 ∷ 9 ∷ 0 ∷ replicate 6 0) ∷ (9 ∷ 0 ∷ 9 ∷ 0 ∷ replicate 5 0) ∷ headed (9 ∷ 0 ∷ 1 ∷ 0 ∷ replicate 5 0) ∷ (9 ∷ 0 ∷ 1 ∷ 0 ∷ replicate 5 0) ∷ [])
@@ -180,6 +192,29 @@ pub read-too-many :
     (bodyFault 3 (after 64 32) (thread 0) ≡ 4)
 unfolding computed
 read-too-many = (refl, refl, refl, refl, refl)
+
+-- the number at a record of kind k after one of kind last, where m holds what was read so far
+abbrev faultAt : ℕ → ℕ → Model → List ℕ → ℕ
+faultAt last k m b = orElse (framingFault last b) (bodyFault k m b)
+
+-- a 65th segment of 18 bytes and of 215, a 33rd thread of 6: 3 before 4
+pub read-too-many-length :
+    (faultAt 2 2 (after 64 0) (segment ending (0 ∷ [])) ≡ 3) ×
+    (faultAt 2 2 (after 64 0) (segment ending (settings 33)) ≡ 3) ×
+    (faultAt 2 2 (after 64 0) (segment ending []) ≡ 4) ×
+    (faultAt 3 3 (after 64 32) (6 ∷ 0 ∷ 3 ∷ 0 ∷ 0 ∷ 0 ∷ []) ≡ 3) ×
+    (faultAt 3 3 (after 64 32) (thread 0) ≡ 4)
+unfolding computed
+read-too-many-length = (refl, refl, refl, refl, refl)
+
+-- "a model or marks returned by value beside the number are zero": whatever was read before it
+pub read-refused-zero :
+    (readFile [] .model ≡ noModel) ×
+    (readFile (threaded []) .model ≡ noModel) ×
+    (readFile (threaded (end ++ (0 ∷ []))) .model ≡ noModel) ×
+    (readFile (segmented (thread 1 ++ end)) .model ≡ noModel)
+unfolding computed
+read-refused-zero = (refl, refl, refl, refl)
 
 -- 5: "closer breaks its rules"
 
