@@ -1,13 +1,21 @@
--- Each comparison at, below and above its edge, and where each number stands: closed examples.
-use Prim.Native.Nat.{_^_}
+-- Each comparison at, below and above its edge, where each number stands, and each call on a small file: closed examples.
+use Prim.Native.Nat.{ℕ, _^_}
 use mathlib.Core.Path.{_≡_, refl}
 use mathlib.Core.Bool.{true, false}
-use mathlib.Core.List.{[], _∷_, _++_}
-use lib.ListN.{replicate}
+use mathlib.Core.List.{List, [], _∷_, _++_}
+use lib.ListN.{replicate, set}
+use Rattle.base.specs.Index.{orElse}
 use Rattle.clock.specs.Cycle.{cycleAt}
 use Rattle.model.specs.declared.State.the-variants.{Ended, Overrun, Ready, Waiting}
+use Rattle.reader.proofs.Computed as reader
+use Rattle.tables.specs.Outcome as tables
+use Rattle.reader_load.specs.Load.{loadNumber, loadOf, loadBuffer}
 use Rattle.early.proofs.EdgeModels.{note, inState}
-use Rattle.export_state.specs.Numbers.{logWords, recordWords, wordsIn, pairAt, stateFrom, threadFrom, variablesFrom, siteFrom, threadsFrom, isPairHeld, isEventHeld, isRecordHeld, isLogHeld, areRecordsHeld, areHeld}
+use Rattle.early_request.specs.Answers.{answersWords, grantedIn, isShort}
+use Rattle.order.specs.Claim.{afterList}
+use Rattle.replay.specs.Replay.{doneOn, replayedOf, wordsAfter, answersAfter}
+use Rattle.export_state.specs.Numbers.{logWords, recordWords, pairAt, stateFrom, threadFrom, variablesFrom, siteFrom, threadsFrom, isPairHeld, isEventHeld, isRecordHeld, isLogHeld, areRecordsHeld, areHeld}
+use Rattle.export_state.specs.Step.{Kept, keeps, hasRoom, freshNumber, freshKept, askedNumber, requestNumber, requestKept, requestAnswer, replayNumber, replayKept, replayWords, replayAnswers}
 use Rattle.export_state.proofs.Computed.{computed}
 
 -- the count, then event, time, delta of each place
@@ -22,14 +30,6 @@ pub recordWords-order :
     7 ∷ 0 ∷ 0 ∷ 5 ∷ 2 ∷ 8 ∷ 1 ∷ 0 ∷ 6 ∷ 3 ∷ 9 ∷ 2 ∷ 0 ∷ 7 ∷ 4 ∷ 10 ∷ 3 ∷ 11 ∷ 8 ∷ 5 ∷ []
 unfolding computed
 recordWords-order = refl
-
--- one word too few, just enough, one more
-pub wordsIn-edges :
-    (wordsIn (7 ∷ 8 ∷ []) (1 ∷ []) ≡ 1 ∷ []) ×
-    (wordsIn (7 ∷ 8 ∷ []) (1 ∷ 2 ∷ []) ≡ 7 ∷ 8 ∷ []) ×
-    (wordsIn (7 ∷ 8 ∷ []) (1 ∷ 2 ∷ 3 ∷ []) ≡ 7 ∷ 8 ∷ 3 ∷ [])
-unfolding computed
-wordsIn-edges = (refl, refl, refl)
 
 -- the second place; an event modulo 2 ^ 8, a delta modulo 2 ^ 32
 pub pairAt-edges :
@@ -113,3 +113,66 @@ pub areHeld-edges :
     (areHeld (replicate 64 0) (replicate 385 0) (replicate 159 0) ≡ false)
 unfolding computed
 areHeld-edges = (refl, refl, refl, refl)
+
+-- case 1: "the 36-byte file of H = 10, V = E = 0, one ending segment, one thread"
+abbrev one : List ℕ
+one = 10 ∷ 0 ∷ 1 ∷ 0 ∷ 10 ∷ 0 ∷ 0 ∷ 0 ∷ 0 ∷ 0 ∷ 17 ∷ 0 ∷ 2 ∷ 0 ∷ 0 ∷ 0 ∷ 0 ∷ 0 ∷ 0 ∷ 0 ∷ 0 ∷ 0 ∷ 0 ∷ 0 ∷ 0 ∷ 0 ∷ 0 ∷ 5 ∷ 0 ∷ 3 ∷ 0 ∷ 0 ∷ 4 ∷ 0 ∷ 4 ∷ 0 ∷ []
+
+-- buffers of so many words, all 7
+abbrev sevens : ℕ → ℕ → ℕ → Kept
+sevens v l r = keeps (replicate v 7) (replicate l 7) (replicate r 7)
+
+-- the numbers of its fresh state: thread 0 ready at (0, 0), the other records ended
+abbrev start : Kept
+start = keeps (replicate 64 0) (replicate 385 0) (set (replicate 160 0) 1 2)
+
+pub hasRoom-edges :
+    (hasRoom (sevens 64 385 160) ≡ true) × (hasRoom (sevens 63 385 160) ≡ false) × (hasRoom (sevens 64 384 160) ≡ false) × (hasRoom (sevens 64 385 159) ≡ false) × (hasRoom (sevens 65 386 161) ≡ true)
+unfolding computed
+hasRoom-edges = (refl, refl, refl, refl, refl)
+
+-- the file's number first, then 11; else the fresh state, and no word past it
+pub fresh-edges :
+    (freshNumber [] (sevens 0 0 0) ≡ 1) ×
+    (freshNumber one (sevens 64 384 160) ≡ 11) ×
+    (freshKept one (sevens 64 384 160) ≡ sevens 64 384 160) ×
+    (freshNumber one (sevens 64 385 160) ≡ 0) ×
+    (freshKept one (sevens 64 385 160) ≡ start) ×
+    (freshKept one (sevens 65 385 160) .variables ≡ set (replicate 65 0) 64 7)
+unfolding reader.computed computed orElse
+fresh-edges = (refl, refl, refl, refl, refl, refl)
+
+-- the file's number first, then 11: a state of 4, an answer of 2 words
+pub asked-edges :
+    (askedNumber [] (sevens 0 0 0) [] ≡ 1) ×
+    (askedNumber one (keeps (replicate 64 0) (replicate 385 0) (set (replicate 160 0) 1 4)) (7 ∷ 7 ∷ 7 ∷ []) ≡ 11) ×
+    (askedNumber one start (7 ∷ 7 ∷ []) ≡ 11) ×
+    (askedNumber one start (7 ∷ 7 ∷ 7 ∷ []) ≡ 0)
+unfolding reader.computed computed orElse
+asked-edges = (refl, refl, refl, refl)
+
+-- thread 0 is granted segment 0 at (0, 0) and ends; thread 1 is refused with 10, and nothing is written
+pub request-edges :
+    (requestNumber one (0 ∷ []) start 0 (7 ∷ 7 ∷ 7 ∷ 7 ∷ []) ≡ 0) ×
+    (requestKept one (0 ∷ []) start 0 (7 ∷ 7 ∷ 7 ∷ 7 ∷ []) ≡ keeps (replicate 64 0) (replicate 385 0) (replicate 160 0)) ×
+    (requestAnswer one (0 ∷ []) start 0 (7 ∷ 7 ∷ 7 ∷ 7 ∷ []) ≡ 0 ∷ 0 ∷ 0 ∷ 7 ∷ []) ×
+    (requestNumber one (0 ∷ []) start 1 (7 ∷ 7 ∷ 7 ∷ []) ≡ 10) ×
+    (requestKept one (0 ∷ []) start 1 (7 ∷ 7 ∷ 7 ∷ []) ≡ start) ×
+    (requestAnswer one (0 ∷ []) start 1 (7 ∷ 7 ∷ 7 ∷ []) ≡ 7 ∷ 7 ∷ 7 ∷ []) ×
+    (requestNumber one [] start 0 (7 ∷ 7 ∷ 7 ∷ []) ≡ 11)
+unfolding reader.computed computed orElse tables.conflictMarks
+request-edges = (refl, refl, refl, refl, refl, refl, refl)
+
+-- 11 for a short buffer first, then the file's number; else the state that the list leaves
+pub replay-edges :
+    (replayNumber [] (5 ∷ []) (0 ∷ []) (7 ∷ 7 ∷ 7 ∷ 7 ∷ []) (sevens 64 385 159) ≡ 11) ×
+    (replayNumber [] (5 ∷ []) (0 ∷ []) (7 ∷ 7 ∷ 7 ∷ 7 ∷ []) (sevens 64 385 160) ≡ 1) ×
+    (replayKept [] (5 ∷ []) (0 ∷ []) (7 ∷ 7 ∷ 7 ∷ 7 ∷ []) (sevens 64 385 160) ≡ sevens 64 385 160) ×
+    (replayNumber one (5 ∷ []) (0 ∷ []) (7 ∷ 7 ∷ 7 ∷ 7 ∷ []) (sevens 64 385 160) ≡ 0) ×
+    (replayKept one (5 ∷ []) (0 ∷ []) (7 ∷ 7 ∷ 7 ∷ 7 ∷ []) (sevens 64 385 160) ≡ keeps (replicate 64 0) (replicate 385 0) (replicate 160 0)) ×
+    (replayWords one (5 ∷ []) (0 ∷ []) (7 ∷ 7 ∷ 7 ∷ 7 ∷ []) (sevens 64 385 160) ≡ 0 ∷ []) ×
+    (replayWords one (5 ∷ []) (0 ∷ []) (7 ∷ 7 ∷ 7 ∷ 7 ∷ []) (sevens 64 385 159) ≡ 5 ∷ []) ×
+    (replayAnswers one (5 ∷ []) (0 ∷ []) (7 ∷ 7 ∷ 7 ∷ 7 ∷ []) (sevens 64 385 160) ≡ 0 ∷ 0 ∷ 0 ∷ 0 ∷ []) ×
+    (replayAnswers one (5 ∷ []) (0 ∷ []) (7 ∷ 7 ∷ 7 ∷ 7 ∷ []) (sevens 64 385 159) ≡ 7 ∷ 7 ∷ 7 ∷ 7 ∷ [])
+unfolding reader.computed computed orElse tables.isShort loadNumber loadOf loadBuffer answersWords grantedIn isShort afterList doneOn replayedOf wordsAfter answersAfter
+replay-edges = (refl, refl, refl, refl, refl, refl, refl, refl, refl)

@@ -1,15 +1,29 @@
 -- The words of a log and of thread records: how many there are, and that the loops store them all.
-use Prim.Native.Nat.{ℕ, _≤_, _<_}
+use Prim.Native.Nat.{ℕ, _≤_}
 use mathlib.Core.Path.{_≡_, refl, _∙_}
 use mathlib.Core.List.{List, _∷_}
 use native.Mathlib.Omega.{arith}
 use lib.ListN.{length, take, set}
 use lib.Seq.{sets, take-all}
+use Rattle.model.specs.declared.State.{State}
+use Rattle.model.specs.declared.State.the-variants.{Ended, Overrun, Ready, Waiting}
+use Rattle.model.specs.declared.Thread.{Thread}
 use Rattle.model.specs.declared.Threads.{Threads}
+use Rattle.buffers.specs.Write.{placedIn}
+use Rattle.buffers.proofs.WriteLaws.{placedIn-stored}
 use Rattle.early.specs.declared.Notification.{Notification}
 use Rattle.early.specs.declared.Site.{Site}
-use Rattle.export_state.specs.Numbers.{pairWords, threadWords, inTurn, logWords, recordWords, wordsIn}
-use Rattle.export_state.proofs.WordLaws.{inTurn-length, wordsIn-stored, wordsIn-short, threadWords-length}
+use Rattle.export_state.specs.Numbers.{pairWords, recordOf, threadWords, inTurn, logWords, recordWords}
+use Rattle.export_state.proofs.TurnLaws.{inTurn-length}
+
+recordOf-length : (s : ℕ) (x : State) → length (recordOf s x) ≡ 5
+recordOf-length s (Ended c) = refl
+recordOf-length s (Overrun c) = refl
+recordOf-length s (Ready c) = refl
+recordOf-length s (Waiting e c) = refl
+
+pub threadWords-length : (x : Thread) → length (threadWords x) ≡ 5
+threadWords-length x = recordOf-length (x .segment) (x .state)
 
 pub pairWords-length : (x : Notification) → length (pairWords x) ≡ 3
 pairWords-length x = refl
@@ -22,30 +36,16 @@ pub recordWords-length : (x : Threads) → length (x .at) ≡ 32 → length (rec
 unfolding recordWords
 recordWords-length x h = omega (arith, inTurn-length threadWords 5 threadWords-length (x .at))
 
--- a buffer with fewer words
-pub log-short : (s : Site) (out : List ℕ) → length (s .log) ≡ 128 → length out < 385 → out ≡ wordsIn (logWords s) out
-log-short s out h k = wordsIn-short (logWords s) out (omega (arith, logWords-length s h))
-
-pub records-short : (x : Threads) (out : List ℕ) → length (x .at) ≡ 32 → length out < 160 → out ≡ wordsIn (recordWords x) out
-records-short x out h k = wordsIn-short (recordWords x) out (omega (arith, recordWords-length x h))
-
 -- the count, then each place
 pub log-stored :
     (s : Site) (out end : List ℕ) (k : ℕ) → length (s .log) ≡ 128 → 385 ≤ length out → k ≡ s .count →
-    end ≡ sets (set out 0 k) 1 (inTurn pairWords (s .log)) → end ≡ wordsIn (logWords s) out
+    end ≡ sets (set out 0 k) 1 (inTurn pairWords (s .log)) → end ≡ placedIn (logWords s) out
 unfolding logWords
 log-stored s out end k h room p e =
-    (rw p at e) ∙ wordsIn-stored (s .count ∷ inTurn pairWords (s .log)) out (omega (arith, logWords-length s h))
+    (rw p at e) ∙ placedIn-stored (s .count ∷ inTurn pairWords (s .log)) out (omega (arith, logWords-length s h))
 
-pub records-stored :
-    (x : Threads) (out end : List ℕ) (k : ℕ) → length (x .at) ≡ 32 → 160 ≤ length out → 32 ≤ k →
-    end ≡ sets out 0 (inTurn threadWords (take k (x .at))) → end ≡ wordsIn (recordWords x) out
-unfolding recordWords
-records-stored x out end k h room full e =
-    let t : take k (x .at) ≡ x .at = take-all k (x .at) (omega arith) in
-    (rw t at e) ∙ wordsIn-stored (inTurn threadWords (x .at)) out (omega (arith, recordWords-length x h))
-
-pub values-stored : (xs out end : List ℕ) (i : ℕ) → length xs ≡ 64 → 64 ≤ length out → 64 ≤ i → end ≡ sets out 0 (take i xs) → end ≡ wordsIn xs out
-values-stored xs out end i h room full e =
-    let t : take i xs ≡ xs = take-all i xs (omega arith) in
-    (rw t at e) ∙ wordsIn-stored xs out (omega arith)
+-- the words of each element, all of them
+pub all-stored :
+    {A : Type 0} (f : List A → List ℕ) (xs : List A) (out end : List ℕ) (k : ℕ) →
+    length xs ≤ k → length (f xs) ≤ length out → end ≡ sets out 0 (f (take k xs)) → end ≡ placedIn (f xs) out
+all-stored f xs out end k full room e = (rw (take-all k xs full) at e) ∙ placedIn-stored (f xs) out room

@@ -1,11 +1,8 @@
-pub mod LengthLaws
-pub mod WordLaws
+pub mod TurnLaws
 pub mod IntoLaws
 pub mod HeldLaws
-pub mod TurnLaws
 pub mod RangeLaws
 pub mod RoundLaws
+pub mod StepLaws
 pub mod Computed
 pub mod Edges
-pub mod StepLaws
-pub mod StepEdges

@@ -1,4 +1,4 @@
--- The ranges of a state's and of thread records' numbers, as owning them tells it.
+-- The number of places of variables, of a log and of thread records, and the ranges of their numbers, as owning them tells it.
 use Prim.Native.Nat.{ℕ, zero, suc, _<_, _^_}
 use mathlib.Core.Path.{_≡_, sym, _∙_}
 use mathlib.Core.List.{List, [], _∷_, map}
@@ -11,25 +11,36 @@ use denote.Laws.{Is}
 use denote.Struct.Laws as LL
 use lib.ListN.{length, getD, length-map}
 use Rattle.clock.specs.declared.Cycle.{Cycle}
-use Rattle.clock.proofs.Cycle as cycle
 use Rattle.clock.specs.Cycle.{cycleAt}
+use Rattle.clock.proofs.Cycle as cycle
+use Rattle.model.specs.declared.Variables.{Variables}
 use Rattle.model.specs.declared.State.{State}
 use Rattle.model.specs.declared.State.the-variants.{Ended, Overrun, Ready, Waiting}
 use Rattle.model.specs.declared.Thread.{Thread}
+use Rattle.model.specs.declared.Threads.{Threads}
+use Rattle.model.specs.Record.{noThread, cycleOf}
+use Rattle.model.proofs.Variables as variables
+use Rattle.model.proofs.Variables.Laws as variables′
 use Rattle.model.proofs.Thread as thread
 use Rattle.model.proofs.State as state
-use Rattle.model.specs.declared.Threads.{Threads}
 use Rattle.model.proofs.Threads as threads
 use Rattle.model.proofs.Threads.Laws as threads′
-use Rattle.model.specs.Record.{noThread, cycleOf}
 use Rattle.early.specs.declared.Notification.{Notification}
-use Rattle.early.proofs.Notification as notification
 use Rattle.early.specs.declared.Site.{Site}
+use Rattle.early.specs.Log.{pairOf}
+use Rattle.early.proofs.Notification as notification
 use Rattle.early.proofs.Site as site
 use Rattle.early.proofs.Site.Laws as site′
-use Rattle.early.specs.Log.{pairOf}
 use Rattle.export_state.specs.Numbers.{threadWords, recordOf}
-use Rattle.export_state.proofs.LengthLaws.{log-length, threads-length}
+
+pub variables-length : (v : Variables) (vs : List Val) → Is variables.the-row v vs → length (v .at) ≡ 64
+variables-length v vs g = sym (length-map (v .at) _) ∙ LL.owed variables.the-type variables′.the-laws v vs g .0 .1 .0 .1
+
+pub log-length : (s : Site) (vs : List Val) → Is site.the-row s vs → length (s .log) ≡ 128
+log-length s vs g = sym (length-map (s .log) _) ∙ LL.owed site.the-type site′.the-laws s vs g .1 .0 .1 .0 .1
+
+pub threads-length : (t : Threads) (vs : List Val) → Is threads.the-row t vs → length (t .at) ≡ 32
+threads-length t vs g = sym (length-map (t .at) _) ∙ LL.owed threads.the-type threads′.the-laws t vs g .0 .1 .0 .1
 
 pub record PairRange (x : Notification) : Type 0 where
   pub event : x .event < 2 ^ 8

@@ -10,7 +10,7 @@ use denote.Laws.{Is}
 use lib.Dec.{T, ltb, leb, ltb→lt, leb→le, eqb→eq}
 use lib.ListN.{length, getD, take, drop, List·getD-append}
 use lib.Seq.{drop-drop, getD-take, length-take-le}
-use Rattle.base.specs.Index.{anyBelow}
+use Rattle.base.specs.Index.{anyBelow, tabulate}
 use Rattle.base.proofs.BoolLaws.{true→T, and→both, not-not}
 use Rattle.base.proofs.IndexLaws.{anyBelow-none}
 use Rattle.clock.specs.Cycle.{cycleAt}
@@ -18,15 +18,16 @@ use Rattle.model.specs.declared.State.{State}
 use Rattle.model.specs.declared.State.the-variants.{Ended, Overrun, Ready, Waiting}
 use Rattle.model.specs.declared.Thread.{Thread}
 use Rattle.model.specs.declared.Threads.{Threads}
-use Rattle.model.proofs.Threads as threads
 use Rattle.model.specs.Record.{noThread, cycleOf}
+use Rattle.model.proofs.Threads as threads
+use Rattle.buffers.specs.Write.{placedIn}
+use Rattle.buffers.proofs.WriteLaws.{placedIn-room, placedIn-same}
 use Rattle.early.specs.declared.Site.{Site}
-use Rattle.early.proofs.Site as site
 use Rattle.early.specs.Log.{pairOf}
-use Rattle.export_state.specs.Numbers.{pairWords, recordOf, threadWords, logWords, recordWords, wordsIn, pairAt, stateFrom, threadFrom, variablesFrom, siteFrom, threadsFrom, isPairHeld, isEventHeld, isRecordHeld, isLogHeld, areRecordsHeld, areHeld}
-use Rattle.export_state.proofs.WordLaws.{threadWords-length}
-use Rattle.export_state.proofs.IntoLaws.{pairWords-length, logWords-length, recordWords-length}
-use Rattle.export_state.proofs.TurnLaws.{tabulate-same, inTurn-at, inTurn-take, wordsIn-room, wordsIn-same, take-three, take-five}
+use Rattle.early.proofs.Site as site
+use Rattle.export_state.specs.Numbers.{pairWords, recordOf, threadWords, logWords, recordWords, pairAt, stateFrom, threadFrom, variablesFrom, siteFrom, threadsFrom, isPairHeld, isEventHeld, isRecordHeld, isLogHeld, areRecordsHeld, areHeld}
+use Rattle.export_state.proofs.TurnLaws.{tabulate-same, inTurn-at, inTurn-take, take-words}
+use Rattle.export_state.proofs.IntoLaws.{pairWords-length, threadWords-length, logWords-length, recordWords-length}
 use Rattle.export_state.proofs.RangeLaws.{SiteRange, ThreadsRange, site-range, threads-range}
 
 -- a place that was written
@@ -75,7 +76,7 @@ module _ (x : Threads) (r : ThreadsRange x) (rest : List ℕ) where
 -- what is written is read back as it was
 pub site-read :
     (s : Site) (vals : List Val) → Is site.the-row s vals → (vs log : List ℕ) → 64 ≤ length vs → 385 ≤ length log →
-    siteFrom (wordsIn (s .variables .at) vs) (wordsIn (logWords s) log) ≡ s
+    siteFrom (placedIn (s .variables .at) vs) (placedIn (logWords s) log) ≡ s
 unfolding siteFrom variablesFrom
 site-read s vals g vs log h k =
     let r = site-range s vals g in
@@ -84,26 +85,27 @@ site-read s vals g vs log h k =
     let rest : List ℕ = drop (length (logWords s)) log in
     let v = tabulate-same 0 (s .variables .at) 64 (λ i. getD (s .variables .at ++ drop (length (s .variables .at)) vs) i 0) n (λ i l. List·getD-append (s .variables .at) (drop (length (s .variables .at)) vs) 0 i (omega arith)) in
     let w = tabulate-same (pairOf 0 (cycleAt 0 0)) (s .log) 128 (pairAt (logWords s ++ rest)) (r .places) (pairAt-written s r rest) in
-    rw (wordsIn-room (s .variables .at) vs (omega arith), wordsIn-room (logWords s) log (omega arith), v, w, count-written s r rest) refl
+    rw (placedIn-room (s .variables .at) vs (omega arith), placedIn-room (logWords s) log (omega arith), v, w, count-written s r rest) refl
 
 pub threads-read :
-    (x : Threads) (vals : List Val) → Is threads.the-row x vals → (rs : List ℕ) → 160 ≤ length rs → threadsFrom (wordsIn (recordWords x) rs) ≡ x
+    (x : Threads) (vals : List Val) → Is threads.the-row x vals → (rs : List ℕ) → 160 ≤ length rs → threadsFrom (placedIn (recordWords x) rs) ≡ x
 unfolding threadsFrom
 threads-read x vals g rs h =
     let r = threads-range x vals g in
     let size = recordWords-length x (r .places) in
     let w = tabulate-same noThread (x .at) 32 (threadFrom (recordWords x ++ drop (length (recordWords x)) rs)) (r .places) (threadFrom-written x r (drop (length (recordWords x)) rs)) in
-    rw (wordsIn-room (recordWords x) rs (omega arith), w) refl
+    rw (placedIn-room (recordWords x) rs (omega arith), w) refl
 
 -- a place that is held
 pairAt-held : (log : List ℕ) (i : ℕ) → 385 ≤ length log → i < 128 → T (isPairHeld log i) → pairWords (pairAt log i) ≡ take 3 (drop (3 * i) (drop 1 log))
-unfolding isPairHeld pairAt
+unfolding tabulate isPairHeld pairAt
 pairAt-held log i h k t =
     let b = and→both (ltb (getD log (3 * i + 1) 0) (2 ^ 8)) (ltb (getD log (3 * i + 3) 0) (2 ^ 32)) t in
     let e : 1 + 3 * i ≡ 3 * i + 1 = omega arith in
     let f : 3 * i + 1 + 1 ≡ 3 * i + 2 = omega arith in
     let g : 3 * i + 1 + 2 ≡ 3 * i + 3 = omega arith in
-    rw (mod-eq-of-lt (ltb→lt (getD log (3 * i + 1) 0) (2 ^ 8) (b .0)), mod-eq-of-lt (ltb→lt (getD log (3 * i + 3) 0) (2 ^ 32) (b .1)), drop-drop, e, take-three log (3 * i + 1) (omega arith), f, g) refl
+    let w : take 3 (drop (3 * i + 1) log) ≡ getD log (3 * i + 1 + 0) 0 ∷ getD log (3 * i + 1 + 1) 0 ∷ getD log (3 * i + 1 + 2) 0 ∷ [] = take-words log (3 * i + 1) 3 (omega arith) in
+    rw (mod-eq-of-lt (ltb→lt (getD log (3 * i + 1) 0) (2 ^ 8) (b .0)), mod-eq-of-lt (ltb→lt (getD log (3 * i + 3) 0) (2 ^ 32) (b .1)), drop-drop, e, w, add-zero (3 * i + 1), f, g) refl
 
 take-first : (l : List ℕ) (n : ℕ) → 1 ≤ length l → take (suc n) l ≡ getD l 0 0 ∷ take n (drop 1 l)
 take-first [] n h = absurd (omega arith)
@@ -130,14 +132,15 @@ stateWords s (suc (suc (suc zero))) e t d h k b l = rw (mod-eq-of-lt h, mod-eq-o
 stateWords s (suc (suc (suc (suc n)))) e t d h k b l = absurd (omega arith)
 
 threadFrom-held : (rs : List ℕ) (k : ℕ) → 160 ≤ length rs → k < 32 → T (isRecordHeld rs k) → threadWords (threadFrom rs k) ≡ take 5 (drop (5 * k) rs)
-unfolding isRecordHeld threadFrom
+unfolding tabulate isRecordHeld threadFrom
 threadFrom-held rs k h l t =
     let a = and→both (ltb (getD rs (5 * k) 0) (2 ^ 8)) _ t in
     let b = and→both (ltb (getD rs (5 * k + 1) 0) 4) _ (a .1) in
     let c = and→both (isEventHeld (getD rs (5 * k + 1) 0) (getD rs (5 * k + 2) 0)) _ (b .1) in
+    let w : take 5 (drop (5 * k) rs) ≡ getD rs (5 * k + 0) 0 ∷ getD rs (5 * k + 1) 0 ∷ getD rs (5 * k + 2) 0 ∷ getD rs (5 * k + 3) 0 ∷ getD rs (5 * k + 4) 0 ∷ [] = take-words rs (5 * k) 5 (omega arith) in
     stateWords (getD rs (5 * k) 0) (getD rs (5 * k + 1) 0) (getD rs (5 * k + 2) 0) (getD rs (5 * k + 3) 0) (getD rs (5 * k + 4) 0) (ltb→lt (getD rs (5 * k) 0) (2 ^ 8) (a .0)) (ltb→lt (getD rs (5 * k + 1) 0) 4 (b .0)) (c .0)
     (ltb→lt (getD rs (5 * k + 4) 0) (2 ^ 32) (c .1)) ∙
-    sym (take-five rs (5 * k) (omega arith))
+    sym (rw (add-zero (5 * k)) at w)
 
 record-words : (rs : List ℕ) → T (areRecordsHeld rs) → recordWords (threadsFrom rs) ≡ take 160 rs
 unfolding areRecordsHeld recordWords threadsFrom
@@ -154,9 +157,9 @@ value-words vs log h =
 
 -- numbers that are held are written back as they were
 pub record SameNumbers (vs ws rs : List ℕ) : Type 0 where
-  pub variables : wordsIn (siteFrom vs ws .variables .at) vs ≡ vs
-  pub log : wordsIn (logWords (siteFrom vs ws)) ws ≡ ws
-  pub records : wordsIn (recordWords (threadsFrom rs)) rs ≡ rs
+  pub variables : placedIn (siteFrom vs ws .variables .at) vs ≡ vs
+  pub log : placedIn (logWords (siteFrom vs ws)) ws ≡ ws
+  pub records : placedIn (recordWords (threadsFrom rs)) rs ≡ rs
 
 pub held-same : (vs log rs : List ℕ) → areHeld vs log rs ≡ true → SameNumbers vs log rs
 unfolding areHeld isLogHeld areRecordsHeld
@@ -167,7 +170,7 @@ held-same vs log rs e =
     let d = and→both (leb 160 (length rs)) _ (b .1) in
     let h : 64 ≤ length vs = leb→le 64 (length vs) (a .0) in
     record {
-      variables = wordsIn-same _ vs 64 h (value-words vs log h);
-      log = wordsIn-same _ log 385 (leb→le 385 (length log) (c .0)) (log-words vs log (b .0));
-      records = wordsIn-same _ rs 160 (leb→le 160 (length rs) (d .0)) (record-words rs (b .1));
+      variables = placedIn-same _ vs 64 h (value-words vs log h);
+      log = placedIn-same _ log 385 (leb→le 385 (length log) (c .0)) (log-words vs log (b .0));
+      records = placedIn-same _ rs 160 (leb→le 160 (length rs) (d .0)) (record-words rs (b .1));
     }

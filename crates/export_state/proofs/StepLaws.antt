@@ -2,7 +2,7 @@
 use Prim.Native.Nat.{ℕ, _≤_, _<_}
 use mathlib.Core.Path.{_≡_, refl, sym, _∙_}
 use mathlib.Core.Bool.{Bool, true, false, _&&_}
-use mathlib.Core.List.{List}
+use mathlib.Core.List.{List, []}
 use native.Mathlib.Omega.{arith}
 use lib.Dec.{leb}
 use lib.ListN.{length}
@@ -19,6 +19,8 @@ use Rattle.reader_laws.proofs.Accepted.{accepted-kept}
 use Rattle.reader_file.specs.Parts.{refusedWith}
 use Rattle.tables.specs.Outcome.{conflictMarks}
 use Rattle.plain.specs.Start.{freshThreads}
+use Rattle.buffers.specs.Write.{placedIn}
+use Rattle.buffers.proofs.WriteLaws.{placedIn-room}
 use Rattle.early.specs.declared.Site.{Site}
 use Rattle.early.specs.declared.After.{After}
 use Rattle.early.specs.declared.Answer.{Answer}
@@ -30,7 +32,7 @@ use Rattle.early_request.specs.After.{afterOf}
 use Rattle.early_request.specs.Fresh.{freshOf}
 use Rattle.replay.specs.declared.Replayed.{Replayed}
 use Rattle.replay.specs.Replay.{replayedOf, wordsAfter, answersAfter}
-use Rattle.export_state.specs.Numbers.{logWords, recordWords, wordsIn, siteFrom, threadsFrom, areHeld}
+use Rattle.export_state.specs.Numbers.{logWords, recordWords, siteFrom, threadsFrom, areHeld}
 use Rattle.export_state.specs.Step.{Kept, keeps, hasRoom, holding, freshNumber, freshKept, askedNumber, requestBy, requestNumber, keptBy, requestKept, requestAnswer, replayNumber, replayKept, replayWords, replayAnswers, Freshens, Requests, Replays}
 
 -- three buffers, tested in turn
@@ -48,8 +50,8 @@ module _ (vs ws rs : List ℕ) where
   hasRoom-records h k = rw (le-leb 64 (length vs) h, le-leb 385 (length ws) k) refl
 
 pub holding-stored :
-    (site : Site) (threads : Threads) (b : Kept) (vs ws rs : List ℕ) → vs ≡ wordsIn (site .variables .at) (b .variables) → ws ≡ wordsIn (logWords site) (b .log) →
-    rs ≡ wordsIn (recordWords threads) (b .records) → keeps vs ws rs ≡ holding site threads b
+    (site : Site) (threads : Threads) (b : Kept) (vs ws rs : List ℕ) → vs ≡ placedIn (site .variables .at) (b .variables) → ws ≡ placedIn (logWords site) (b .log) →
+    rs ≡ placedIn (recordWords threads) (b .records) → keeps vs ws rs ≡ holding site threads b
 unfolding holding
 holding-stored site threads b vs ws rs x y z = rw (x, y, z) refl
 
@@ -120,7 +122,7 @@ module _ (file words : List ℕ) (b : Kept) (k : ℕ) (answer : List ℕ) (r : R
   pub request-answered :
       (r .number ≡ 0 → r ≡ readFile file) → r .number ≡ 0 → (after : After) →
       after ≡ afterOf (requestOf (r .model) (conflictMarks (r .model)) words (siteFrom (b .variables) (b .log)) (threadsFrom (b .records) .at) k) → (n : ℕ) (kept : Kept) (end : List ℕ) →
-      n ≡ numberOf (after .answer) → kept ≡ keptBy (after .answer) (after .site) (after .threads) b → end ≡ wordsIn (valuesOf (after .answer)) answer →
+      n ≡ numberOf (after .answer) → kept ≡ keptBy (after .answer) (after .site) (after .threads) b → end ≡ placedIn (valuesOf (after .answer)) answer →
       Requests file words b k answer n kept end
   unfolding requestNumber requestKept requestAnswer afterOf
   request-answered told h after e n kept end x y z =
@@ -130,14 +132,13 @@ module _ (file words : List ℕ) (b : Kept) (k : ℕ) (answer : List ℕ) (r : R
 
 -- an answer: a grant, written
 pub answer-granted :
-    (a : Answer) (answer end : List ℕ) (s : ℕ) (c : Cycle) → a ≡ Granted s c → end ≡ wordsIn (valuesOf (Granted s c)) answer →
-    (0 ≡ numberOf a) × (end ≡ wordsIn (valuesOf a) answer)
+    (a : Answer) (answer end : List ℕ) (s : ℕ) (c : Cycle) → a ≡ Granted s c → end ≡ placedIn (valuesOf (Granted s c)) answer →
+    (0 ≡ numberOf a) × (end ≡ placedIn (valuesOf a) answer)
 answer-granted a answer end s c e w = (rw e refl, rw e w)
 
 -- or a refusal, and nothing written
-pub answer-refused : (a : Answer) (answer : List ℕ) (n : ℕ) → a ≡ Refused n → (n ≡ numberOf a) × (answer ≡ wordsIn (valuesOf a) answer)
-unfolding wordsIn
-answer-refused a answer n e = (rw e refl, rw (e, le-leb 0 (length answer) (omega arith)) refl)
+pub answer-refused : (a : Answer) (answer : List ℕ) (n : ℕ) → a ≡ Refused n → (n ≡ numberOf a) × (answer ≡ placedIn (valuesOf a) answer)
+answer-refused a answer n e = (rw e refl, rw e (sym (placedIn-room [] answer (omega arith))))
 
 -- a whole list
 module _ (file words ks answers : List ℕ) (b : Kept) (room : Bool) (p : room ≡ hasRoom b) where

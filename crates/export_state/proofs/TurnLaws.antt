@@ -1,19 +1,45 @@
--- Words in turn, read by their index, and lists that are filled by an index.
+-- Words in turn: how many there are, stored one after the other, and read by their index; lists that are filled by an index.
 use Prim.Native.Nat.{ℕ, zero, suc, _+_, _*_, _≤_, _<_}
 use mathlib.Core.Path.{_≡_, refl, sym, ap, _∙_}
 use mathlib.Core.List.{List, [], _∷_, _++_, append-nil, append-assoc}
 use native.Mathlib.Omega.{arith}
 use native.Mathlib.Nat.{zero-add}
 use native.Mathlib.Numerals.{add-one}
-use lib.ListN.{length, getD, take, drop, List·getD-append, take-append-drop}
-use lib.Seq.{ext-getD, getD-append-add, drop-cons, take-add, length-take-le}
-use borrow.Author.Tests.{le-leb}
+use lib.ListN.{length, getD, take, drop, length-append, length-drop, List·getD-append}
+use lib.Seq.{sets, ext-getD, getD-append-add, getD-take, getD-drop, take-add, take-suc, length-take-le}
 use Rattle.base.specs.Index.{tabulate}
 use Rattle.base.proofs.IndexLaws.{tabulate-length, tabulate-at}
-use Rattle.export_state.specs.Numbers.{inTurn, wordsIn}
-use Rattle.export_state.proofs.WordLaws.{tabulate-more, inTurn-append}
+use Rattle.buffers.proofs.StoreLaws.{sets-more, tabulate-more}
+use Rattle.export_state.specs.Numbers.{inTurn}
 
 module _ {A : Type 0} where
+  -- a run of w stores for each element of a list
+  pub inTurn-append : (f : A → List ℕ) (xs ys : List A) → inTurn f (xs ++ ys) ≡ inTurn f xs ++ inTurn f ys
+  unfolding inTurn
+  inTurn-append f [] ys = refl
+  inTurn-append f (x ∷ xs) ys = rw (inTurn-append f xs ys) (sym (append-assoc (f x) (inTurn f xs) (inTurn f ys)))
+
+  pub inTurn-more : (f : A → List ℕ) (xs : List A) (i : ℕ) (d : A) → i < length xs → inTurn f (take (i + 1) xs) ≡ inTurn f (take i xs) ++ f (getD xs i d)
+  unfolding inTurn
+  inTurn-more f xs i d h = rw (add-one, take-suc xs i d h, inTurn-append f (take i xs) (getD xs i d ∷ []), append-nil) refl
+
+  pub inTurn-length : (f : A → List ℕ) (w : ℕ) → ((x : A) → length (f x) ≡ w) → (xs : List A) → length (inTurn f xs) ≡ w * length xs
+  unfolding inTurn
+  inTurn-length f w h [] = omega arith
+  inTurn-length f w h (x ∷ xs) = rw (length-append (f x) (inTurn f xs), h x, inTurn-length f w h xs) (omega arith)
+
+  pub inTurn-none : (f : A → List ℕ) (xs : List A) (l : List ℕ) (s : ℕ) → l ≡ sets l s (inTurn f (take 0 xs))
+  unfolding inTurn
+  inTurn-none f xs l s = refl
+
+  pub inTurn-stored :
+      (f : A → List ℕ) (w : ℕ) → ((x : A) → length (f x) ≡ w) → (xs : List A) (l out : List ℕ) (s i n : ℕ) (d : A) → i < length xs →
+      out ≡ sets l s (inTurn f (take i xs)) → n ≡ s + w * i → sets out n (f (getD xs i d)) ≡ sets l s (inTurn f (take (i + 1) xs))
+  inTurn-stored f w size xs l out s i n d h e p =
+      let k : length (take i xs) ≡ i = length-take-le i xs (omega arith) in
+      let q : length (inTurn f (take i xs)) ≡ w * i = inTurn-length f w size (take i xs) ∙ ap (λ (j : ℕ). w * j) k in
+      rw (inTurn-more f xs i d h) (sets-more (inTurn f (take i xs)) (f (getD xs i d)) l out s n e (omega arith))
+
   -- a list by its elements
   pub tabulate-same : (d : A) (xs : List A) (n : ℕ) (f : ℕ → A) → length xs ≡ n → ((i : ℕ) → i < n → f i ≡ getD xs i d) → tabulate n 0 f ≡ xs
   tabulate-same d xs n f size h =
@@ -48,28 +74,8 @@ module _ {A : Type 0} where
       let e : w * suc n ≡ w * n + w = omega arith in
       rw (t, e, inTurn-append f (tabulate n 0 g) (g n ∷ []), inTurn-take f w n g ws (λ i k. h i (omega arith)), append-nil, take-add) (ap (λ (r : List ℕ). take (w * n) ws ++ r) (h n (omega arith)))
 
--- a buffer with room: the words, then what stood there
-pub wordsIn-room : (ws out : List ℕ) → length ws ≤ length out → wordsIn ws out ≡ ws ++ drop (length ws) out
-unfolding wordsIn
-wordsIn-room ws out h = rw (le-leb (length ws) (length out) h) refl
-
--- the words that stood there already
-pub wordsIn-same : (ws out : List ℕ) (n : ℕ) → n ≤ length out → ws ≡ take n out → wordsIn ws out ≡ out
-wordsIn-same ws out n h e =
-    let k : length ws ≡ n = ap length e ∙ length-take-le n out h in
-    wordsIn-room ws out (omega arith) ∙ rw (k, e) (take-append-drop n out)
-
--- three words, and five
-pub take-three : (ws : List ℕ) (n : ℕ) → n + 3 ≤ length ws → take 3 (drop n ws) ≡ getD ws n 0 ∷ getD ws (n + 1) 0 ∷ getD ws (n + 2) 0 ∷ []
-take-three ws n h =
-    let e : n + 2 ≡ suc (suc n) = omega arith in
-    rw (drop-cons ws n 0 (omega arith), drop-cons ws (suc n) 0 (omega arith), drop-cons ws (suc (suc n)) 0 (omega arith), add-one n, e) refl
-
-pub take-five :
-    (ws : List ℕ) (n : ℕ) → n + 5 ≤ length ws →
-    take 5 (drop n ws) ≡ getD ws n 0 ∷ getD ws (n + 1) 0 ∷ getD ws (n + 2) 0 ∷ getD ws (n + 3) 0 ∷ getD ws (n + 4) 0 ∷ []
-take-five ws n h =
-    let e : n + 2 ≡ suc (suc n) = omega arith in
-    let f : n + 3 ≡ suc (suc (suc n)) = omega arith in
-    let g : n + 4 ≡ suc (suc (suc (suc n))) = omega arith in
-    rw (drop-cons ws n 0 (omega arith), drop-cons ws (suc n) 0 (omega arith), drop-cons ws (suc (suc n)) 0 (omega arith), drop-cons ws (suc (suc (suc n))) 0 (omega arith), drop-cons ws (suc (suc (suc (suc n)))) 0 (omega arith), add-one n, e, f, g) refl
+-- so many words from a place on
+pub take-words : (ws : List ℕ) (n w : ℕ) → n + w ≤ length ws → take w (drop n ws) ≡ tabulate w 0 (λ j. getD ws (n + j) 0)
+take-words ws n w h =
+    let l : length (take w (drop n ws)) ≡ w = length-take-le w (drop n ws) (omega (arith, length-drop n ws)) in
+    sym (tabulate-same 0 (take w (drop n ws)) w (λ j. getD ws (n + j) 0) l (λ i k. sym (getD-take w (drop n ws) i 0 k ∙ getD-drop n ws i 0)))

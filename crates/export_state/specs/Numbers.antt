@@ -4,7 +4,7 @@ use Prim.Native.Nat.{ℕ, _+_, _*_, _%_, _^_}
 use mathlib.Core.Bool.{Bool, cond, not, _&&_}
 use mathlib.Core.List.{List, [], _∷_, _++_}
 use lib.Dec.{ltb, leb, eqb}
-use lib.ListN.{length, getD, drop}
+use lib.ListN.{length, getD}
 use Rattle.base.specs.Index.{anyBelow, tabulate}
 use Rattle.clock.specs.declared.Cycle.{Cycle}
 use Rattle.clock.specs.Cycle.{cycleAt}
@@ -42,10 +42,6 @@ logWords s = s .count ∷ inTurn pairWords (s .log)
 
 unfoldable pub recordWords : Threads → List ℕ
 recordWords x = inTurn threadWords (x .at)
-
--- a buffer with words at its front, followed by what stood there; as it was where they do not fit
-unfoldable pub wordsIn : List ℕ → List ℕ → List ℕ
-wordsIn ws out = cond (leb (length ws) (length out)) (ws ++ drop (length ws) out) out
 
 -- what is read: the place numbered i of a log, an event modulo 2 ^ 8 and a delta modulo 2 ^ 32
 unfoldable pub pairAt : List ℕ → ℕ → Notification

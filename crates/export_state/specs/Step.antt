@@ -12,13 +12,14 @@ use Rattle.model.specs.Rules.{unless}
 use Rattle.reader.specs.File.{readFile}
 use Rattle.tables.specs.Outcome.{conflictMarks}
 use Rattle.plain.specs.Start.{freshThreads}
+use Rattle.buffers.specs.Write.{placedIn}
 use Rattle.early.specs.declared.Site.{Site}
 use Rattle.early.specs.declared.Answer.{Answer}
 use Rattle.early.specs.declared.Answer.the-variants.{Granted, Refused}
 use Rattle.early.specs.Answer.{numberOf, valuesOf}
 use Rattle.early.specs.Request.{Requested, requestOf, freshSite}
 use Rattle.replay.specs.Replay.{replayedOf, wordsAfter, answersAfter}
-use Rattle.export_state.specs.Numbers.{logWords, recordWords, wordsIn, siteFrom, threadsFrom, areHeld}
+use Rattle.export_state.specs.Numbers.{logWords, recordWords, siteFrom, threadsFrom, areHeld}
 
 -- the buffers of a state
 pub record Kept : Type 0 where
@@ -36,7 +37,7 @@ hasRoom b = leb 64 (length (b .variables)) && (leb 385 (length (b .log)) && leb 
 -- the buffers with a state and its records in them
 unfoldable pub holding : Site → Threads → Kept → Kept
 holding site threads b =
-    keeps (wordsIn (site .variables .at) (b .variables)) (wordsIn (logWords site) (b .log)) (wordsIn (recordWords threads) (b .records))
+    keeps (placedIn (site .variables .at) (b .variables)) (placedIn (logWords site) (b .log)) (placedIn (recordWords threads) (b .records))
 
 -- fresh: the file's number, then 11 for a short buffer
 unfoldable pub freshNumber : List ℕ → Kept → ℕ
@@ -72,7 +73,7 @@ requestKept file words b k answer =
 -- segment, time and delta of a grant
 unfoldable pub requestAnswer : List ℕ → List ℕ → Kept → ℕ → List ℕ → List ℕ
 requestAnswer file words b k answer =
-    cond (eqb (askedNumber file b answer) accepted) (wordsIn (valuesOf (requestBy file words b k .answer)) answer) answer
+    cond (eqb (askedNumber file b answer) accepted) (placedIn (valuesOf (requestBy file words b k .answer)) answer) answer
 
 -- a whole list of requests from the fresh state on: 11 for a short buffer of the state, then replay's number
 unfoldable pub replayNumber : List ℕ → List ℕ → List ℕ → List ℕ → Kept → ℕ

@@ -15,66 +15,36 @@ use model::Variables;
 use reader::Read;
 ghost use Prim.Native.Nat.{_+_, _<_, _≤_, _%_, _^_};
 ghost use mathlib.Core.Path.{_≡_};
+ghost use mathlib.Core.Bool.{_&&_};
 ghost use mathlib.Core.List.{[], _∷_};
+ghost use lib.Dec.{leb};
 ghost use lib.ListN.{length, getD};
 ghost use lib.Seq.{sets};
 ghost use Rattle.base.specs.Index.{tabulate, orElse};
 ghost use Rattle.clock.specs.Cycle.{cycleAt};
-ghost use Rattle.model.specs.Record.{cycleOf};
-ghost use Rattle.early.specs.Answer.{valuesOf, numberOf};
-ghost use Rattle.export_state.specs.Numbers.{pairWords, recordOf, threadWords, inTurn, logWords, recordWords, wordsIn, pairAt, stateFrom, threadFrom, variablesFrom, siteFrom, threadsFrom, isPairHeld, isEventHeld, isRecordHeld, isLogHeld, areRecordsHeld, areHeld};
-ghost use mathlib.Core.Bool.{_&&_};
-ghost use lib.Dec.{leb};
 ghost use Rattle.model.specs.Refusal.{unfit};
 ghost use Rattle.model.specs.Rules.{unless};
 ghost use Rattle.reader.specs.File.{readFile};
 ghost use Rattle.tables.specs.Outcome.{conflictMarks};
+ghost use Rattle.buffers.specs.Write.{placedIn};
+ghost use Rattle.early.specs.Answer.{valuesOf, numberOf};
 ghost use Rattle.early.specs.Request.{requestOf};
 ghost use Rattle.early_request.specs.After.{afterOf};
 ghost use Rattle.early_request.specs.Fresh.{freshOf};
+ghost use Rattle.export_state.specs.Numbers.{pairWords, threadWords, inTurn, logWords, recordWords, pairAt, stateFrom, threadFrom, variablesFrom, siteFrom, threadsFrom, isPairHeld, isEventHeld, isRecordHeld, isLogHeld, areRecordsHeld, areHeld};
 ghost use Rattle.export_state.specs.Step.{keeps, hasRoom, holding, keptBy, Freshens, Requests, Replays};
 
-fn long_byte(x: u8) -> u64
-    ensures { λ r. ⌜ r ≡ x ⌝ }
-{
-    x as u64
-}
-
-fn long_word(x: u32) -> u64
-    ensures { λ r. ⌜ r ≡ x ⌝ }
-{
-    x as u64
-}
-
-// A word, 0 past the end.
-fn word_at(words: &[u64], i: usize) -> u64
-    ensures { λ r. ⌜ r ≡ getD (now (words .entry)) i 0 ⌝ }
-{
-    if i < words.len() {
-        return words[i];
-    }
-    0
-}
-
-fn value_at(values: &[u32], i: usize) -> u32
-    ensures { λ r. ⌜ r ≡ getD (now (values .entry)) i 0 ⌝ }
-{
-    if i < values.len() {
-        return values[i];
-    }
-    0
-}
-
+// A word modulo 2 ^ 8, and modulo 2 ^ 32.
 fn byte_at(words: &[u64], i: usize) -> u8
     ensures { λ r. ⌜ r ≡ getD (now (words .entry)) i 0 % 2 ^ 8 ⌝ }
 {
-    (word_at(words, i) % 256) as u8
+    (buffers::word_at(words, i) % 256) as u8
 }
 
 fn delta_at(words: &[u64], i: usize) -> u32
     ensures { λ r. ⌜ r ≡ getD (now (words .entry)) i 0 % 2 ^ 32 ⌝ }
 {
-    (word_at(words, i) % 4294967296) as u32
+    (buffers::word_at(words, i) % 4294967296) as u32
 }
 
 // A time and a delta.
@@ -82,7 +52,7 @@ fn cycle_at(words: &[u64], time: usize, delta: usize) -> Cycle
     ensures { λ r. ⌜ r ≡ cycleAt (getD (now (words .entry)) time 0) (getD (now (words .entry)) delta 0 % 2 ^ 32) ⌝ }
 {
     Cycle {
-        time: Time(word_at(words, time)),
+        time: Time(buffers::word_at(words, time)),
         delta: Delta(delta_at(words, delta)),
     }
 }
@@ -125,7 +95,7 @@ fn thread_from(records: &[u64], k: usize) -> Thread
     let c = cycle_at(records, p + 3, p + 4);
     Thread {
         segment: byte_at(records, p),
-        state: state_from(word_at(records, p + 1), event, c),
+        state: state_from(buffers::word_at(records, p + 1), event, c),
     }
 }
 
@@ -135,7 +105,7 @@ fn variables_from(values: &[u32]) -> Variables
     let mut at = [0u32; 64];
     let mut i = 0;
     while i < 64 {
-        at[i] = value_at(values, i);
+        at[i] = buffers::value_at(values, i);
         i += 1;
     }
     Variables { at }
@@ -179,19 +149,29 @@ pub fn threads_from(records: &[u64]) -> Threads
 fn cycle_words(x: u8, c: Cycle) -> [u64; 3]
     ensures { λ r. ⌜ r ≡ x ∷ c .time .0 ∷ c .delta .0 ∷ [] ⌝ }
 {
-    [long_byte(x), c.time.0, long_word(c.delta.0)]
+    [
+        buffers::long_byte(x),
+        c.time.0,
+        buffers::long_word(c.delta.0),
+    ]
 }
 
 fn thread_words(x: Thread) -> [u64; 5]
     ensures { λ r. ⌜ r ≡ threadWords x ⌝ }
 {
-    let first = long_byte(x.segment);
+    let first = buffers::long_byte(x.segment);
     let s = x.state;
     match s {
-        State::Ended(c) => [first, 0, 0, c.time.0, long_word(c.delta.0)],
-        State::Overrun(c) => [first, 1, 0, c.time.0, long_word(c.delta.0)],
-        State::Ready(c) => [first, 2, 0, c.time.0, long_word(c.delta.0)],
-        State::Waiting(e, c) => [first, 3, long_byte(e), c.time.0, long_word(c.delta.0)],
+        State::Ended(c) => [first, 0, 0, c.time.0, buffers::long_word(c.delta.0)],
+        State::Overrun(c) => [first, 1, 0, c.time.0, buffers::long_word(c.delta.0)],
+        State::Ready(c) => [first, 2, 0, c.time.0, buffers::long_word(c.delta.0)],
+        State::Waiting(e, c) => [
+            first,
+            3,
+            buffers::long_byte(e),
+            c.time.0,
+            buffers::long_word(c.delta.0),
+        ],
     }
 }
 
@@ -208,7 +188,7 @@ fn put_words(out: &mut [u64], at: usize, words: &[u64])
 }
 
 fn variables_into(values: Variables, out: &mut [u32])
-    ensures { λ _. ⌜ now (out .exit) ≡ wordsIn (values .at) (now (out .entry)) ⌝ }
+    ensures { λ _. ⌜ now (out .exit) ≡ placedIn (values .at) (now (out .entry)) ⌝ }
 {
     if out.len() < 64 {
         return;
@@ -235,26 +215,26 @@ fn put_places(places: [Notification; 128], out: &mut [u64])
 }
 
 fn log_into(site: Site, out: &mut [u64])
-    ensures { λ _. ⌜ now (out .exit) ≡ wordsIn (logWords site) (now (out .entry)) ⌝ }
+    ensures { λ _. ⌜ now (out .exit) ≡ placedIn (logWords site) (now (out .entry)) ⌝ }
 {
     if out.len() < 385 {
         return;
     }
     let places = site.log;
-    out[0] = long_byte(site.count);
+    out[0] = buffers::long_byte(site.count);
     put_places(places, out);
 }
 
 pub fn site_into(site: Site, variables: &mut [u32], log: &mut [u64])
-    ensures values { λ _. ⌜ now (variables .exit) ≡ wordsIn (site .variables .at) (now (variables .entry)) ⌝ }
-    ensures words { λ _. ⌜ now (log .exit) ≡ wordsIn (logWords site) (now (log .entry)) ⌝ }
+    ensures values { λ _. ⌜ now (variables .exit) ≡ placedIn (site .variables .at) (now (variables .entry)) ⌝ }
+    ensures words { λ _. ⌜ now (log .exit) ≡ placedIn (logWords site) (now (log .entry)) ⌝ }
 {
     variables_into(site.variables, variables);
     log_into(site, log);
 }
 
 pub fn threads_into(threads: Threads, records: &mut [u64])
-    ensures { λ _. ⌜ now (records .exit) ≡ wordsIn (recordWords threads) (now (records .entry)) ⌝ }
+    ensures { λ _. ⌜ now (records .exit) ≡ placedIn (recordWords threads) (now (records .entry)) ⌝ }
 {
     if records.len() < 160 {
         return;
@@ -267,9 +247,23 @@ pub fn threads_into(threads: Threads, records: &mut [u64])
     }
 }
 
+// A state and its records in the caller's buffers.
+fn put_state(
+    site: Site,
+    threads: Threads,
+    variables: &mut [u32],
+    log: &mut [u64],
+    records: &mut [u64],
+)
+    ensures { λ _. ⌜ keeps (now (variables .exit)) (now (log .exit)) (now (records .exit)) ≡ holding site threads (keeps (now (variables .entry)) (now (log .entry)) (now (records .entry))) ⌝ }
+{
+    site_into(site, variables, log);
+    threads_into(threads, records);
+}
+
 // Segment, time and delta of a grant.
 pub fn grant_into(s: u8, c: Cycle, answer: &mut [u64])
-    ensures { λ _. ⌜ now (answer .exit) ≡ wordsIn (valuesOf (Answer.Granted s c)) (now (answer .entry)) ⌝ }
+    ensures { λ _. ⌜ now (answer .exit) ≡ placedIn (valuesOf (Answer.Granted s c)) (now (answer .entry)) ⌝ }
 {
     if answer.len() < 3 {
         return;
@@ -278,13 +272,40 @@ pub fn grant_into(s: u8, c: Cycle, answer: &mut [u64])
     put_words(answer, 0, &words);
 }
 
+// The number of an answer, with segment, time and delta of a grant.
+fn put_answer(a: Answer, answer: &mut [u64]) -> u8
+    ensures number { λ r. ⌜ r ≡ numberOf a ⌝ }
+    ensures words { λ _. ⌜ now (answer .exit) ≡ placedIn (valuesOf a) (now (answer .entry)) ⌝ }
+{
+    match a {
+        Answer::Granted(s, c) => {
+            grant_into(s, c, answer);
+            0
+        }
+        Answer::Refused(n) => n,
+    }
+}
+
+// Whether the buffers of a state are long enough.
+fn has_room(variables: &[u32], log: &[u64], records: &[u64]) -> bool
+    ensures { λ r. ⌜ r ≡ hasRoom (keeps (now (variables .entry)) (now (log .entry)) (now (records .entry))) ⌝ }
+{
+    if variables.len() < 64 {
+        return false;
+    }
+    if log.len() < 385 {
+        return false;
+    }
+    160 <= records.len()
+}
+
 fn is_pair_held(log: &[u64], i: usize) -> bool
     requires { ⌜ i < 128 ⌝ }
     ensures { λ r. ⌜ r ≡ isPairHeld (now (log .entry)) i ⌝ }
 {
     let p = 3 * i;
-    if word_at(log, p + 1) < 256 {
-        return word_at(log, p + 3) < 4294967296;
+    if buffers::word_at(log, p + 1) < 256 {
+        return buffers::word_at(log, p + 3) < 4294967296;
     }
     false
 }
@@ -304,15 +325,15 @@ fn is_record_held(records: &[u64], k: usize) -> bool
     ensures { λ r. ⌜ r ≡ isRecordHeld (now (records .entry)) k ⌝ }
 {
     let p = 5 * k;
-    let number = word_at(records, p + 1);
-    if word_at(records, p) >= 256 {
+    let number = buffers::word_at(records, p + 1);
+    if buffers::word_at(records, p) >= 256 {
         return false;
     }
     if number >= 4 {
         return false;
     }
-    if is_event_held(number, word_at(records, p + 2)) {
-        return word_at(records, p + 4) < 4294967296;
+    if is_event_held(number, buffers::word_at(records, p + 2)) {
+        return buffers::word_at(records, p + 4) < 4294967296;
     }
     false
 }
@@ -365,31 +386,14 @@ pub fn are_held(variables: &[u32], log: &[u64], records: &[u64]) -> bool
     false
 }
 
-// Whether the buffers of a state are long enough.
-fn has_room(variables: &[u32], log: &[u64], records: &[u64]) -> bool
-    ensures { λ r. ⌜ r ≡ hasRoom (keeps (now (variables .entry)) (now (log .entry)) (now (records .entry))) ⌝ }
+// Whether the numbers are those of a state, and the answer has room.
+fn may_ask(variables: &[u32], log: &[u64], records: &[u64], answer: &[u64]) -> bool
+    ensures { λ r. ⌜ r ≡ areHeld (now (variables .entry)) (now (log .entry)) (now (records .entry)) && leb 3 (length (now (answer .entry))) ⌝ }
 {
-    if variables.len() < 64 {
-        return false;
+    if are_held(variables, log, records) {
+        return 3 <= answer.len();
     }
-    if log.len() < 385 {
-        return false;
-    }
-    160 <= records.len()
-}
-
-// A state and its records in the caller's buffers.
-fn put_state(
-    site: Site,
-    threads: Threads,
-    variables: &mut [u32],
-    log: &mut [u64],
-    records: &mut [u64],
-)
-    ensures { λ _. ⌜ keeps (now (variables .exit)) (now (log .exit)) (now (records .exit)) ≡ holding site threads (keeps (now (variables .entry)) (now (log .entry)) (now (records .entry))) ⌝ }
-{
-    site_into(site, variables, log);
-    threads_into(threads, records);
+    false
 }
 
 // The file, with 11 where it is accepted and what the caller keeps is not fit.
@@ -427,16 +431,6 @@ pub fn fresh_into(file: &[u8], variables: &mut [u32], log: &mut [u64], records: 
     0
 }
 
-// Whether the numbers are those of a state, and the answer has room.
-fn may_ask(variables: &[u32], log: &[u64], records: &[u64], answer: &[u64]) -> bool
-    ensures { λ r. ⌜ r ≡ areHeld (now (variables .entry)) (now (log .entry)) (now (records .entry)) && leb 3 (length (now (answer .entry))) ⌝ }
-{
-    if are_held(variables, log, records) {
-        return 3 <= answer.len();
-    }
-    false
-}
-
 // A request on the state that the numbers say.
 fn request_on(
     read: Read,
@@ -463,20 +457,6 @@ fn put_after(after: After, variables: &mut [u32], log: &mut [u64], records: &mut
     match a {
         Answer::Granted(_, _) => put_state(after.site, after.threads, variables, log, records),
         Answer::Refused(_) => {}
-    }
-}
-
-// The number of an answer, with segment, time and delta of a grant.
-fn put_answer(a: Answer, answer: &mut [u64]) -> u8
-    ensures number { λ r. ⌜ r ≡ numberOf a ⌝ }
-    ensures words { λ _. ⌜ now (answer .exit) ≡ wordsIn (valuesOf a) (now (answer .entry)) ⌝ }
-{
-    match a {
-        Answer::Granted(s, c) => {
-            grant_into(s, c, answer);
-            0
-        }
-        Answer::Refused(n) => n,
     }
 }
 

@@ -2,7 +2,7 @@
 ghost use mathlib.Core.Path.{_≡_};
 ghost use Rattle.reader.specs.File.{readFile};
 ghost use Rattle.reader_load.specs.Load.{loadOf, loadBuffer};
-ghost use Rattle.sheet.specs.Sheet.{sheetIn, bytesIn};
+ghost use Rattle.buffers.specs.Write.{Writes};
 ghost use Rattle.sheet_file.specs.Report.{printed};
 ghost use Rattle.export_state.specs.Step.{keeps, Freshens, Requests, Replays};
 
@@ -27,8 +27,7 @@ pub extern "C" fn teaselauger_load(file: &[u8], words: &mut [u64]) -> u8
 // The sheet of a file's plain run with a budget, or the line of its refusal: how many bytes of the buffer it takes. A buffer that is too short stays, and the answer is 0.
 #[no_mangle]
 pub extern "C" fn teaselauger_sheet(file: &[u8], budget: u64, out: &mut [u8]) -> usize
-    ensures { λ r. ⌜ r ≡ bytesIn (printed budget (now (file .entry))) (now (out .entry)) ⌝ }
-    ensures { λ _. ⌜ now (out .exit) ≡ sheetIn (printed budget (now (file .entry))) (now (out .entry)) ⌝ }
+    ensures { λ r. ⌜ Writes (now (out .entry)) (now (out .exit)) r (printed budget (now (file .entry))) ⌝ }
 {
     sheet_file::plain_sheet(file, budget, out)
 }

@@ -1,15 +1,14 @@
 // Document 01, "Cases": "The program reads the file on standard input, at most its first 65,536 bytes, and prints exactly" the sheet.
 use libc::STDIN_FILENO;
 use libc::STDOUT_FILENO;
-ghost use mathlib.Core.Path.{_≡_};
 ghost use Rattle.io.specs.Counts.{Counts};
-ghost use Rattle.sheet.specs.Sheet.{sheetIn, bytesIn};
+ghost use Rattle.buffers.specs.Write.{Writes};
 ghost use Rattle.sheet_file.specs.Report.{printed};
 ghost use Rattle.plainrun.specs.Program.{budget};
 
 // What the program prints of a file, at the front of out; how many bytes. Only reading and writing are outside of this.
 fn answer(file: &[u8], out: &mut [u8]) -> usize
-    ensures { λ r. ⌜ (r ≡ bytesIn (printed budget (now (file .entry))) (now (out .entry))) × (now (out .exit) ≡ sheetIn (printed budget (now (file .entry))) (now (out .entry))) ⌝ }
+    ensures { λ r. ⌜ Writes (now (out .entry)) (now (out .exit)) r (printed budget (now (file .entry))) ⌝ }
     ensures { λ r. ⌜ Counts r (now (out .exit)) ⌝ }
 {
     sheet_file::plain_sheet(file, 1000000, out)

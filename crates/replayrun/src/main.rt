@@ -2,14 +2,13 @@
 // Prints the transcript of the replay, and nothing else.
 use libc::STDIN_FILENO;
 use libc::STDOUT_FILENO;
-ghost use mathlib.Core.Path.{_≡_};
 ghost use Rattle.io.specs.Counts.{Counts};
-ghost use Rattle.sheet.specs.Sheet.{sheetIn, bytesIn};
-ghost use Rattle.transcript_print.specs.Playback.{replayText};
+ghost use Rattle.buffers.specs.Write.{Writes};
+ghost use Rattle.transcript_print.specs.Text.{replayText};
 
 // What the program prints of a file and labels, at the front of out; how many bytes. Only reading and writing are outside of this.
 fn answer(file: &[u8], labels: &[u64], out: &mut [u8]) -> usize
-    ensures { λ r. ⌜ (r ≡ bytesIn (replayText (now (file .entry)) (now (labels .entry))) (now (out .entry))) × (now (out .exit) ≡ sheetIn (replayText (now (file .entry)) (now (labels .entry))) (now (out .entry))) ⌝ }
+    ensures { λ r. ⌜ Writes (now (out .entry)) (now (out .exit)) r (replayText (now (file .entry)) (now (labels .entry))) ⌝ }
     ensures { λ r. ⌜ Counts r (now (out .exit)) ⌝ }
 {
     transcript_print::replay_text(file, labels, out)

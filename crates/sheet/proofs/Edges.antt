@@ -9,8 +9,7 @@ use Rattle.model.specs.declared.State.{State}
 use Rattle.model.specs.declared.State.the-variants.{Ended, Overrun, Ready, Waiting}
 use Rattle.model.specs.declared.Thread.{Thread}
 use Rattle.plain.specs.declared.PlainRun.{PlainRun}
-use Rattle.sheet.specs.Digits.{digitsOf}
-use Rattle.sheet.specs.Sheet.{vLine, tLine, nLine, spentLine, refusedLine, sheetOf, sheetIn, bytesIn}
+use Rattle.sheet.specs.Sheet.{vLine, tLine, nLine, spentLine, refusedLine, sheetOf}
 use Rattle.sheet.proofs.Computed.{computed}
 
 abbrev thread : ℕ → State → Thread
@@ -20,18 +19,6 @@ thread s x = record { segment = s; state = x }
 abbrev run : ℕ → List ℕ → List Thread → ℕ → Bool → PlainRun
 run number xs ts n spent =
     record { number = number; variables = record { at = xs }; threads = record { at = ts }; n = n; spent = spent }
-
--- `0`, `9`, `10`, `99`, `100`, and the largest numbers of 32 and of 64 bits: one digit below 10, two from 10 on, no zero in front
-pub digitsOf-edges :
-    (digitsOf 0 ≡ 48 ∷ []) ×
-    (digitsOf 9 ≡ 57 ∷ []) ×
-    (digitsOf 10 ≡ 49 ∷ 48 ∷ []) ×
-    (digitsOf 99 ≡ 57 ∷ 57 ∷ []) ×
-    (digitsOf 100 ≡ 49 ∷ 48 ∷ 48 ∷ []) ×
-    (digitsOf 4294967295 ≡ 52 ∷ 50 ∷ 57 ∷ 52 ∷ 57 ∷ 54 ∷ 55 ∷ 50 ∷ 57 ∷ 53 ∷ []) ×
-    (digitsOf 18446744073709551615 ≡ 49 ∷ 56 ∷ 52 ∷ 52 ∷ 54 ∷ 55 ∷ 52 ∷ 52 ∷ 48 ∷ 55 ∷ 51 ∷ 55 ∷ 48 ∷ 57 ∷ 53 ∷ 53 ∷ 49 ∷ 54 ∷ 49 ∷ 53 ∷ [])
-unfolding computed
-digitsOf-edges = (refl, refl, refl, refl, refl, refl, refl)
 
 -- "v: variable, value.": `v 1 126`, `v 63 4294967295`
 pub vLine-edges :
@@ -104,18 +91,3 @@ pub sheetOf-places :
     (length (sheetOf 0 33 (run 0 [] [] 0 false)) ≡ 538)
 unfolding computed
 sheetOf-places = (refl, refl, refl, refl, refl, refl)
-
--- a text of two bytes in buffers of one, two and three bytes: as it was, filled, followed by what stood there
-pub sheetIn-edges :
-    (sheetIn (7 ∷ 8 ∷ []) (1 ∷ []) ≡ 1 ∷ []) ×
-    (sheetIn (7 ∷ 8 ∷ []) (1 ∷ 2 ∷ []) ≡ 7 ∷ 8 ∷ []) ×
-    (sheetIn (7 ∷ 8 ∷ []) (1 ∷ 2 ∷ 3 ∷ []) ≡ 7 ∷ 8 ∷ 3 ∷ [])
-unfolding computed
-sheetIn-edges = (refl, refl, refl)
-
-pub bytesIn-edges :
-    (bytesIn (7 ∷ 8 ∷ []) (1 ∷ []) ≡ 0) ×
-    (bytesIn (7 ∷ 8 ∷ []) (1 ∷ 2 ∷ []) ≡ 2) ×
-    (bytesIn (7 ∷ 8 ∷ []) (1 ∷ 2 ∷ 3 ∷ []) ≡ 2)
-unfolding computed
-bytesIn-edges = (refl, refl, refl)

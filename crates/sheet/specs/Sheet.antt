@@ -2,8 +2,8 @@
 use Prim.Native.Nat.{ℕ, zero, suc, min}
 use mathlib.Core.Bool.{Bool, true, false, cond}
 use mathlib.Core.List.{List, [], _∷_, _++_}
-use lib.Dec.{leb, eqb}
-use lib.ListN.{length, drop, getD}
+use lib.Dec.{eqb}
+use lib.ListN.{getD}
 use Rattle.clock.specs.declared.Cycle.{Cycle}
 use Rattle.model.specs.declared.State.{State}
 use Rattle.model.specs.declared.State.the-variants.{Ended, Overrun, Ready, Waiting}
@@ -11,15 +11,8 @@ use Rattle.model.specs.declared.Thread.{Thread}
 use Rattle.model.specs.Refusal.{accepted}
 use Rattle.model.specs.Record.{threadAt}
 use Rattle.plain.specs.declared.PlainRun.{PlainRun}
-use Rattle.sheet.specs.Digits.{digitsOf}
-
--- after a line's first word: one space before each further word, one line feed at the end
-unfoldable pub restOf : List (List ℕ) → List ℕ
-restOf [] = 10 ∷ []
-restOf (w ∷ ws) = 32 ∷ (w ++ restOf ws)
-
-abbrev pub lineOf : List ℕ → List (List ℕ) → List ℕ
-lineOf w ws = w ++ restOf ws
+use Rattle.buffers.specs.Digits.{digitsOf}
+use Rattle.buffers.specs.Line.{lineOf}
 
 -- a cycle: its time, its delta
 unfoldable pub cycleWords : Cycle → List (List ℕ)
@@ -70,14 +63,6 @@ runSheet v t run =
 
 unfoldable pub sheetOf : ℕ → ℕ → PlainRun → List ℕ
 sheetOf v t run = cond (eqb (run .number) accepted) (runSheet v t run) (refusedLine (run .number))
-
--- a buffer with a text at its front, followed by what stood there; as it was where the text does not fit
-unfoldable pub sheetIn : List ℕ → List ℕ → List ℕ
-sheetIn text out = cond (leb (length text) (length out)) (text ++ drop (length text) out) out
-
--- how many bytes of it are the text: 0 where the text does not fit
-unfoldable pub bytesIn : List ℕ → List ℕ → ℕ
-bytesIn text out = cond (leb (length text) (length out)) (length text) 0
 
 -- how many bytes a sheet has at most: 64 lines of 44, 32 of 112, and the last two, with 20 digits for each number
 abbrev pub longestSheet : ℕ

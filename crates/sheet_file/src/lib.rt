@@ -1,13 +1,13 @@
 // Document 01, "Cases": the sheet of a file's plain run, as bytes.
 ghost use Prim.Native.Nat.{_≤_};
-ghost use mathlib.Core.Path.{_≡_};
 ghost use lib.ListN.{length};
-ghost use Rattle.sheet.specs.Sheet.{sheetIn, bytesIn, longestSheet};
+ghost use Rattle.buffers.specs.Write.{Writes};
+ghost use Rattle.sheet.specs.Sheet.{longestSheet};
 ghost use Rattle.sheet_file.specs.Report.{printed};
 
 // What is printed of a file's plain run with a budget, at the front of out; how many bytes. A buffer that is too short stays, and the answer is 0.
 pub fn plain_sheet(file: &[u8], budget: u64, out: &mut [u8]) -> usize
-    ensures { λ r. ⌜ (r ≡ bytesIn (printed budget (now (file .entry))) (now (out .entry))) × (now (out .exit) ≡ sheetIn (printed budget (now (file .entry))) (now (out .entry))) ⌝ }
+    ensures { λ r. ⌜ Writes (now (out .entry)) (now (out .exit)) r (printed budget (now (file .entry))) ⌝ }
     ensures { λ _. ⌜ length (printed budget (now (file .entry))) ≤ longestSheet ⌝ }
 {
     let read = reader_file::read_file(file);

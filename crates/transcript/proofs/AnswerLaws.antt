@@ -6,7 +6,7 @@ use mathlib.Core.List.{List, [], _∷_}
 use lib.ListN.{getD}
 use borrow.Author.Tests.{ne-eqb}
 use Rattle.clock.specs.declared.Cycle.{Cycle}
-use Rattle.sheet.specs.Digits.{digitsOf}
+use Rattle.buffers.specs.Digits.{digitsOf}
 use Rattle.sheet.specs.Sheet.{cycleWords}
 use Rattle.early.specs.declared.Answer.{Answer}
 use Rattle.early.specs.declared.Answer.the-variants.{Granted, Refused}

@@ -8,8 +8,9 @@ use lib.ListN.{length, getD}
 use Rattle.clock.specs.Cycle.{cycleAt}
 use Rattle.model.specs.declared.Thread.{Thread}
 use Rattle.model.specs.Refusal.{accepted, unfit}
-use Rattle.sheet.specs.Digits.{digitsOf}
-use Rattle.sheet.specs.Sheet.{lineOf, cycleWords, vLines, tLines, refusedLine}
+use Rattle.buffers.specs.Digits.{digitsOf}
+use Rattle.buffers.specs.Line.{lineOf}
+use Rattle.sheet.specs.Sheet.{cycleWords, vLines, tLines, refusedLine}
 use Rattle.early.specs.declared.Notification.{Notification}
 use Rattle.early.specs.declared.Site.{Site}
 use Rattle.early.specs.Log.{places, pairOf}

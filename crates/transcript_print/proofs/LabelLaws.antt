@@ -1,16 +1,18 @@
--- Laws of `labelOf` and `threadOf`: an argument read digit by digit.
+-- Laws of `labelOf` and `threadOf`: an argument read digit by digit, and the threads that labels ask for.
 -- Assumes nothing.
 use Prim.Native.Nat.{ℕ, suc, _+_, _-_, _*_, _^_, _≤_, _<_}
 use mathlib.Core.Path.{_≡_, refl, sym, _∙_}
 use mathlib.Core.Bool.{Bool, true, false, _&&_}
-use mathlib.Core.List.{List}
+use mathlib.Core.List.{List, _++_, map}
 use native.Mathlib.Nat.{pow-suc, pow-le-pow-right}
 use native.Mathlib.Numerals.{add-one}
 use native.Mathlib.Omega.{arith}
 use lib.Dec.{ltb, leb}
-use lib.ListN.{length, getD, drop, drop-of-length-le}
+use lib.ListN.{length, getD, take, drop, set, drop-of-length-le, length-map, List·getD-map}
 use lib.Seq.{drop-cons}
 use borrow.Author.Tests.{lt-ltb, le-ltb, le-leb, lt-leb}
+use Rattle.buffers.specs.Write.{placedIn}
+use Rattle.buffers.proofs.WriteLaws.{placedIn-front, copied-more}
 use Rattle.transcript.specs.Label.{noNumber, isDigit, areDigits, valueFrom, isNumber, labelOf, threadOf}
 
 -- what is left to read: the rest says whether all are digits, and with the number so far what they say
@@ -86,3 +88,17 @@ pub left-fits : (bs : List ℕ) (i x : ℕ) → i < 19 → Left bs i x → x < 1
 left-fits bs i x h l =
     let p : 10 ^ i ≤ 10 ^ 18 = pow-le-pow-right {n = 10} (omega arith) {i = i} {j = 18} (omega arith) in
     omega (arith, l .small)
+
+-- the threads that labels ask for: one more, and all of them at the front of a buffer
+threadOf-at : (labels : List ℕ) (i : ℕ) → getD (map threadOf labels) i 0 ≡ threadOf (getD labels i 0)
+unfolding threadOf
+threadOf-at labels i = List·getD-map threadOf labels i 0
+
+pub threads-more :
+    (labels ks : List ℕ) (i : ℕ) → i < length labels → i < length ks →
+    set (take i (map threadOf labels) ++ drop i ks) i (threadOf (getD labels i 0)) ≡ take (i + 1) (map threadOf labels) ++ drop (i + 1) ks
+threads-more labels ks i h g =
+    rw (← threadOf-at labels i) (copied-more (map threadOf labels) ks i (omega (arith, length-map labels threadOf)) g)
+
+pub threads-front : (labels ks end : List ℕ) → length labels ≤ length ks → end ≡ placedIn (map threadOf labels) ks → take (length labels) end ≡ map threadOf labels
+threads-front labels ks end h p = rw p (placedIn-front (map threadOf labels) ks (length labels) (length-map labels threadOf) h)

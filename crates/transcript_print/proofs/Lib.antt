@@ -1,6 +1,4 @@
 pub mod LabelLaws
-pub mod LineLaws
-pub mod WholeLaws
-pub mod FillLaws
+pub mod TranscriptLaws
 pub mod TextLaws
-pub mod PlaybackEdges
+pub mod Edges

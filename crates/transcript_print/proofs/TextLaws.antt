@@ -1,7 +1,7 @@
 -- What is printed: of too many labels, of a refused file, of the whole list.
 use Prim.Native.Nat.{ℕ, _*_, _≤_, _<_}
 use mathlib.Core.Path.{_≡_, refl, sym, ap, _∙_}
-use mathlib.Core.Bool.{true, false}
+use mathlib.Core.Bool.{false}
 use mathlib.Core.Logic.{⊎-elim}
 use mathlib.Core.List.{List, _++_, map}
 use native.Mathlib.Nat.{mul-le-mul}
@@ -22,11 +22,11 @@ use Rattle.sheet.specs.Sheet.{refusedLine}
 use Rattle.early_request.specs.Answers as list
 use Rattle.early_request.specs.Answers.{answersWords}
 use Rattle.order.specs.Claim.{afterList}
-use Rattle.transcript.specs.Label.{threadOf}
-use Rattle.transcript.specs.Transcript.{mostRequests, transcriptOf}
 use Rattle.replay.specs.declared.Replayed.{Replayed}
 use Rattle.replay.specs.Replay.{doneOn, replayedOf, answersAfter}
-use Rattle.transcript_print.specs.Playback.{replayText}
+use Rattle.transcript.specs.Label.{threadOf}
+use Rattle.transcript.specs.Transcript.{mostRequests, transcriptOf}
+use Rattle.transcript_print.specs.Text.{replayText}
 
 done-number : (m : Model) (ks : List ℕ) → doneOn m ks .number ≡ 0
 unfolding doneOn

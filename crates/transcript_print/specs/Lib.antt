@@ -1,1 +1,1 @@
-pub mod Playback
+pub mod Text

@@ -4,14 +4,15 @@ use early::Site;
 use model::Threads;
 ghost use Prim.Native.Nat.{_+_, _*_, _<_, _≤_, min};
 ghost use mathlib.Core.Path.{_≡_};
-ghost use mathlib.Core.List.{_∷_, _++_, map};
-ghost use lib.ListN.{length, drop};
-ghost use Rattle.sheet.specs.Sheet.{restOf, sheetIn, bytesIn};
-ghost use Rattle.sheet_print.specs.Put.{Puts};
+ghost use mathlib.Core.List.{_∷_, map};
+ghost use lib.ListN.{length};
+ghost use Rattle.buffers.specs.Line.{restOf};
+ghost use Rattle.buffers.specs.Put.{Puts};
+ghost use Rattle.buffers.specs.Write.{placedIn, Writes};
 ghost use Rattle.early.specs.Log.{places};
 ghost use Rattle.transcript.specs.Label.{labelOf, threadOf};
-ghost use Rattle.transcript.specs.Transcript.{labelWord, printedAnswer, rLineAt, rLines, lLine, lLines, closingOf, transcriptOf, mostRequests, longestTranscript};
-ghost use Rattle.transcript_print.specs.Playback.{replayText};
+ghost use Rattle.transcript.specs.Transcript.{labelWord, printedAnswer, rLineAt, rLines, lLine, lLines, closingOf, transcriptOf, longestTranscript};
+ghost use Rattle.transcript_print.specs.Text.{replayText};
 
 // Stands for an argument that is no number.
 const NO_NUMBER: u64 = 18446744073709551615;
@@ -36,7 +37,7 @@ pub fn label_of(arg: &[u8]) -> u64
         if 57 < b {
             return NO_NUMBER;
         }
-        x = x * 10 + sheet_print::long_byte(b - 48);
+        x = x * 10 + buffers::long_byte(b - 48);
         i += 1;
     }
     x
@@ -52,14 +53,26 @@ pub fn thread_of(label: u64) -> u8
     255
 }
 
+// The threads that labels ask for, at the front of ks.
+fn fill_threads(labels: &[u64], ks: &mut [u8])
+    requires { ⌜ length (now labels) ≤ length (now ks) ⌝ }
+    ensures { λ _. ⌜ now (ks .exit) ≡ placedIn (map threadOf (now (labels .entry))) (now (ks .entry)) ⌝ }
+{
+    let mut i = 0;
+    while i < labels.len() {
+        ks[i] = thread_of(labels[i]);
+        i += 1;
+    }
+}
+
 // A space, and the label or `?`.
 fn put_label(out: &mut [u8], at: usize, label: u64) -> usize
     ensures { λ r. ⌜ Puts (now (out .entry)) at (now (out .exit)) r (32 ∷ labelWord label) × (r ≤ at + 21) ⌝ }
 {
     if label == NO_NUMBER {
-        return sheet_print::put_word(out, at, b" ?");
+        return buffers::put_word(out, at, b" ?");
     }
-    sheet_print::put_number(out, at, label)
+    buffers::put_number(out, at, label)
 }
 
 // An answer, to the end of its line.
@@ -67,13 +80,13 @@ fn put_answer(out: &mut [u8], at: usize, number: u64, segment: u64, time: u64, d
     ensures { λ r. ⌜ Puts (now (out .entry)) at (now (out .exit)) r (restOf (printedAnswer number segment time delta)) × (r ≤ at + 72) ⌝ }
 {
     if number == 0 {
-        let a = sheet_print::put_word(out, at, b" granted");
-        let b = sheet_print::put_number(out, a, segment);
-        let c = sheet_print::put_number(out, b, time);
-        return sheet_print::put_last(out, c, delta);
+        let a = buffers::put_word(out, at, b" granted");
+        let b = buffers::put_number(out, a, segment);
+        let c = buffers::put_number(out, b, time);
+        return buffers::put_last(out, c, delta);
     }
-    let a = sheet_print::put_word(out, at, b" refused");
-    sheet_print::put_last(out, a, number)
+    let a = buffers::put_word(out, at, b" refused");
+    buffers::put_last(out, a, number)
 }
 
 // The line of request i.
@@ -83,7 +96,7 @@ fn put_r_line(out: &mut [u8], at: usize, labels: &[u64], answers: &[u64], i: usi
     ensures { λ r. ⌜ Puts (now (out .entry)) at (now (out .exit)) r (rLineAt (now (labels .entry)) (now (answers .entry)) i) × (r ≤ at + 94) ⌝ }
 {
     let w = 4 * i;
-    let a = sheet_print::put_byte(out, at, b'r');
+    let a = buffers::put_byte(out, at, b'r');
     let b = put_label(out, a, labels[i]);
     put_answer(
         out,
@@ -113,10 +126,10 @@ fn put_r_lines(out: &mut [u8], labels: &[u64], answers: &[u64]) -> usize
 fn put_l_line(out: &mut [u8], at: usize, x: Notification) -> usize
     ensures { λ r. ⌜ Puts (now (out .entry)) at (now (out .exit)) r (lLine x) × (r ≤ at + 65) ⌝ }
 {
-    let event = sheet_print::long_byte(x.event);
+    let event = buffers::long_byte(x.event);
     let c = x.cycle;
-    let a = sheet_print::put_byte(out, at, b'l');
-    let b = sheet_print::put_number(out, a, event);
+    let a = buffers::put_byte(out, at, b'l');
+    let b = buffers::put_number(out, a, event);
     sheet_print::put_cycle(out, b, c)
 }
 
@@ -125,7 +138,7 @@ fn put_l_lines(out: &mut [u8], at: usize, site: Site) -> usize
     requires { ⌜ at ≤ length (now out) ⌝ }
     ensures { λ r. ⌜ Puts (now (out .entry)) at (now (out .exit)) r (lLines (min (site .count) places) (site .log)) × (r ≤ at + 8320) ⌝ }
 {
-    let n = sheet_print::least(sheet_print::wide(site.count), 128);
+    let n = buffers::least(buffers::wide(site.count), 128);
     let mut to = at;
     let mut i = 0;
     while i < n {
@@ -157,7 +170,7 @@ pub fn transcript(
     threads: Threads,
     out: &mut [u8],
 ) -> usize
-    ensures { λ r. ⌜ (r ≡ bytesIn (transcriptOf (now (labels .entry)) (now (answers .entry)) v t site (threads .at)) (now (out .entry))) × (now (out .exit) ≡ sheetIn (transcriptOf (now (labels .entry)) (now (answers .entry)) v t site (threads .at)) (now (out .entry))) ⌝ }
+    ensures { λ r. ⌜ Writes (now (out .entry)) (now (out .exit)) r (transcriptOf (now (labels .entry)) (now (answers .entry)) v t site (threads .at)) ⌝ }
     ensures { λ _. ⌜ length (transcriptOf (now (labels .entry)) (now (answers .entry)) v t site (threads .at)) ≤ longestTranscript ⌝ }
 {
     if 1024 < labels.len() {
@@ -169,24 +182,12 @@ pub fn transcript(
     let mut text = [0u8; 131072];
     let a = put_r_lines(&mut text, labels, answers);
     let n = put_closing(&mut text, a, v, t, site, threads);
-    sheet_print::copy_in(&text[..n], out)
-}
-
-// The threads that labels ask for, at the front of ks.
-fn fill_threads(labels: &[u64], ks: &mut [u8])
-    requires { ⌜ length (now labels) ≤ length (now ks) ⌝ }
-    ensures { λ _. ⌜ now (ks .exit) ≡ map threadOf (now (labels .entry)) ++ drop (length (now (labels .entry))) (now (ks .entry)) ⌝ }
-{
-    let mut i = 0;
-    while i < labels.len() {
-        ks[i] = thread_of(labels[i]);
-        i += 1;
-    }
+    buffers::copy_in(&text[..n], out)
 }
 
 // What is printed of a file and of labels, at the front of out; how many bytes. A buffer that is too short stays, and the answer is 0.
 pub fn replay_text(file: &[u8], labels: &[u64], out: &mut [u8]) -> usize
-    ensures { λ r. ⌜ (r ≡ bytesIn (replayText (now (file .entry)) (now (labels .entry))) (now (out .entry))) × (now (out .exit) ≡ sheetIn (replayText (now (file .entry)) (now (labels .entry))) (now (out .entry))) ⌝ }
+    ensures { λ r. ⌜ Writes (now (out .entry)) (now (out .exit)) r (replayText (now (file .entry)) (now (labels .entry))) ⌝ }
 {
     if 1024 < labels.len() {
         return sheet_print::refusal(11, out);

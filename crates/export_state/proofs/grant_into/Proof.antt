@@ -2,12 +2,12 @@
 use mathlib.Core.Path.{_∙_}
 use mathlib.Core.List.{[], _∷_}
 use borrow.Author.Needs.{needs}
-use Rattle.export_state.proofs.WordLaws.{wordsIn-stored, wordsIn-short}
+use Rattle.buffers.proofs.WriteLaws.{placedIn-stored, placedIn-short}
 use Rattle.export_state.proofs.grant_into.Statement.{statement}
 use Rattle.export_state.proofs.grant_into.Tie as tie
 
 returns : tie.Need-returns
-returns c = let x = c .before .before .args in wordsIn-short (x .s ∷ x .c .time .0 ∷ x .c .delta .0 ∷ []) (x .answer .now) (c .if1 .taken)
+returns c = let x = c .before .before .args in placedIn-short (x .s ∷ x .c .time .0 ∷ x .c .delta .0 ∷ []) (x .answer .now) (c .if1 .taken)
 
 cycle-words-requires : tie.Need-cycle-words-requires
 cycle-words-requires c κs = search needs
@@ -25,7 +25,7 @@ returns-2 : tie.Need-returns-2
 returns-2 c =
     let w = c .before .before .before .before .before in
     let x = w .before .before .before .args in
-    (rw (w .cycle-words .ensures) at (c .before .before .put-words .ensures)) ∙ wordsIn-stored (x .s ∷ x .c .time .0 ∷ x .c .delta .0 ∷ []) (x .answer .now) (w .before .if1 .left)
+    (rw (w .cycle-words .ensures) at (c .before .before .put-words .ensures)) ∙ placedIn-stored (x .s ∷ x .c .time .0 ∷ x .c .delta .0 ∷ []) (x .answer .now) (w .before .if1 .left)
 
 pub grant-into-spec : {M : Type 1} → statement M
 grant-into-spec =

@@ -4,13 +4,15 @@ use native.Mathlib.Omega.{arith}
 use lib.ListN.{length, length-set}
 use lib.Seq.{length-sets}
 use borrow.Author.Needs.{needs}
-use Rattle.export_state.proofs.LengthLaws.{log-length}
-use Rattle.export_state.proofs.IntoLaws.{log-short, log-stored}
+use Rattle.buffers.proofs.WriteLaws.{placedIn-short}
+use Rattle.export_state.specs.Numbers.{logWords}
+use Rattle.export_state.proofs.IntoLaws.{logWords-length, log-stored}
+use Rattle.export_state.proofs.RangeLaws.{log-length}
 use Rattle.export_state.proofs.log_into.Statement.{statement}
 use Rattle.export_state.proofs.log_into.Tie as tie
 
 returns : tie.Need-returns
-returns c = let s = c .before .before in log-short (s .args .site) (s .args .out .now) (log-length (s .args .site) _ (s .good .0)) (omega arith)
+returns c = let s = c .before .before in placedIn-short (logWords (s .args .site)) (s .args .out .now) (omega (arith, logWords-length (s .args .site) (log-length (s .args .site) _ (s .good .0))))
 
 long-byte-requires : tie.Need-long-byte-requires
 long-byte-requires c κs = search needs

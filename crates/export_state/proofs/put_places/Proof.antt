@@ -6,7 +6,7 @@ use lib.ListN.{length, take}
 use lib.Seq.{sets, length-sets, take-all}
 use borrow.Author.Needs.{needs}
 use Rattle.export_state.specs.Numbers.{pairWords, inTurn}
-use Rattle.export_state.proofs.WordLaws.{inTurn-none, inTurn-stored}
+use Rattle.export_state.proofs.TurnLaws.{inTurn-none, inTurn-stored}
 use Rattle.export_state.proofs.IntoLaws.{pairWords-length}
 use Rattle.export_state.proofs.put_places.Statement.{statement}
 use Rattle.export_state.proofs.put_places.Tie as tie

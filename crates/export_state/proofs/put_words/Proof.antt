@@ -5,7 +5,7 @@ use native.Mathlib.Omega.{arith}
 use lib.ListN.{length, take}
 use lib.Seq.{sets, length-sets, take-all}
 use borrow.Author.Needs.{needs}
-use Rattle.export_state.proofs.WordLaws.{take-stored}
+use Rattle.buffers.proofs.StoreLaws.{take-stored}
 use Rattle.export_state.proofs.put_words.Statement.{statement}
 use Rattle.export_state.proofs.put_words.Tie as tie
 

@@ -5,10 +5,11 @@ use native.Mathlib.Omega.{arith}
 use lib.ListN.{length, take}
 use lib.Seq.{sets, length-sets}
 use borrow.Author.Needs.{needs}
-use Rattle.export_state.specs.Numbers.{threadWords, inTurn}
-use Rattle.export_state.proofs.LengthLaws.{threads-length}
-use Rattle.export_state.proofs.WordLaws.{inTurn-none, inTurn-stored, threadWords-length}
-use Rattle.export_state.proofs.IntoLaws.{records-short, records-stored}
+use Rattle.buffers.proofs.WriteLaws.{placedIn-short}
+use Rattle.export_state.specs.Numbers.{threadWords, inTurn, recordWords}
+use Rattle.export_state.proofs.TurnLaws.{inTurn-none, inTurn-stored}
+use Rattle.export_state.proofs.IntoLaws.{threadWords-length, recordWords-length, all-stored}
+use Rattle.export_state.proofs.RangeLaws.{threads-length}
 use Rattle.export_state.proofs.threads_into.Statement.{statement}
 use Rattle.export_state.proofs.threads_into.Tie as tie
 
@@ -19,7 +20,9 @@ abbrev μ-loop : tie.MeasureT-loop
 μ-loop records₀ threads k₀ records k = 32 - k
 
 returns : tie.Need-returns Inv-loop μ-loop
-returns c = let s = c .before .before in records-short (s .args .t1) (s .args .records .now) (threads-length (s .args .t1) _ (s .good .0)) (omega arith)
+returns c =
+    let s = c .before .before in
+    placedIn-short (recordWords (s .args .t1)) (s .args .records .now) (omega (arith, recordWords-length (s .args .t1) (threads-length (s .args .t1) _ (s .good .0))))
 
 loop-holds : tie.Need-loop-holds Inv-loop μ-loop
 loop-holds c = (omega arith, refl, inTurn-none threadWords (c .before .before .args .t1 .at) _ 0)
@@ -62,11 +65,12 @@ same-length : tie.Need-same-length Inv-loop μ-loop
 same-length c = search needs
 
 returns-2 : tie.Need-returns-2 Inv-loop μ-loop
+unfolding recordWords
 returns-2 c =
     let s = c .before .before .before .before in
     let l = c .before .loop in
     let size = threads-length (s .args .t1) _ (s .good .0) in
-    records-stored (s .args .t1) (s .args .records .now) _ (l .k) size (omega arith) (omega arith) (l .inv .2)
+    all-stored (inTurn threadWords) (s .args .t1 .at) (s .args .records .now) _ (l .k) (omega arith) (omega (arith, recordWords-length (s .args .t1) size)) (l .inv .2)
 
 pub threads-into-spec : {M : Type 1} → statement M
 threads-into-spec =

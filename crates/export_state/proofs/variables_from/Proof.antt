@@ -6,8 +6,8 @@ use lib.ListN.{getD}
 use lib.Seq.{sets}
 use borrow.Author.Needs.{needs}
 use Rattle.base.specs.Index.{tabulate}
+use Rattle.buffers.proofs.StoreLaws.{tabulate-none, tabulate-stored, tabulate-whole}
 use Rattle.export_state.specs.Numbers.{variablesFrom}
-use Rattle.export_state.proofs.WordLaws.{tabulate-none, tabulate-stored, tabulate-whole}
 use Rattle.export_state.proofs.variables_from.Statement.{statement}
 use Rattle.export_state.proofs.variables_from.Tie as tie
 

@@ -6,9 +6,10 @@ use native.Mathlib.Nat.{zero-add}
 use lib.ListN.{length, take}
 use lib.Seq.{sets, length-sets}
 use borrow.Author.Needs.{needs}
-use Rattle.export_state.proofs.LengthLaws.{variables-length}
-use Rattle.export_state.proofs.WordLaws.{take-stored, wordsIn-short}
-use Rattle.export_state.proofs.IntoLaws.{values-stored}
+use Rattle.buffers.proofs.StoreLaws.{take-stored}
+use Rattle.buffers.proofs.WriteLaws.{placedIn-short}
+use Rattle.export_state.proofs.IntoLaws.{all-stored}
+use Rattle.export_state.proofs.RangeLaws.{variables-length}
 use Rattle.export_state.proofs.variables_into.Statement.{statement}
 use Rattle.export_state.proofs.variables_into.Tie as tie
 
@@ -19,7 +20,7 @@ abbrev μ-loop : tie.MeasureT-loop
 μ-loop out₀ values i₀ out i = 64 - i
 
 returns : tie.Need-returns Inv-loop μ-loop
-returns c = let size = variables-length (c .before .args .t1) _ (c .before .good .0) in wordsIn-short (c .before .args .t1 .at) (c .before .args .out .now) (omega arith)
+returns c = let size = variables-length (c .before .args .t1) _ (c .before .good .0) in placedIn-short (c .before .args .t1 .at) (c .before .args .out .now) (omega arith)
 
 loop-holds : tie.Need-loop-holds Inv-loop μ-loop
 loop-holds c = (omega arith, refl, refl)
@@ -58,7 +59,7 @@ returns-2 c =
     let x = c .before .before .before .args in
     let size = variables-length (x .t1) _ (c .before .before .before .good .0) in
     let l = c .before .loop in
-    values-stored (x .t1 .at) (x .out .now) _ (l .i) size (omega arith) (omega arith) (l .inv .2)
+    all-stored (λ xs. xs) (x .t1 .at) (x .out .now) _ (l .i) (omega arith) (omega arith) (l .inv .2)
 
 pub variables-into-spec : {M : Type 1} → statement M
 variables-into-spec =

@@ -1,6 +1,6 @@
 -- `plainrun::answer` meets its contract.
 use borrow.Author.Needs.{needs}
-use Rattle.sheet_print.proofs.CopyLaws.{counts-text}
+use Rattle.buffers.proofs.WriteLaws.{counts-text}
 use Rattle.plainrun.proofs.answer.Statement.{statement}
 use Rattle.plainrun.proofs.answer.Tie as tie
 
@@ -12,9 +12,8 @@ same-length c = search needs
 
 returns : tie.Need-returns
 returns c =
-    let s = c .before .before .before .before .before .before in
     let p = c .before .before .plain-sheet in
-    (p .ensures .0, counts-text _ (s .args .out .now) _ _ (p .ensures .0 .0) (p .kept .1 .1 .0))
+    (p .ensures .0, counts-text (p .ensures .0) (p .kept .1 .1 .0))
 
 pub answer-spec : {M : Type 1} → statement M
 answer-spec = tie.close (tie.spec plain-sheet-requires same-length returns)

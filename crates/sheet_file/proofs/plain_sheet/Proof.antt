@@ -1,6 +1,6 @@
 -- `sheet_file::plain_sheet` meets its contract: accepted or refused.
 use borrow.Author.Needs.{needs}
-use Rattle.sheet_file.proofs.ReportLaws.{held-run, held-refused}
+use Rattle.sheet_file.proofs.ReportLaws.{printed-run, printed-refused}
 use Rattle.sheet_file.proofs.plain_sheet.Statement.{statement}
 use Rattle.sheet_file.proofs.plain_sheet.Tie as tie
 
@@ -18,10 +18,11 @@ same-length c = search needs
 
 returns : tie.Need-returns
 returns c =
-    let s = c .before .before .before .before .before .before .before .before .before .before .before in
-    let r = c .before .before .before .before .before .before .before .before .read-file in
     let run = c .before .before .before .before .plain-run in
-    held-run (s .args .budget) (s .args .file .now) (r .result) (r .ensures) (s .args .out .now) _ _ (run .result) (c .before .before .before .before .before .before .if1 .taken) (run .ensures) (c .before .before .sheet .ensures)
+    let k = c .before .before .before .before .before .before in
+    let r = k .before .before .read-file in
+    let a = k .before .before .before .before .before .args in
+    rw (printed-run (a .budget) (a .file .now) (r .result) (r .ensures) (run .result) (k .if1 .taken) (run .ensures)) at (c .before .before .sheet .ensures)
 
 refusal-requires : tie.Need-refusal-requires
 refusal-requires c κs = search needs
@@ -31,9 +32,10 @@ same-length-2 c = search needs
 
 returns-2 : tie.Need-returns-2
 returns-2 c =
-    let s = c .before .before .before .before .before .before .before .before .before in
-    let r = c .before .before .before .before .before .before .read-file in
-    held-refused (s .args .budget) (s .args .file .now) (r .result) (r .ensures) (s .args .out .now) _ _ (c .before .before .before .before .if1 .left) (c .before .before .refusal .ensures)
+    let k = c .before .before .before .before in
+    let r = k .before .before .read-file in
+    let a = k .before .before .before .before .before .args in
+    rw (printed-refused (a .budget) (a .file .now) (r .result) (r .ensures) (k .if1 .left)) at (c .before .before .refusal .ensures)
 
 pub plain-sheet-spec : {M : Type 1} → statement M
 plain-sheet-spec =

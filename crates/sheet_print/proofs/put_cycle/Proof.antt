@@ -1,8 +1,9 @@
 -- `sheet_print::put_cycle` meets its contract. Time, delta.
 use native.Mathlib.Omega.{arith}
 use borrow.Author.Needs.{needs}
-use Rattle.sheet.specs.Sheet.{cycleWords, restOf}
-use Rattle.sheet_print.proofs.PutLaws.{puts-then}
+use Rattle.buffers.specs.Line.{restOf}
+use Rattle.buffers.proofs.PutLaws.{puts-then}
+use Rattle.sheet.specs.Sheet.{cycleWords}
 use Rattle.sheet_print.proofs.put_cycle.Statement.{statement}
 use Rattle.sheet_print.proofs.put_cycle.Tie as tie
 

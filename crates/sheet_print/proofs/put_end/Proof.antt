@@ -1,8 +1,9 @@
 -- `sheet_print::put_end` meets its contract. The line of n, then the spent line or nothing.
 use native.Mathlib.Omega.{arith}
 use borrow.Author.Needs.{needs}
-use Rattle.sheet.specs.Sheet.{nLine, spentLine, restOf}
-use Rattle.sheet_print.proofs.PutLaws.{puts-none, puts-then}
+use Rattle.buffers.specs.Line.{restOf}
+use Rattle.buffers.proofs.PutLaws.{puts-none, puts-then}
+use Rattle.sheet.specs.Sheet.{nLine, spentLine}
 use Rattle.sheet_print.proofs.put_end.Statement.{statement}
 use Rattle.sheet_print.proofs.put_end.Tie as tie
 

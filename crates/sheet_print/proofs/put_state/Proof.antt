@@ -1,8 +1,9 @@
 -- `sheet_print::put_state` meets its contract. State by state.
 use native.Mathlib.Omega.{arith}
 use borrow.Author.Needs.{needs}
-use Rattle.sheet.specs.Sheet.{stateWords, restOf}
-use Rattle.sheet_print.proofs.PutLaws.{puts-then}
+use Rattle.buffers.specs.Line.{restOf}
+use Rattle.buffers.proofs.PutLaws.{puts-then}
+use Rattle.sheet.specs.Sheet.{stateWords}
 use Rattle.sheet_print.proofs.put_state.Statement.{statement}
 use Rattle.sheet_print.proofs.put_state.Tie as tie
 

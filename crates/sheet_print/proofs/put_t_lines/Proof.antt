@@ -1,13 +1,13 @@
 -- `sheet_print::put_t_lines` meets its contract. The invariant: the lines of the first k threads are put.
 use Prim.Native.Nat.{_+_, _*_, _-_, _≤_, min}
-use mathlib.Core.Path.{_≡_}
+use mathlib.Core.Path.{_≡_, refl}
 use native.Mathlib.Omega.{arith}
 use borrow.Author.Needs.{needs}
 use Rattle.model.specs.Record.{threadAt}
-use Rattle.sheet.specs.Sheet.{tLine, tLines, restOf}
-use Rattle.sheet_print.specs.Put.{Puts}
-use Rattle.sheet_print.proofs.PutLaws.{puts-none, puts-then}
-use Rattle.sheet_print.proofs.LineLaws.{puts-t-more}
+use Rattle.buffers.specs.Line.{restOf}
+use Rattle.buffers.specs.Put.{Puts}
+use Rattle.buffers.proofs.PutLaws.{puts-none, puts-then, puts-next}
+use Rattle.sheet.specs.Sheet.{tLine, tLines}
 use Rattle.sheet_print.proofs.put_t_lines.Statement.{statement}
 use Rattle.sheet_print.proofs.put_t_lines.Tie as tie
 
@@ -58,16 +58,15 @@ loop-less : tie.Need-loop-less Inv-loop μ-loop
 loop-less c = omega arith
 
 loop-again : tie.Need-loop-again Inv-loop μ-loop
-unfolding threadAt tLine restOf
+unfolding threadAt tLine tLines restOf
 loop-again c =
-    let l = c .before .before .before .before .before .before .before .before .before .before .before .before .before .before .before .before .before .before .before in (
-      omega arith,
-      (
-        puts-t-more (l .before .before .before .before .before .args .t4 .at) (l .loop .k) (l .loop .inv .1 .0)
-            (puts-then (c .before .before .before .before .before .before .before .before .before .before .before .before .before .before .before .put-byte .ensures) (puts-then (c .before .before .before .before .before .before .before .before .before .before .before .put-number .ensures .0) (puts-then (rw (c .before .before .before .before .before .before .before .long-byte .ensures) at (c .before .before .before .before .before .before .put-number2 .ensures .0)) (c .before .before .put-state .ensures .0)))),
-        omega arith,
-      ),
-    )
+    let d = c .before .before .before .before .before .before in
+    let b = d .before .before .before .before .before in
+    let l = b .before .before .before .before .before .before .before .before in
+    let xs = l .before .before .before .before .before .args .t4 .at in
+    let numbers = puts-then (b .put-number .ensures .0) (puts-then (rw (d .before .long-byte .ensures) at (d .put-number2 .ensures .0)) (c .before .before .put-state .ensures .0)) in
+    let line = puts-then (b .before .before .before .before .put-byte .ensures) numbers in
+    (omega arith, (puts-next (λ k. tLines k xs) (l .loop .k) (l .loop .inv .1 .0) line refl, omega arith))
 
 same-length : tie.Need-same-length Inv-loop μ-loop
 same-length c = omega arith

@@ -1,12 +1,12 @@
 -- `sheet_print::put_v_lines` meets its contract. The invariant: the lines of the first i variables are put.
 use Prim.Native.Nat.{_+_, _*_, _-_, _≤_, min}
-use mathlib.Core.Path.{_≡_}
+use mathlib.Core.Path.{_≡_, refl}
 use native.Mathlib.Omega.{arith}
 use borrow.Author.Needs.{needs}
-use Rattle.sheet.specs.Sheet.{vLine, vLines, restOf}
-use Rattle.sheet_print.specs.Put.{Puts}
-use Rattle.sheet_print.proofs.PutLaws.{puts-none, puts-then}
-use Rattle.sheet_print.proofs.LineLaws.{puts-v-more}
+use Rattle.buffers.specs.Line.{restOf}
+use Rattle.buffers.specs.Put.{Puts}
+use Rattle.buffers.proofs.PutLaws.{puts-none, puts-then, puts-next}
+use Rattle.sheet.specs.Sheet.{vLine, vLines}
 use Rattle.sheet_print.proofs.put_v_lines.Statement.{statement}
 use Rattle.sheet_print.proofs.put_v_lines.Tie as tie
 
@@ -54,16 +54,14 @@ loop-less : tie.Need-loop-less Inv-loop μ-loop
 loop-less c = omega arith
 
 loop-again : tie.Need-loop-again Inv-loop μ-loop
-unfolding vLine restOf
+unfolding vLine vLines restOf
 loop-again c =
-    let l = c .before .before .before .before .before .before .before .before .before .before .before .before .before .before .before in (
-      omega arith,
-      (
-        puts-v-more (l .before .before .before .before .before .args .t4 .at) (l .loop .i) _ (c .before .before .before .long-word .ensures) (l .loop .inv .1 .0)
-            (puts-then (c .before .before .before .before .before .before .before .before .before .before .before .put-byte .ensures) (puts-then (c .before .before .before .before .before .before .before .put-number .ensures .0) (c .before .before .put-last .ensures .0))),
-        omega arith,
-      ),
-    )
+    let d = c .before .before in
+    let b = d .before .before .before .before .before in
+    let l = b .before .before .before .before .before .before .before .before in
+    let xs = l .before .before .before .before .before .args .t4 .at in
+    let line = puts-then (b .before .before .before .before .put-byte .ensures) (puts-then (b .put-number .ensures .0) (rw (d .before .long-word .ensures) at (d .put-last .ensures .0))) in
+    (omega arith, (puts-next (λ i. vLines i xs) (l .loop .i) (l .loop .inv .1 .0) line refl, omega arith))
 
 same-length : tie.Need-same-length Inv-loop μ-loop
 same-length c = omega arith

@@ -3,8 +3,10 @@ use mathlib.Core.Path.{sym}
 use native.Mathlib.Omega.{arith}
 use lib.Seq.{length-take-le}
 use borrow.Author.Needs.{needs}
-use Rattle.sheet.specs.Sheet.{refusedLine, restOf}
-use Rattle.sheet_print.proofs.PutLaws.{puts-then, puts-uncut}
+use Rattle.buffers.specs.Line.{restOf}
+use Rattle.buffers.proofs.PutLaws.{puts-then}
+use Rattle.buffers.proofs.WriteLaws.{writes-uncut}
+use Rattle.sheet.specs.Sheet.{refusedLine}
 use Rattle.sheet_print.proofs.refusal.Statement.{statement}
 use Rattle.sheet_print.proofs.refusal.Tie as tie
 
@@ -41,8 +43,10 @@ same-length c = search needs
 returns : tie.Need-returns
 unfolding refusedLine restOf
 returns c =
-    let p = puts-uncut (puts-then (c .before .before .before .before .before .before .before .before .before .before .put-word .ensures) (rw (c .before .before .before .before .before .before .before .long-byte .ensures) at (c .before .before .before .before .before .before .put-last .ensures .0))) (omega arith) in
-    (rw (p .0) at (c .before .before .copy-in .ensures), omega arith)
+    let k = c .before .before .before .before .before .before in
+    let p = puts-then (k .before .before .before .before .put-word .ensures) (rw (k .before .long-byte .ensures) at (k .put-last .ensures .0)) in
+    let w = writes-uncut p (omega arith) (c .before .before .copy-in .ensures) in
+    (w .0, omega (arith, w .1))
 
 pub refusal-spec : {M : Type 1} → statement M
 refusal-spec =

@@ -4,8 +4,9 @@ use native.Mathlib.Omega.{arith}
 use lib.Seq.{length-take-le}
 use borrow.Author.Tests.{eq-eqb, ne-eqb}
 use borrow.Author.Needs.{needs}
+use Rattle.buffers.proofs.PutLaws.{puts-then}
+use Rattle.buffers.proofs.WriteLaws.{writes-uncut}
 use Rattle.sheet.specs.Sheet.{runSheet, sheetOf}
-use Rattle.sheet_print.proofs.PutLaws.{puts-then, puts-uncut}
 use Rattle.sheet_print.proofs.sheet.Statement.{statement}
 use Rattle.sheet_print.proofs.sheet.Tie as tie
 
@@ -52,8 +53,11 @@ same-length-2 c = search needs
 returns-2 : tie.Need-returns-2
 unfolding runSheet sheetOf
 returns-2 c =
-    let p = puts-uncut (puts-then (c .before .before .before .before .before .before .before .before .before .before .before .before .put-v-lines .ensures .0) (puts-then (c .before .before .before .before .before .before .before .before .before .put-t-lines .ensures .0) (c .before .before .before .before .before .before .put-end .ensures .0))) (omega arith) in
-    rw (eq-eqb _ 0 (c .before .before .before .before .before .before .before .before .before .before .before .before .before .before .if1 .left)) (rw (p .0) at (c .before .before .copy-in .ensures), omega arith)
+    let k = c .before .before .before .before .before .before in
+    let v = k .before .before .before .before .before .before in
+    let p = puts-then (v .put-v-lines .ensures .0) (puts-then (k .before .before .before .put-t-lines .ensures .0) (k .put-end .ensures .0)) in
+    let w = writes-uncut p (omega arith) (c .before .before .copy-in .ensures) in
+    rw (eq-eqb _ 0 (v .before .before .if1 .left)) (w .0, omega (arith, w .1))
 
 pub sheet-spec : {M : Type 1} → statement M
 sheet-spec =

@@ -3,10 +3,11 @@ use Prim.Native.Nat.{_-_, _≤_}
 use mathlib.Core.Path.{_≡_, refl}
 use mathlib.Core.List.{_++_, map}
 use native.Mathlib.Omega.{arith}
-use lib.ListN.{length, take, drop, length-set}
+use lib.ListN.{length, take, drop, length-set, length-map}
 use borrow.Author.Needs.{needs}
+use Rattle.buffers.proofs.WriteLaws.{writes-all}
 use Rattle.transcript.specs.Label.{threadOf}
-use Rattle.transcript_print.proofs.FillLaws.{filled-more, filled-all}
+use Rattle.transcript_print.proofs.LabelLaws.{threads-more}
 use Rattle.transcript_print.proofs.fill_threads.Statement.{statement}
 use Rattle.transcript_print.proofs.fill_threads.Tie as tie
 
@@ -41,7 +42,7 @@ loop-again : tie.Need-loop-again Inv-loop μ-loop
 loop-again c =
     let l = c .before .before .before in
     let a = l .before .before .before .args in
-    (omega arith, simp length-set (l .loop .inv .1), rw (l .loop .inv .2, c .thread-of .ensures) (filled-more (a .labels .now) (a .ks .now) (l .loop .i) (omega arith) (omega arith)))
+    (omega arith, simp length-set (l .loop .inv .1), rw (l .loop .inv .2, c .thread-of .ensures) (threads-more (a .labels .now) (a .ks .now) (l .loop .i) (omega arith) (omega arith)))
 
 same-length : tie.Need-same-length Inv-loop μ-loop
 same-length c = omega arith
@@ -49,7 +50,8 @@ same-length c = omega arith
 returns : tie.Need-returns Inv-loop μ-loop
 returns c =
     let a = c .before .before .before .before .args in
-    filled-all (a .labels .now) (a .ks .now) (c .before .loop .ks) (c .before .loop .i) (omega arith) (c .before .loop .inv .2)
+    let n = length-map (a .labels .now) threadOf in
+    writes-all (map threadOf (a .labels .now)) (a .ks .now) (c .before .loop .ks) (c .before .loop .i) (omega arith) (omega arith) (c .before .loop .inv .2) .buffer
 
 pub fill-threads-spec : {M : Type 1} → statement M
 fill-threads-spec =

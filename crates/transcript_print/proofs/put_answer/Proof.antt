@@ -2,8 +2,8 @@
 use native.Mathlib.Omega.{arith}
 use borrow.Author.Tests.{eq-eqb, ne-eqb}
 use borrow.Author.Needs.{needs}
-use Rattle.sheet.specs.Sheet.{restOf}
-use Rattle.sheet_print.proofs.PutLaws.{puts-then}
+use Rattle.buffers.specs.Line.{restOf}
+use Rattle.buffers.proofs.PutLaws.{puts-then}
 use Rattle.transcript.specs.Transcript.{printedAnswer}
 use Rattle.transcript_print.proofs.put_answer.Statement.{statement}
 use Rattle.transcript_print.proofs.put_answer.Tie as tie

@@ -1,7 +1,7 @@
 -- `transcript_print::put_closing` meets its contract. Part by part.
 use native.Mathlib.Omega.{arith}
 use borrow.Author.Needs.{needs}
-use Rattle.sheet_print.proofs.PutLaws.{puts-then}
+use Rattle.buffers.proofs.PutLaws.{puts-then}
 use Rattle.transcript.specs.Transcript.{closingOf}
 use Rattle.transcript_print.proofs.put_closing.Statement.{statement}
 use Rattle.transcript_print.proofs.put_closing.Tie as tie

@@ -1,8 +1,8 @@
 -- `transcript_print::put_l_line` meets its contract. Word by word.
 use native.Mathlib.Omega.{arith}
 use borrow.Author.Needs.{needs}
-use Rattle.sheet.specs.Sheet.{restOf}
-use Rattle.sheet_print.proofs.PutLaws.{puts-then}
+use Rattle.buffers.specs.Line.{restOf}
+use Rattle.buffers.proofs.PutLaws.{puts-then}
 use Rattle.transcript.specs.Transcript.{lLine}
 use Rattle.transcript_print.proofs.put_l_line.Statement.{statement}
 use Rattle.transcript_print.proofs.put_l_line.Tie as tie

@@ -1,12 +1,11 @@
 -- `transcript_print::put_l_lines` meets its contract. The invariant: the lines of the first i pairs are put.
 use Prim.Native.Nat.{_+_, _*_, _-_, _≤_, min}
-use mathlib.Core.Path.{_≡_}
+use mathlib.Core.Path.{_≡_, refl}
 use native.Mathlib.Omega.{arith}
 use borrow.Author.Needs.{needs}
-use Rattle.sheet_print.specs.Put.{Puts}
-use Rattle.sheet_print.proofs.PutLaws.{puts-none}
+use Rattle.buffers.specs.Put.{Puts}
+use Rattle.buffers.proofs.PutLaws.{puts-none, puts-next}
 use Rattle.transcript.specs.Transcript.{lLines}
-use Rattle.transcript_print.proofs.LineLaws.{puts-l-more}
 use Rattle.transcript_print.proofs.put_l_lines.Statement.{statement}
 use Rattle.transcript_print.proofs.put_l_lines.Tie as tie
 
@@ -42,14 +41,11 @@ loop-less : tie.Need-loop-less Inv-loop μ-loop
 loop-less c = omega arith
 
 loop-again : tie.Need-loop-again Inv-loop μ-loop
+unfolding lLines
 loop-again c =
-    let l = c .before .before .before .before .before .before in (
-      omega arith,
-      (
-        puts-l-more (l .before .before .before .before .args .t3 .log) (l .loop .i) (l .loop .inv .1 .0) (c .before .before .put-l-line .ensures .0),
-        omega arith,
-      ),
-    )
+    let l = c .before .before .before .before .before .before in
+    let xs = l .before .before .before .before .args .t3 .log in
+    (omega arith, (puts-next (λ i. lLines i xs) (l .loop .i) (l .loop .inv .1 .0) (c .before .before .put-l-line .ensures .0) refl, omega arith))
 
 same-length : tie.Need-same-length Inv-loop μ-loop
 same-length c = omega arith

@@ -1,12 +1,11 @@
 -- `transcript_print::put_r_lines` meets its contract. The invariant: the lines of the first i requests are put.
 use Prim.Native.Nat.{_*_, _-_, _≤_}
-use mathlib.Core.Path.{_≡_}
+use mathlib.Core.Path.{_≡_, refl}
 use native.Mathlib.Omega.{arith}
 use lib.ListN.{length}
-use Rattle.sheet_print.specs.Put.{Puts}
-use Rattle.sheet_print.proofs.PutLaws.{puts-none}
+use Rattle.buffers.specs.Put.{Puts}
+use Rattle.buffers.proofs.PutLaws.{puts-none, puts-next}
 use Rattle.transcript.specs.Transcript.{rLines}
-use Rattle.transcript_print.proofs.LineLaws.{puts-r-more}
 use Rattle.transcript_print.proofs.put_r_lines.Statement.{statement}
 use Rattle.transcript_print.proofs.put_r_lines.Tie as tie
 
@@ -30,10 +29,11 @@ loop-less : tie.Need-loop-less Inv-loop μ-loop
 loop-less c = omega arith
 
 loop-again : tie.Need-loop-again Inv-loop μ-loop
+unfolding rLines
 loop-again c =
     let l = c .before .before .before .before .before in
     let a = l .before .before .before .before .args in
-    (omega arith, (puts-r-more (a .labels .now) (a .answers .now) (l .loop .i) (l .loop .inv .1 .0) (c .before .before .put-r-line .ensures .0), omega arith))
+    (omega arith, (puts-next (λ i. rLines i (a .labels .now) (a .answers .now)) (l .loop .i) (l .loop .inv .1 .0) (c .before .before .put-r-line .ensures .0) refl, omega arith))
 
 same-length : tie.Need-same-length Inv-loop μ-loop
 same-length c = omega arith

@@ -5,9 +5,10 @@ use native.Mathlib.Omega.{arith}
 use lib.ListN.{replicate}
 use lib.Seq.{length-take-le}
 use borrow.Author.Needs.{needs}
-use Rattle.transcript.specs.Label.{threadOf}
+use Rattle.buffers.proofs.WriteLaws.{writes-same}
 use Rattle.replay.specs.Replay.{replayedOf, answersAfter}
-use Rattle.transcript_print.proofs.FillLaws.{filled-front, shown}
+use Rattle.transcript.specs.Label.{threadOf}
+use Rattle.transcript_print.proofs.LabelLaws.{threads-front}
 use Rattle.transcript_print.proofs.TextLaws.{text-long, text-refused, text-done}
 use Rattle.transcript_print.proofs.replay_text.Statement.{statement}
 use Rattle.transcript_print.proofs.replay_text.Tie as tie
@@ -20,9 +21,9 @@ same-length c = search needs
 
 returns : tie.Need-returns
 returns c =
-    let a = c .before .before .before .before .before .before .before .before .args in
-    let q = c .before .before .refusal in
-    shown _ _ (a .out .now) _ _ (text-long (a .file .now) (a .labels .now) (c .before .before .before .before .if1 .taken)) (q .ensures .0)
+    let k = c .before .before .before .before in
+    let a = k .before .before .before .before .args in
+    writes-same (text-long (a .file .now) (a .labels .now) (k .if1 .taken)) (c .before .before .refusal .ensures .0)
 
 slice-aggregate-fill-threads : tie.Need-slice-aggregate-fill-threads
 slice-aggregate-fill-threads c = search needs
@@ -53,12 +54,14 @@ same-length-2 c = search needs
 
 returns-2 : tie.Need-returns-2
 returns-2 c =
-    let a = c .before .before .before .before .before .before .before .before .before .before .before .before .before .before .before .before .before .before .before .args in
-    let r = c .before .before .before .before .before .before .before .before .replay in
-    let k = filled-front (a .labels .now) _ _ (c .before .before .before .before .before .before .before .before .before .before .before .before .before .fill-threads .ensures) in
+    let h = c .before .before .before .before in
+    let r = h .before .before .before .before .replay in
+    let f = h .before .before .before .before .before .before .before .before .before in
+    let a = f .before .before .before .before .before .before .args in
+    let k = threads-front (a .labels .now) (replicate 1024 0) _ (omega arith) (f .fill-threads .ensures) in
     let e : r .result ≡ replayedOf (a .file .now) (replicate 4096 0) (map threadOf (a .labels .now)) (replicate 4096 0) = rw k at (r .ensures .0) in
-    let q = c .before .before .refusal2 in
-    shown _ _ (a .out .now) _ _ (text-refused (a .file .now) (a .labels .now) (replicate 4096 0) (replicate 4096 0) (c .before .before .before .before .before .before .before .before .before .before .before .before .before .before .before .if1 .left) (omega arith) (omega arith) (r .result) e (c .before .before .before .before .if2 .taken)) (q .ensures .0)
+    let t = text-refused (a .file .now) (a .labels .now) (replicate 4096 0) (replicate 4096 0) (f .before .before .if1 .left) (omega arith) (omega arith) (r .result) e (h .if2 .taken) in
+    writes-same t (c .before .before .refusal2 .ensures .0)
 
 mul-w : tie.Need-mul-w
 mul-w c = search needs
@@ -77,13 +80,15 @@ same-length-3 c = search needs
 
 returns-3 : tie.Need-returns-3
 returns-3 c =
-    let a = c .before .before .before .before .before .before .before .before .before .before .before .before .before .before .before .before .before .before .before .before .before .before .args in
-    let r = c .before .before .before .before .before .before .before .before .before .before .before .replay in
-    let k = filled-front (a .labels .now) _ _ (c .before .before .before .before .before .before .before .before .before .before .before .before .before .before .before .before .fill-threads .ensures) in
+    let h = c .before .before .before .before .before .before .before in
+    let r = h .before .before .before .before .replay in
+    let f = h .before .before .before .before .before .before .before .before .before in
+    let a = f .before .before .before .before .before .before .args in
+    let k = threads-front (a .labels .now) (replicate 1024 0) _ (omega arith) (f .fill-threads .ensures) in
     let e : r .result ≡ replayedOf (a .file .now) (replicate 4096 0) (map threadOf (a .labels .now)) (replicate 4096 0) = rw k at (r .ensures .0) in
     let b : _ ≡ answersAfter (a .file .now) (replicate 4096 0) (map threadOf (a .labels .now)) (replicate 4096 0) = rw k at (r .ensures .1 .1 .0) in
-    let q = c .before .before .transcript in
-    shown _ _ (a .out .now) _ _ (text-done (a .file .now) (a .labels .now) (replicate 4096 0) (replicate 4096 0) (c .before .before .before .before .before .before .before .before .before .before .before .before .before .before .before .before .before .before .if1 .left) (omega arith) (omega arith) (r .result) e (c .before .before .before .before .before .before .before .if2 .left) _ b (r .kept .1 .1 .1 .0)) (q .ensures .0)
+    let t = text-done (a .file .now) (a .labels .now) (replicate 4096 0) (replicate 4096 0) (f .before .before .if1 .left) (omega arith) (omega arith) (r .result) e (h .if2 .left) _ b (r .kept .1 .1 .1 .0) in
+    writes-same t (c .before .before .transcript .ensures .0)
 
 pub replay-text-spec : {M : Type 1} → statement M
 replay-text-spec =

@@ -3,9 +3,9 @@ use mathlib.Core.Path.{sym}
 use native.Mathlib.Omega.{arith}
 use lib.Seq.{length-take-le}
 use borrow.Author.Needs.{needs}
-use Rattle.sheet_print.proofs.PutLaws.{puts-then}
+use Rattle.buffers.proofs.PutLaws.{puts-then}
 use Rattle.transcript.specs.Transcript.{closingOf}
-use Rattle.transcript_print.proofs.WholeLaws.{transcript-long, transcript-short, transcript-whole, held-line, held-text, whole-fits}
+use Rattle.transcript_print.proofs.TranscriptLaws.{transcript-long, transcript-short, transcript-whole, held-line, held-text, whole-fits}
 use Rattle.transcript_print.proofs.transcript.Statement.{statement}
 use Rattle.transcript_print.proofs.transcript.Tie as tie
 
@@ -17,8 +17,9 @@ same-length c = search needs
 
 returns : tie.Need-returns
 returns c =
-    let a = c .before .before .before .before .before .before .before .before .args in
-    held-line _ _ (a .out .now) _ _ (transcript-long (a .labels .now) (a .answers .now) (a .v) (a .t) (a .site) (a .threads .at) (c .before .before .before .before .if1 .taken)) (c .before .before .refusal .ensures)
+    let k = c .before .before .before .before in
+    let a = k .before .before .before .before .args in
+    held-line (transcript-long (a .labels .now) (a .answers .now) (a .v) (a .t) (a .site) (a .threads .at) (k .if1 .taken)) (c .before .before .refusal .ensures)
 
 mul-if2 : tie.Need-mul-if2
 mul-if2 c = search needs
@@ -31,8 +32,9 @@ same-length-2 c = search needs
 
 returns-2 : tie.Need-returns-2
 returns-2 c =
-    let a = c .before .before .before .before .before .before .before .before .before .args in
-    held-line _ _ (a .out .now) _ _ (transcript-short (a .labels .now) (a .answers .now) (a .v) (a .t) (a .site) (a .threads .at) (c .before .before .before .before .before .if1 .left) (c .before .before .before .before .if2 .taken)) (c .before .before .refusal2 .ensures)
+    let k = c .before .before .before .before in
+    let a = k .before .before .before .before .before .args in
+    held-line (transcript-short (a .labels .now) (a .answers .now) (a .v) (a .t) (a .site) (a .threads .at) (k .before .if1 .left) (k .if2 .taken)) (c .before .before .refusal2 .ensures)
 
 slice-aggregate-put-r-lines : tie.Need-slice-aggregate-put-r-lines
 slice-aggregate-put-r-lines c = search needs
@@ -60,11 +62,14 @@ same-length-3 c = search needs
 
 returns-3 : tie.Need-returns-3
 returns-3 c =
-    let a = c .before .before .before .before .before .before .before .before .before .before .before .before .before .before .before .before .args in
-    let rs = c .before .before .before .before .before .before .before .before .before .put-r-lines in
-    let cs = c .before .before .before .before .before .before .put-closing in
-    let g = c .before .before .before .before .before .before .before .before .before .before .before .before .if1 .left in
-    held-text _ (a .out .now) _ _ (puts-then {ys = closingOf (a .v) (a .t) (a .site) (a .threads .at)} (rs .ensures .0) (cs .ensures .0)) (omega arith) (whole-fits (a .labels .now) g (rs .ensures .1) (cs .ensures .1)) (transcript-whole (a .labels .now) (a .answers .now) (a .v) (a .t) (a .site) (a .threads .at) g (c .before .before .before .before .before .before .before .before .before .before .before .if2 .left)) (c .before .before .copy-in .ensures)
+    let cs = c .before .before .before .before .before .before in
+    let rs = cs .before .before .before in
+    let k = rs .before .before in
+    let a = k .before .before .before .before .before .args in
+    let g = k .before .if1 .left in
+    let whole = transcript-whole (a .labels .now) (a .answers .now) (a .v) (a .t) (a .site) (a .threads .at) g (k .if2 .left) in
+    let put = puts-then {ys = closingOf (a .v) (a .t) (a .site) (a .threads .at)} (rs .put-r-lines .ensures .0) (cs .put-closing .ensures .0) in
+    held-text put (omega arith) (whole-fits (a .labels .now) g (rs .put-r-lines .ensures .1) (cs .put-closing .ensures .1)) whole (c .before .before .copy-in .ensures)
 
 pub transcript-spec : {M : Type 1} → statement M
 transcript-spec =

@@ -4,7 +4,7 @@ use native.Mathlib.Omega.{arith}
 use lib.ListN.{length-append}
 use lib.Seq.{length-take-le}
 use borrow.Author.Needs.{needs}
-use Rattle.sheet_print.proofs.CopyLaws.{counts}
+use Rattle.buffers.proofs.WriteLaws.{counts}
 use Rattle.test_files.proofs.parts.read_part.Statement.{statement}
 use Rattle.test_files.proofs.parts.read_part.Tie as tie
 

@@ -1,6 +1,6 @@
 -- `test_files::runs::answer` meets its contract.
 use borrow.Author.Needs.{needs}
-use Rattle.sheet_print.proofs.CopyLaws.{counts-text}
+use Rattle.buffers.proofs.WriteLaws.{counts-text}
 use Rattle.test_files.proofs.runs.answer.Statement.{statement}
 use Rattle.test_files.proofs.runs.answer.Tie as tie
 
@@ -13,7 +13,7 @@ same-length c = search needs
 returns : tie.Need-returns
 returns c =
     let p = c .before .before .replay-text in
-    counts-text _ _ _ _ (p .ensures .0) (p .kept .1 .1 .0)
+    counts-text (p .ensures) (p .kept .1 .1 .0)
 
 pub answer-spec : {M : Type 1} → statement M
 answer-spec = tie.close (tie.spec replay-text-requires same-length returns)

@@ -4,7 +4,7 @@ use mathlib.Core.Path.{_≡_, refl, _∙_}
 use native.Mathlib.Omega.{arith}
 use lib.ListN.{length, length-set}
 use borrow.Author.Needs.{needs}
-use Rattle.sheet_print.proofs.CopyLaws.{counts}
+use Rattle.buffers.proofs.WriteLaws.{counts}
 use Rattle.test_files.proofs.runs.read_labels.Statement.{statement}
 use Rattle.test_files.proofs.runs.read_labels.Tie as tie
 

@@ -1,0 +1,6 @@
+pub mod StoreLaws
+pub mod DigitsLaws
+pub mod PutLaws
+pub mod WriteLaws
+pub mod Computed
+pub mod Edges

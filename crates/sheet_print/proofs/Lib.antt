@@ -1,5 +1,0 @@
-pub mod PutLaws
-pub mod DigitsLaws
-pub mod CopyLaws
-pub mod LineLaws
-pub mod Edges
