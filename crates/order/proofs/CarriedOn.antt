@@ -19,15 +19,11 @@ use Rattle.early.specs.declared.Site.{Site}
 use Rattle.early.specs.Request.{Requested, grantedTo, requestOf, requestsOf}
 use Rattle.early_laws.proofs.GrantLaws.{itemsAfter-self}
 use Rattle.order.proofs.PlainFacts.{PlainFacts}
-use Rattle.order.proofs.KitLaws.{KitLaws}
+use Rattle.order.proofs.KitLaws.{Begins, KitLaws}
 use Rattle.order.proofs.Reached.{Reached}
 use Rattle.order.proofs.Progress.{some-granted}
 use Rattle.order.proofs.End.{history-past}
 use Rattle.order.proofs.Lists.{request-reached}
-
--- b begins with a
-abbrev pub Begins : List Item → List Item → Type 0
-Begins a b = (rest : List Item) × (b ≡ a ++ rest)
 
 -- a history only grows
 history-grows : (m : Model) (k i d : ℕ) → Begins (historyAt m k i) (historyAt m k (i + d))

@@ -64,7 +64,7 @@ module _ (m : Model) (pf : PlainFacts m) (marks : List (List Bool)) (ws : List �
           touched = touch-swap m p a (r .place) k touch
 
           marked : T (threadsConflict m marks k (threadAt ts k .segment) a (recordAt m p a .segment))
-          marked = rw (same-record r) (kl .footprints .marked k (recordAt m (r .place) k .segment) a (recordAt m p a .segment) (touched .variable) (λ e. other (sym e)) (kl .footprints .reached (r .place) k (r .runs)) (kl .footprints .reached p a runs) (touched .shared))
+          marked = rw (same-record r) (kl .needed .marked k (recordAt m (r .place) k .segment) a (recordAt m p a .segment) (touched .variable) (λ e. other (sym e)) (kl .needed .reached (r .place) k (r .runs)) (kl .needed .reached p a runs) (touched .shared))
 
           quiet : isSooner b a (stampAt c k) ≡ false
           quiet = kl .forecasts l ts .no-hazard k c clear a (recordAt m p a .segment) (runs .below) other (bd .live p a runs undone) (pf .segment-below p a (runs .below)) marked

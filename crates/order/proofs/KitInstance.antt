@@ -2,12 +2,13 @@
 -- and distance by paths, earliest, forecast and hazard by bounds. Of the tables it cites what a mark means and that a
 -- distance is the least over all paths.
 -- Assumes nothing.
-use Prim.Native.Nat.{ℕ, _<_, _+_}
+use Prim.Native.Nat.{ℕ, _≤_, _<_, _+_, _*_}
 use mathlib.Core.Path.{_≡_, sym, _∙_, subst}
+use mathlib.Core.Bool.{Bool}
 use mathlib.Core.List.{List, []}
 use native.Mathlib.Omega.{arith}
 use lib.Dec.{T}
-use lib.ListN.{length, getD}
+use lib.ListN.{length, getD, length-append, List·getD-append}
 use Rattle.base.proofs.BoolLaws.{T→true}
 use Rattle.clock.specs.declared.Cycle.{Cycle}
 use Rattle.clock.specs.declared.Wait.the-variants as wait
@@ -37,7 +38,7 @@ use Rattle.tables.specs.Distance.{stepOf, goesTo, edge, distanceOf}
 use Rattle.tables.specs.Word.{wordsOf, distanceIn}
 use Rattle.tables_laws.proofs.ConflictLaws.{shared→marked}
 use Rattle.tables_laws.proofs.DistanceLaws.{distanceOf-self, distanceOf-after, goesTo-next}
-use Rattle.tables_laws.proofs.WordLaws.{wordsOf-length, distanceIn-wordsOf, wordsOf-fit}
+use Rattle.tables_laws.proofs.WordLaws.{place-below, wordsOf-length, distanceIn-wordsOf, wordsOf-fit}
 use Rattle.plain_laws.proofs.RecordLaws.{stateAfter-Ready, stateAfter-not-Waiting, effectOf-thread, effectOf-waits, horizon→<}
 use Rattle.plain_laws.proofs.RangeLaws as range
 use Rattle.plain_laws.proofs.KeepLaws.{effectOf-notifies, modelFault-keeps}
@@ -49,7 +50,7 @@ use Rattle.early_laws.proofs.ForecastLaws as forecast
 use Rattle.early_laws.proofs.HazardLaws as danger
 use Rattle.early_laws.proofs.FitLaws.{→isFitThread, →isFitCycle, →isUnfitWords}
 use Rattle.order.proofs.Places.{recordAt, nowAt}
-use Rattle.order.proofs.KitLaws.{Footprints, Distances, Ranges, Forecasts, KitLaws}
+use Rattle.order.proofs.KitLaws.{Begins, Footprints, Needed, Distances, Ranges, Forecasts, KitLaws}
 use Rattle.order.proofs.PlainInstance.{plain-facts}
 
 -- a segment that closes ready at d has taken a step of the segment graph, whose advance leads from c to d
@@ -66,36 +67,54 @@ closed-waits s End c since v e f = let z : _≡_ {A = ℕ} 0 1 = cc in absurd (o
 closed-waits s (Time k x) c since v e f = absurd (stateAfter-not-Waiting (waitEnds (wait.Time k) c) e since f)
 closed-waits s (Event w x) c since v e f = rw (T→true (goesTo x (nextOf x v)) (goesTo-next x v)) advanceOf-Event
 
-module _ (m : Model) (fit : modelFault m ≡ 0) where
+-- the reader's marks, for threads that may reach every segment
+pub marksOf-needed : (m : Model) → modelFault m ≡ 0 → Needed m (marksOf m)
+unfolding threadsConflict writesIn usesIn segmentFor
+marksOf-needed m fit =
+    record {
+      Reaches = λ k s. s < m .n;
+      reached = λ i k r. plain-facts m fit .segment-below i k (r .below);
+      marked = λ i r j s v n p q h. shared→marked m fit r s p q v h;
+    }
+
+-- what is read of words that begin with the reader's
+module _ (m : Model) (fit : modelFault m ≡ 0) (ws : List ℕ) (begins : Begins (wordsOf m) ws) where
+  word-at : (i : ℕ) → i < m .n * m .n → getD ws i 0 ≡ getD (wordsOf m) i 0
+  word-at i h = rw (begins .1) (List·getD-append (wordsOf m) (begins .0) 0 i (omega (arith, wordsOf-length m)))
+
+  distance-at : (r s : ℕ) → r < m .n → s < m .n → distanceIn m ws r s ≡ distanceOf m r s
+  unfolding distanceIn
+  distance-at r s h l = rw (word-at (r * m .n + s) (place-below (m .n) r s h l)) (distanceIn-wordsOf m fit r s h l)
+
+  words-enough : m .n * m .n ≤ length ws
+  words-enough = rw (begins .1) (simp length-append (omega (arith, wordsOf-length m)))
+
+module _ (m : Model) (fit : modelFault m ≡ 0) (ws : List ℕ) (begins : Begins (wordsOf m) ws) where
   before-cut : (c : Cycle) → T (isBeforeHorizon m c) → c .time .0 < 1000000000
   before-cut c t = omega (arith, horizon→< m c t, modelFault-horizon m fit .1)
 
   agree : (k s : ℕ) (x y : List ℕ) → length x ≡ length y → ((v : ℕ) → T (usesIn m k s v) → getD x v 0 ≡ getD y v 0) → Agree (λ v. T (usesIn m k s v)) x y
   agree k s x y l h = record { same-length = l; same = h }
 
-  footprints : Footprints m (marksOf m)
-  unfolding threadsConflict writesIn usesIn segmentFor
+  footprints : Footprints m
   footprints =
       record {
-        Reaches = λ k s. s < m .n;
-        reached = λ i k r. plain-facts m fit .segment-below i k (r .below);
         writes-uses = λ k s v t. writesIn→usesIn m k s v t;
         sized = λ k s c x. effectOf-length m k s c x;
         frame = λ k s c x v e. effectOf-frame m k s c x v e;
         local-variables = λ k s c x y l h v u. effectOf-local m k s c x y (agree k s x y l h) .variables-agree .same v u;
         local-notified = λ k s c x y l h. effectOf-local m k s c x y (agree k s x y l h) .same-notified;
         local-thread = λ k s c x y l h. effectOf-local m k s c x y (agree k s x y l h) .same-thread;
-        marked = λ i r j s v n p q h. shared→marked m fit r s p q v h;
       }
 
   -- the bound on the distance to the next segment, from that to this one
   onward : (r a b : ℕ) (y : Bound) (c d : Cycle) → r < m .n → a < m .n → b < m .n → d .time .0 < 1000000000 → At c ⊕ edge m a b ≼ At d
-      → y ⊕ distanceIn m (wordsOf m) r a ≼ At c → y ⊕ distanceIn m (wordsOf m) r b ≼ At d
+      → y ⊕ distanceIn m ws r a ≼ At c → y ⊕ distanceIn m ws r b ≼ At d
   onward r a b y c d rn an bn before step h =
-      rw (distanceIn-wordsOf m fit r b rn bn)
+      rw (distance-at m fit ws begins r b rn bn)
       (distanceOf-after m r a b rn an bn y d before
       (≼-trans ((y ⊕ distanceOf m r a) ⊕ edge m a b) (At c ⊕ edge m a b) (At d)
-      (⊕-mono (y ⊕ distanceOf m r a) (At c) (edge m a b) (edge m a b) (rw (distanceIn-wordsOf m fit r a rn an) at h) (≼-refl (edge m a b)))
+      (⊕-mono (y ⊕ distanceOf m r a) (At c) (edge m a b) (edge m a b) (rw (distance-at m fit ws begins r a rn an) at h) (≼-refl (edge m a b)))
       step))
 
   next-below : (k a : ℕ) (c : Cycle) (x : List ℕ) → a < m .n → effectOf m k a c x .thread .segment < m .n
@@ -114,7 +133,7 @@ module _ (m : Model) (fit : modelFault m ≡ 0) where
       (closed-waits a (segmentAt m a .closer) c since (effectOf m k a c x .variables) e) f
 
   over-event : (k r a e : ℕ) (c since h : Cycle) (x : List ℕ) (y : Bound) → k < m .t → r < m .n → a < m .n → effectOf m k a c x .thread .state ≡ Waiting e since → since ⊑ h → T (isBeforeHorizon m h)
-      → y ⊕ distanceIn m (wordsOf m) r a ≼ At c → y ⊕ distanceIn m (wordsOf m) r (effectOf m k a c x .thread .segment) ≼ At h ⊕ oneDelta
+      → y ⊕ distanceIn m ws r a ≼ At c → y ⊕ distanceIn m ws r (effectOf m k a c x .thread .segment) ≼ At h ⊕ oneDelta
   over-event k r a e c since h x y kt rn an f b t l =
       let start : c ⊑ h = subst (λ (z : Cycle). z ⊑ h) (effectOf-waits m k a c x e since f) b in
       rw (⊕-oneDelta h)
@@ -128,25 +147,25 @@ module _ (m : Model) (fit : modelFault m ≡ 0) where
   listed-below k s e below t =
       modelFault-keeps m fit .notifies k s (cycleAt 0 0) [] e below (subst (λ (es : List ℕ). T (has es e)) (sym (notified-listed m k s (cycleAt 0 0) [])) t)
 
-  distances : Distances m (wordsOf m)
+  distances : Distances m ws
   distances =
       record {
         over-wait = λ k r a c d x y kt rn an f t l. onward r a (effectOf m k a c x .thread .segment) y c d rn an (next-below k a c x an) (before-cut d t) (subst (λ (z : Bound). z ≼ At d) (sym (edge-ready k a c d x f)) (≼-refl (At d))) l;
         over-event = over-event;
-        self = λ r h. distanceIn-wordsOf m fit r r h h ∙ distanceOf-self m r h;
+        self = λ r h. distance-at m fit ws begins r r h h ∙ distanceOf-self m r h;
         segment-below = λ k a c x kt h. next-below k a c x h;
         listed = λ k s c x e t. effectOf-notifies m k s c x e t;
         listed-below = listed-below;
         wait-begins = λ k s c x e since f. effectOf-waits m k s c x e since f;
       }
 
-  ranges : Ranges m (wordsOf m)
+  ranges : Ranges m ws
   unfolding isFitWord
   ranges =
       let kept = modelFault-keeps m fit in
       record {
         model = fit;
-        words = →isUnfitWords m (wordsOf m) (omega (arith, wordsOf-length m)) (λ i h. wordsOf-fit m fit i h);
+        words = →isUnfitWords m ws (words-enough m fit ws begins) (λ i h. rw (word-at m fit ws begins i h) (wordsOf-fit m fit i h));
         threads = modelFault-counts m fit .threads;
         events = modelFault-counts m fit .events;
         horizon = modelFault-horizon m fit .1;
@@ -154,20 +173,20 @@ module _ (m : Model) (fit : modelFault m ≡ 0) where
         fit-now = λ i. let p = range.in-range m kept i in →isFitCycle 1000000000 (nowAt m i) (record { time = omega (arith, p .now-time, modelFault-horizon m fit .1); delta = p .now-delta });
       }
 
-  forecasts : (l : List Notification) (ts : List Thread) → Forecasts m (marksOf m) (wordsOf m) l ts
-  forecasts l ts =
-      let ws = wordsOf m in
-      record {
-        earliest = earliestAt m ws l ts;
-        ready = earliest-ready m ws l ts;
-        heard = earliest-heard m ws l ts;
-        linked = earliest-linked m ws l ts;
-        attained = earliest-attained m ws l ts;
-        forecast-below = forecast.forecast-below m ws l ts;
-        forecast-attained = λ e b f. let (k, s, p, q, _, _, r) = forecast.forecast-attained m ws l ts e b f in (k, s, p, q, r);
-        no-hazard = λ i c. danger.no-hazard m (marksOf m) ws l ts i c;
-        some-hazard = λ i c e. let (j, s, t) = danger.hazard→threat m (marksOf m) ws l ts i c e in (j, s, t .thread, t .other, t .live, t .sooner);
-      }
+  module _ (marks : List (List Bool)) where
+    forecasts : (l : List Notification) (ts : List Thread) → Forecasts m marks ws l ts
+    forecasts l ts =
+        record {
+          earliest = earliestAt m ws l ts;
+          ready = earliest-ready m ws l ts;
+          heard = earliest-heard m ws l ts;
+          linked = earliest-linked m ws l ts;
+          attained = earliest-attained m ws l ts;
+          forecast-below = forecast.forecast-below m ws l ts;
+          forecast-attained = λ e b f. let (k, s, p, q, _, _, r) = forecast.forecast-attained m ws l ts e b f in (k, s, p, q, r);
+          no-hazard = λ i c. danger.no-hazard m marks ws l ts i c;
+          some-hazard = λ i c e. let (j, s, t) = danger.hazard→threat m marks ws l ts i c e in (j, s, t .thread, t .other, t .live, t .sooner);
+        }
 
-  pub kit-laws : KitLaws m (marksOf m) (wordsOf m)
-  kit-laws = record { footprints = footprints; distances = distances; ranges = ranges; forecasts = forecasts }
+    pub kit-laws : Needed m marks → KitLaws m marks ws
+    kit-laws needed = record { footprints = footprints; needed = needed; distances = distances; ranges = ranges; forecasts = forecasts }

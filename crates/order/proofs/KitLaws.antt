@@ -5,7 +5,7 @@ use Prim.Native.Nat.{ℕ, _≤_, _<_}
 use mathlib.Core.Path.{_≡_}
 use mathlib.Core.Logic.{_⊎_}
 use mathlib.Core.Bool.{Bool, true, false}
-use mathlib.Core.List.{List, List·Memᴰ}
+use mathlib.Core.List.{List, _++_, List·Memᴰ}
 use lib.Dec.{T}
 use lib.ListN.{length, getD}
 use Rattle.clock.specs.declared.Cycle.{Cycle}
@@ -29,11 +29,12 @@ use Rattle.early.specs.Hazard.{threadsConflict, isSooner, hazard}
 use Rattle.early.specs.Fit.{isFitCycle, isFitThread, isUnfitWords}
 use Rattle.order.proofs.Places.{Runs, nowAt, recordAt}
 
+-- list b begins with list a
+abbrev pub Begins : {A : Type 0} → List A → List A → Type 0
+Begins {A} a b = (rest : List A) × (b ≡ a ++ rest)
+
 -- L1: what a thread does in a segment, on variables of which there are 64
-pub record Footprints (m : Model) (marks : List (List Bool)) : Type 1 where
-  -- the segments that a thread can run
-  pub Reaches : ℕ → ℕ → Type 0
-  pub reached : (i k : ℕ) → Runs m i k → Reaches k (recordAt m i k .segment)
+pub record Footprints (m : Model) : Type 0 where
   pub writes-uses : (k s v : ℕ) → T (writesIn m k s v) → T (usesIn m k s v)
   pub sized : (k s : ℕ) (c : Cycle) (x : List ℕ) → length (effectOf m k s c x .variables) ≡ length x
   pub frame : (k s : ℕ) (c : Cycle) (x : List ℕ) (v : ℕ) → writesIn m k s v ≡ false → getD (effectOf m k s c x .variables) v 0 ≡ getD x v 0
@@ -41,7 +42,13 @@ pub record Footprints (m : Model) (marks : List (List Bool)) : Type 1 where
   pub local-variables : (k s : ℕ) (c : Cycle) (x y : List ℕ) → length x ≡ length y → ((v : ℕ) → T (usesIn m k s v) → getD x v 0 ≡ getD y v 0) → (v : ℕ) → T (usesIn m k s v) → getD (effectOf m k s c x .variables) v 0 ≡ getD (effectOf m k s c y .variables) v 0
   pub local-notified : (k s : ℕ) (c : Cycle) (x y : List ℕ) → length x ≡ length y → ((v : ℕ) → T (usesIn m k s v) → getD x v 0 ≡ getD y v 0) → effectOf m k s c x .notified ≡ effectOf m k s c y .notified
   pub local-thread : (k s : ℕ) (c : Cycle) (x y : List ℕ) → length x ≡ length y → ((v : ℕ) → T (usesIn m k s v) → getD x v 0 ≡ getD y v 0) → effectOf m k s c x .thread ≡ effectOf m k s c y .thread
-  -- different threads that touch a variable which one of them writes are marked as in conflict
+
+-- L1: the conflicts that the marks must hold, and they may hold more
+pub record Needed (m : Model) (marks : List (List Bool)) : Type 1 where
+  -- the segments that a thread can run
+  pub Reaches : ℕ → ℕ → Type 0
+  pub reached : (i k : ℕ) → Runs m i k → Reaches k (recordAt m i k .segment)
+  -- different threads that touch a variable which one of them writes are in conflict
   pub marked : (i r j s v : ℕ) → (i ≡ j → ⊥) → Reaches i r → Reaches j s → (T (writesIn m i r v) × T (usesIn m j s v)) ⊎ (T (usesIn m i r v) × T (writesIn m j s v)) → T (threadsConflict m marks i r j s)
 
 -- L2 and L3: distances along what a thread does, below the horizon; and what it lists as notifying
@@ -83,7 +90,8 @@ pub record Ranges (m : Model) (ws : List ℕ) : Type 0 where
   pub fit-now : (i : ℕ) → T (isFitCycle cutTime (nowAt m i))
 
 pub record KitLaws (m : Model) (marks : List (List Bool)) (ws : List ℕ) : Type 1 where
-  pub footprints : Footprints m marks
+  pub footprints : Footprints m
+  pub needed : Needed m marks
   pub distances : Distances m ws
   pub ranges : Ranges m ws
   pub forecasts : (l : List Notification) (ts : List Thread) → Forecasts m marks ws l ts

@@ -18,13 +18,19 @@ use Rattle.plain.specs.History.{historyAt}
 use Rattle.early.specs.declared.Answer.the-variants.{Granted}
 use Rattle.early.specs.Request.{Requested, requestOf, freshSite, Listed, requestsOf}
 
--- "The first gets the fresh state, each later one the state and thread records that the last one left": with the tables that the reader made
-unfoldable pub afterList : Model → List ℕ → Listed
-afterList m ks = requestsOf m (marksOf m) (wordsOf m) freshSite (freshThreads m) ks
+-- "The first gets the fresh state, each later one the state and thread records that the last one left": with these marks and words
+abbrev pub afterListWith : Model → List (List Bool) → List ℕ → List ℕ → Listed
+afterListWith m marks ws ks = requestsOf m marks ws freshSite (freshThreads m) ks
+
+-- with the tables that the reader made
+abbrev pub afterList : Model → List ℕ → Listed
+afterList m ks = afterListWith m (marksOf m) (wordsOf m) ks
 
 -- the request of thread k, made next
-unfoldable pub requestNext : Model → List ℕ → ℕ → Requested
-requestNext m ks k = requestOf m (marksOf m) (wordsOf m) (afterList m ks .site) (afterList m ks .threads) k
+abbrev pub requestNext : Model → List (List Bool) → List ℕ → List ℕ → ℕ → Requested
+requestNext m marks ws ks k =
+    let a = afterListWith m marks ws ks in
+    requestOf m marks ws (a .site) (a .threads) k
 
 -- "every variable, every thread's history and every thread's closing state equal those of the plain run": at step i
 pub record AgreesAt (m : Model) (a : Listed) (i : ℕ) : Type 0 where
@@ -32,12 +38,15 @@ pub record AgreesAt (m : Model) (a : Listed) (i : ℕ) : Type 0 where
   pub history : (k : ℕ) → k < m .t → a .history k ≡ historyAt m k i
   pub closing : (k : ℕ) → k < m .t → threadAt (a .threads) k ≡ threadAt (placeAt m i .threads) k
 
-pub record Claim (m : Model) (ks : List ℕ) : Type 0 where
+pub record Claim (m : Model) (marks : List (List Bool)) (ws ks : List ℕ) : Type 0 where
   -- "where no thread is ready before the horizon": equal to "the plain run carried on until it is done"
-  pub at-end : someReady m (afterList m ks .threads) ≡ false → (i : ℕ) × (isDone m (placeAt m i) ≡ true) × AgreesAt m (afterList m ks) i
+  pub at-end : someReady m (afterListWith m marks ws ks .threads) ≡ false → (i : ℕ) × (isDone m (placeAt m i) ≡ true) × AgreesAt m (afterListWith m marks ws ks) i
   -- "where one is ready before it, some thread's request, made next, is granted"
-  pub goes-on : someReady m (afterList m ks .threads) ≡ true → (k : ℕ) × (s : ℕ) × (c : Cycle) × (requestNext m ks k .answer ≡ Granted s c)
+  pub goes-on : someReady m (afterListWith m marks ws ks .threads) ≡ true → (k : ℕ) × (s : ℕ) × (c : Cycle) × (requestNext m marks ws ks k .answer ≡ Granted s c)
 
--- "Take any list of requests on an accepted model, for whichever threads and in whatever order, refused ones included."
+-- "Take any list of requests on an accepted model, for whichever threads and in whatever order, refused ones included.": with the reader's tables
 abbrev pub OrderIndependence : Type 0
-OrderIndependence = (bytes : List ℕ) → readFile bytes .number ≡ accepted → (ks : List ℕ) → Claim (readFile bytes .model) ks
+OrderIndependence =
+    (bytes : List ℕ) → readFile bytes .number ≡ accepted → (ks : List ℕ) →
+    let m = readFile bytes .model in
+    Claim m (marksOf m) (wordsOf m) ks

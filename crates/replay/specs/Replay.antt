@@ -9,6 +9,8 @@ use lib.ListN.{length, drop, replicate}
 use Rattle.model.specs.declared.Model.{Model}
 use Rattle.model.specs.Refusal.{accepted, unfit}
 use Rattle.model.specs.Record.{noThread}
+use Rattle.tables.specs.Conflict.{marksOf}
+use Rattle.tables.specs.Word.{wordsOf}
 use Rattle.reader_load.specs.Load.{loadOf, loadBuffer}
 use Rattle.early.specs.Request.{freshSite}
 use Rattle.early_request.specs.Answers.{answersWords, grantedIn, isShort}
@@ -48,4 +50,4 @@ answersAfter file words ks answers =
 pub record Keeps (m : Model) (ks : List ℕ) (r : Replayed) : Type 0 where
   pub site : r .site ≡ afterList m ks .site
   pub threads : r .threads .at ≡ afterList m ks .threads
-  pub claim : Claim m ks
+  pub claim : Claim m (marksOf m) (wordsOf m) ks
