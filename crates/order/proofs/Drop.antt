@@ -17,10 +17,9 @@ use Rattle.clock.proofs.OrderLaws.{⊑-total, Before→⊑, Before→not-⊑, �
 use Rattle.clock.proofs.LeastLaws.{leastBelow-≼, leastBelow-one}
 use Rattle.clock.proofs.AdvanceLaws.{⊕-inflate}
 use Rattle.model.specs.declared.Model.{Model}
-use Rattle.model.specs.declared.State.{State}
-use Rattle.model.specs.declared.State.the-variants.{Ended, Overrun, Ready, Waiting}
 use Rattle.model.specs.declared.Thread.{Thread}
-use Rattle.model.specs.Record.{threadAt, isLive, Awaited, nothing, awaits, awaitedBy}
+use Rattle.model.specs.Record as view
+use Rattle.model.specs.Record.{threadAt, isLive, Awaited, nothing, awaits, awaitedBy, awaitedOf, View, viewOf}
 use Rattle.tables_laws.proofs.PathLaws.{At-not-Never}
 use Rattle.plain.specs.Wake.{floorOf}
 use Rattle.plain.specs.History.{Item}
@@ -43,17 +42,16 @@ abbrev hearable : List Notification → Awaited → Bound
 hearable l nothing = Never
 hearable l (awaits e since) = leastHeard l e since
 
-hearable-waits : (l : List Notification) (s : State) (c : Cycle) → hearable l (awaitedBy s) ≡ At c → (e : ℕ) × (since : Cycle) × (s ≡ Waiting e since) × (leastHeard l e since ≡ At c)
-hearable-waits l (Ended d) c e = absurd (At-not-Never (sym e))
-hearable-waits l (Overrun d) c e = absurd (At-not-Never (sym e))
-hearable-waits l (Ready d) c e = absurd (At-not-Never (sym e))
-hearable-waits l (Waiting a d) c e = (a, d, refl, e)
+hearable-waits : (l : List Notification) (v : View) (c : Cycle) → hearable l (awaitedOf v) ≡ At c → (e : ℕ) × (since : Cycle) × (v ≡ view.waits e since) × (leastHeard l e since ≡ At c)
+hearable-waits l view.idle c e = absurd (At-not-Never (sym e))
+hearable-waits l (view.ready d) c e = absurd (At-not-Never (sym e))
+hearable-waits l (view.waits a d) c e = (a, d, refl, e)
 
 -- thread k waits on y's event, not after y: it could hear y
 pub record Hearable (m : Model) (l : List Notification) (ts : List Thread) (k : ℕ) (y : Notification) : Type 0 where
   pub below : k < m .t
   pub since : Cycle
-  pub waits : threadAt ts k .state ≡ Waiting (y .event) since
+  pub waits : viewOf (threadAt ts k .state) ≡ view.waits (y .event) since
   pub logged : List·Memᴰ y l
   pub begun : since ⊑ y .cycle
 
@@ -95,26 +93,26 @@ module _ (m : Model) (marks : List (List Bool)) (ws : List ℕ) (kl : KitLaws m 
       (leastHeard l (y .event) (h .since))
       (At (y .cycle))
       (subst
-      (λ (s : State). leastHearable ≼ hearable l (awaitedBy s))
+      (λ (v : View). leastHearable ≼ hearable l (awaitedOf v))
       (h .waits)
       (leastBelow-≼ (m .t) (λ k. hearable l (awaitedBy (threadAt ts k .state))) k (h .below)))
       (leastHeard-≼ l (y .event) (h .since) y (h .logged) refl (h .begun))
 
   -- If the least that anybody could hear is at c and nobody hears, the floor is not after c: some forecast is before c,
   -- so some earliest; that comes from a ready thread, or from something smaller that somebody could hear.
-  floor-below-least : Rest m ws l ts → (k e : ℕ) (since c : Cycle) → k < m .t → threadAt ts k .state ≡ Waiting e since → leastHeard l e since ≡ At c → leastHearable ≡ At c → floorOf m ts ≼ At c
+  floor-below-least : Rest m ws l ts → (k e : ℕ) (since c : Cycle) → k < m .t → viewOf (threadAt ts k .state) ≡ view.waits e since → leastHeard l e since ≡ At c → leastHearable ≡ At c → floorOf m ts ≼ At c
   floor-below-least rest k e since c below w p q =
       forecast (before-or-not (forecastOf m ws l ts e) c (heardNow-none m ws l ts e since c none p))
     where
       none : heardNow m ws l ts (awaits e since) ≡ Never
-      none = subst (λ (s : State). heardNow m ws l ts (awaitedBy s) ≡ Never) w (rest k below)
+      none = subst (λ (v : View). heardNow m ws l ts (awaitedOf v) ≡ Never) w (rest k below)
 
       earliest : ℕ → Bound
       earliest = kl .forecasts l ts .earliest
 
       from : (j : ℕ) (a b : Cycle) → a ⊑ b → Before b c →
-          ((i : ℕ) × (d : Cycle) × (i < m .t) × (threadAt ts i .state ≡ Ready d) × (d ⊑ a) × ((f : ℕ) (u : Cycle) → threadAt ts j .state ≡ Waiting f u → Before d a))
-          ⊎ ((i : ℕ) × (f : ℕ) × (u : Cycle) × (y : Notification) × (i < m .t) × (threadAt ts i .state ≡ Waiting f u) × List·Memᴰ y l × (y .event ≡ f) × (u ⊑ y .cycle) × Before (y .cycle) a) →
+          ((i : ℕ) × (d : Cycle) × (i < m .t) × (viewOf (threadAt ts i .state) ≡ view.ready d) × (d ⊑ a) × ((f : ℕ) (u : Cycle) → viewOf (threadAt ts j .state) ≡ view.waits f u → Before d a))
+          ⊎ ((i : ℕ) × (f : ℕ) × (u : Cycle) × (y : Notification) × (i < m .t) × (viewOf (threadAt ts i .state) ≡ view.waits f u) × List·Memᴰ y l × (y .event ≡ f) × (u ⊑ y .cycle) × Before (y .cycle) a) →
           floorOf m ts ≼ At c
       from j a b ab bc (inl (i, d, i-below, ready, da, _)) =
           ≼-trans (floorOf m ts) (At d) (At c) (floor-below m ts i d i-below ready) (⊑-trans da (⊑-trans ab (Before→⊑ bc)))
@@ -126,7 +124,7 @@ module _ (m : Model) (marks : List (List Bool)) (ws : List ℕ) (kl : KitLaws m 
               leastHearable-≼
               i
               y
-              (record { below = i-below; since = u; waits = subst (λ (g : ℕ). threadAt ts i .state ≡ Waiting g u) (sym ev) waits; logged = logged; begun = uy })
+              (record { below = i-below; since = u; waits = subst (λ (g : ℕ). viewOf (threadAt ts i .state) ≡ view.waits g u) (sym ev) waits; logged = logged; begun = uy })
 
       forecast : (b : Cycle) × (forecastOf m ws l ts e ≡ At b) × Before b c → floorOf m ts ≼ At c
       forecast (b, fb, bc) = attained (kl .forecasts l ts .forecast-attained e b fb)
@@ -147,22 +145,22 @@ module _ (m : Model) (marks : List (List Bool)) (ws : List ℕ) (kl : KitLaws m 
           go : (leastHearable ≡ Never) ⊎ ((i : ℕ) × (i < m .t) × (leastHearable ≡ hearable l (awaitedBy (threadAt ts i .state)))) → floorOf m ts ≼ At (y .cycle)
           go (inl n) = absurd (At-not-Never (sym p ∙ n))
           go (inr (i, below, q)) =
-              let (e, since, w, r) = hearable-waits l (threadAt ts i .state) c (sym q ∙ p) in
+              let (e, since, w, r) = hearable-waits l (viewOf (threadAt ts i .state)) c (sym q ∙ p) in
               ≼-trans (floorOf m ts) (At c) (At (y .cycle)) (floor-below-least rest i e since c below w r p) cy
 
   -- a finite earliest comes from a cycle at the floor or later; a waiting thread's comes later than that
   pub earliest-source : Quiet m l ts → (k : ℕ) (b : Cycle) → k < m .t → kl .forecasts l ts .earliest k ≡ At b
-      → (d : Cycle) × (floorOf m ts ≼ At d) × (d ⊑ b) × ((e : ℕ) (since : Cycle) → threadAt ts k .state ≡ Waiting e since → Before d b)
+      → (d : Cycle) × (floorOf m ts ≼ At d) × (d ⊑ b) × ((e : ℕ) (since : Cycle) → viewOf (threadAt ts k .state) ≡ view.waits e since → Before d b)
   earliest-source quiet k b below e = from (kl .forecasts l ts .attained k b below e)
     where
       from :
-          ((i : ℕ) × (d : Cycle) × (i < m .t) × (threadAt ts i .state ≡ Ready d) × (d ⊑ b) × ((f : ℕ) (u : Cycle) → threadAt ts k .state ≡ Waiting f u → Before d b))
-          ⊎ ((i : ℕ) × (f : ℕ) × (u : Cycle) × (y : Notification) × (i < m .t) × (threadAt ts i .state ≡ Waiting f u) × List·Memᴰ y l × (y .event ≡ f) × (u ⊑ y .cycle) × Before (y .cycle) b) →
-          (d : Cycle) × (floorOf m ts ≼ At d) × (d ⊑ b) × ((e : ℕ) (since : Cycle) → threadAt ts k .state ≡ Waiting e since → Before d b)
+          ((i : ℕ) × (d : Cycle) × (i < m .t) × (viewOf (threadAt ts i .state) ≡ view.ready d) × (d ⊑ b) × ((f : ℕ) (u : Cycle) → viewOf (threadAt ts k .state) ≡ view.waits f u → Before d b))
+          ⊎ ((i : ℕ) × (f : ℕ) × (u : Cycle) × (y : Notification) × (i < m .t) × (viewOf (threadAt ts i .state) ≡ view.waits f u) × List·Memᴰ y l × (y .event ≡ f) × (u ⊑ y .cycle) × Before (y .cycle) b) →
+          (d : Cycle) × (floorOf m ts ≼ At d) × (d ⊑ b) × ((e : ℕ) (since : Cycle) → viewOf (threadAt ts k .state) ≡ view.waits e since → Before d b)
       from (inl (i, d, i-below, ready, db, strict)) = (d, floor-below m ts i d i-below ready, db, strict)
       from (inr (i, f, u, y, i-below, waits, logged, ev, uy, yb)) = (
         y .cycle,
-        quiet i y (record { below = i-below; since = u; waits = subst (λ (g : ℕ). threadAt ts i .state ≡ Waiting g u) (sym ev) waits; logged = logged; begun = uy }),
+        quiet i y (record { below = i-below; since = u; waits = subst (λ (g : ℕ). viewOf (threadAt ts i .state) ≡ view.waits g u) (sym ev) waits; logged = logged; begun = uy }),
         Before→⊑ yb,
         λ g v w. yb,
       )
@@ -176,7 +174,7 @@ module _ (m : Model) (marks : List (List Bool)) (ws : List ℕ) (kl : KitLaws m 
       go (At b) e = let (d, fd, db, _) = earliest-source quiet k b below e in ≼-trans (floorOf m ts) (At d) (At b) fd db
 
   -- a waiting thread's is later
-  pub waiting-after-floor : Quiet m l ts → (k e : ℕ) (since f b : Cycle) → k < m .t → threadAt ts k .state ≡ Waiting e since → floorOf m ts ≡ At f → kl .forecasts l ts .earliest k ≡ At b → Before f b
+  pub waiting-after-floor : Quiet m l ts → (k e : ℕ) (since f b : Cycle) → k < m .t → viewOf (threadAt ts k .state) ≡ view.waits e since → floorOf m ts ≡ At f → kl .forecasts l ts .earliest k ≡ At b → Before f b
   waiting-after-floor quiet k e since f b below w fl eb =
       let (d, fd, _, strict) = earliest-source quiet k b below eb in
       ⊑-Before-trans (subst (λ (z : Bound). z ≼ At d) fl fd) (strict e since w)
@@ -212,7 +210,7 @@ module _ {m : Model} {x : List ℕ} {l : List Notification} {ts : List Thread} {
             unheard = λ k since below w. past k since below w (⊑-total since c);
           }
         where
-          past : (k : ℕ) (since : Cycle) → k < m .t → threadAt ts k .state ≡ Waiting e since → (since ⊑ c) ⊎ Before c since → Before c since
+          past : (k : ℕ) (since : Cycle) → k < m .t → viewOf (threadAt ts k .state) ≡ view.waits e since → (since ⊑ c) ⊎ Before c since → Before c since
           past k since below w (inl begun) =
               absurd (before (quiet k (pairOf e c) (record { below = below; since = since; waits = w; logged = logged; begun = begun })))
           past k since below w (inr b) = b

@@ -19,10 +19,10 @@ use Rattle.clock.specs.Order.{_⊑_, _≼_}
 use Rattle.clock.proofs.OrderLaws.{Before→not-⊑, ≼-trans}
 use Rattle.clock.proofs.AdvanceLaws.{⊕-inflate}
 use Rattle.model.specs.declared.Model.{Model}
-use Rattle.model.specs.declared.State.the-variants.{Waiting}
 use Rattle.model.specs.declared.Thread.{Thread}
 use Rattle.model.specs.Limits.{isBeforeHorizon}
-use Rattle.model.specs.Record.{threadAt}
+use Rattle.model.specs.Record as view
+use Rattle.model.specs.Record.{threadAt, viewOf}
 use Rattle.plain.specs.Start.{Place}
 use Rattle.plain.specs.Step.{placeAt}
 use Rattle.plain.specs.Wake.{floorOf, someReady}
@@ -105,8 +105,8 @@ module _ (m : Model) (pf : PlainFacts m) (marks : List (List Bool)) (ws : List �
     no-wake : (i k e : ℕ) (since : Cycle) → recordAt m i k ≡ recordAt m (cut k) k → Hears m i k e since → ⊥
     no-wake i k e since stays heard = told (pf .source i k e since heard)
       where
-        waits : threadAt ts k .state ≡ Waiting e since
-        waits = ap (λ (t : Thread). t .state) (ic .records k (heard .below) ∙ sym stays) ∙ heard .waits
+        waits : viewOf (threadAt ts k .state) ≡ view.waits e since
+        waits = ap (λ (t : Thread). viewOf (t .state)) (ic .records k (heard .below) ∙ sym stays) ∙ heard .waits
 
         told : (q : ℕ) × (j : ℕ) × (q < i) × Says m q j e × (nowAt m q ≡ nowAt m i) → ⊥
         told (q, j, _, says, now) = go (ic .logged q j e (record { runs = says .runs; passed = all-done q j (says .runs) }) says)

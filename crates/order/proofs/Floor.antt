@@ -10,10 +10,9 @@ use Rattle.clock.specs.declared.Bound.the-variants.{Never, At}
 use Rattle.clock.specs.Order.{_⊑_, _≼_}
 use Rattle.clock.proofs.LeastLaws.{leastBelow-glb}
 use Rattle.model.specs.declared.Model.{Model}
-use Rattle.model.specs.declared.State.{State}
-use Rattle.model.specs.declared.State.the-variants.{Ended, Overrun, Ready, Waiting}
 use Rattle.model.specs.declared.Thread.{Thread}
-use Rattle.model.specs.Record.{threadAt, readyCycle}
+use Rattle.model.specs.Record as view
+use Rattle.model.specs.Record.{threadAt, readyCycle, readyCycleOf, View, viewOf}
 use Rattle.plain.specs.Wake.{floorOf}
 use Rattle.plain_laws.proofs.WakeLaws.{floorOf-≼}
 
@@ -23,16 +22,15 @@ finite-below Never c h = absurd h
 finite-below (At d) c h = (d, refl, h)
 
 -- no ready thread is before the floor
-pub floor-below : (m : Model) (ts : List Thread) (k : ℕ) (c : Cycle) → k < m .t → threadAt ts k .state ≡ Ready c → floorOf m ts ≼ At c
-floor-below m ts k c below r = subst (λ (b : Bound). floorOf m ts ≼ b) (ap readyCycle r) (floorOf-≼ m ts k below)
+pub floor-below : (m : Model) (ts : List Thread) (k : ℕ) (c : Cycle) → k < m .t → viewOf (threadAt ts k .state) ≡ view.ready c → floorOf m ts ≼ At c
+floor-below m ts k c below r = subst (λ (b : Bound). floorOf m ts ≼ b) (ap readyCycleOf r) (floorOf-≼ m ts k below)
 
 -- a bound that is not after any ready thread is not after the floor
-pub floor-glb : (m : Model) (ts : List Thread) (low : Bound) → ((k : ℕ) (c : Cycle) → k < m .t → threadAt ts k .state ≡ Ready c → low ≼ At c) → low ≼ floorOf m ts
+pub floor-glb : (m : Model) (ts : List Thread) (low : Bound) → ((k : ℕ) (c : Cycle) → k < m .t → viewOf (threadAt ts k .state) ≡ view.ready c → low ≼ At c) → low ≼ floorOf m ts
 unfolding floorOf
-floor-glb m ts low h = leastBelow-glb low (m .t) (λ k. readyCycle (threadAt ts k .state)) (λ k below. go k below (threadAt ts k .state) refl)
+floor-glb m ts low h = leastBelow-glb low (m .t) (λ k. readyCycle (threadAt ts k .state)) (λ k below. go k below (viewOf (threadAt ts k .state)) refl)
   where
-    go : (k : ℕ) → k < m .t → (s : State) → threadAt ts k .state ≡ s → low ≼ readyCycle s
-    go k below (Ended d) e = tt
-    go k below (Overrun d) e = tt
-    go k below (Ready d) e = h k d below e
-    go k below (Waiting a d) e = tt
+    go : (k : ℕ) → k < m .t → (v : View) → viewOf (threadAt ts k .state) ≡ v → low ≼ readyCycleOf v
+    go k below view.idle e = tt
+    go k below (view.ready d) e = h k d below e
+    go k below (view.waits a d) e = tt

@@ -17,10 +17,10 @@ use Rattle.clock.specs.Cycle.{stampAt}
 use Rattle.clock.specs.Advance.{_⊕_}
 use Rattle.clock.proofs.CycleLaws.{StampBefore}
 use Rattle.model.specs.declared.Model.{Model}
-use Rattle.model.specs.declared.State.the-variants.{Ready}
 use Rattle.model.specs.declared.Thread.{Thread}
 use Rattle.model.specs.Limits.{isBeforeHorizon}
-use Rattle.model.specs.Record.{threadAt}
+use Rattle.model.specs.Record as view
+use Rattle.model.specs.Record.{threadAt, viewOf}
 use Rattle.model.specs.Effect.{Effect, effectOf}
 use Rattle.model.specs.Footprint.{usesIn}
 use Rattle.plain.specs.Step.{placeAt}
@@ -38,11 +38,11 @@ use Rattle.order.proofs.LowerBound.{bounded}
 
 module _ (m : Model) (pf : PlainFacts m) (marks : List (List Bool)) (ws : List ℕ) (kl : KitLaws m marks ws)
     {x : List ℕ} {l : List Notification} {ts : List Thread} {h : ℕ → List Item} {cut : ℕ → ℕ} {low : Bound}
-    (ic : IsCut m x l ts h cut low) (k : ℕ) (c : Cycle) (kt : k < m .t) (ready : threadAt ts k .state ≡ Ready c)
+    (ic : IsCut m x l ts h cut low) (k : ℕ) (c : Cycle) (kt : k < m .t) (ready : viewOf (threadAt ts k .state) ≡ view.ready c)
   where
     -- the place that is granted
     pub next-place : T (isBeforeHorizon m c) → NextRun m (cut k) k c
-    next-place soon = pf .next-run (cut k) k c kt (ap (λ (t : Thread). t .state) (sym (ic .records k kt)) ∙ ready) soon
+    next-place soon = pf .next-run (cut k) k c kt (ap (λ (t : Thread). viewOf (t .state)) (sym (ic .records k kt)) ∙ ready) soon
 
     -- its record is the thread's
     pub same-record : (r : NextRun m (cut k) k c) → threadAt ts k ≡ recordAt m (r .place) k

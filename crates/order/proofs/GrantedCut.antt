@@ -17,9 +17,9 @@ use Rattle.clock.specs.declared.Bound.the-variants.{At}
 use Rattle.clock.specs.Order.{Before, _⊑_, _≼_}
 use Rattle.clock.proofs.OrderLaws.{⊑-total, ≼-trans}
 use Rattle.model.specs.declared.Model.{Model}
-use Rattle.model.specs.declared.State.the-variants.{Ready, Waiting}
 use Rattle.model.specs.declared.Thread.{Thread}
-use Rattle.model.specs.Record.{threadAt}
+use Rattle.model.specs.Record as view
+use Rattle.model.specs.Record.{threadAt, viewOf}
 use Rattle.model.specs.Effect.{Effect, effectOf}
 use Rattle.model.specs.Footprint.{has}
 use Rattle.plain.specs.History.{Item, ran, historyAt}
@@ -39,7 +39,7 @@ use Rattle.order.proofs.Grant.{same-record, effect-thread, effect-notif
 
 module _ (m : Model) (pf : PlainFacts m) (marks : List (List Bool)) (ws : List ℕ) (kl : KitLaws m marks ws)
     {x : List ℕ} {l : List Notification} {ts : List Thread} {h : ℕ → List Item} {cut : ℕ → ℕ} {low : Bound}
-    (ic : IsCut m x l ts h cut low) (k : ℕ) (c : Cycle) (kt : k < m .t) (ready : threadAt ts k .state ≡ Ready c)
+    (ic : IsCut m x l ts h cut low) (k : ℕ) (c : Cycle) (kt : k < m .t) (ready : viewOf (threadAt ts k .state) ≡ view.ready c)
     (r : NextRun m (cut k) k c) (clear : hazard m marks ws l ts k c ≡ false)
   where
     -- what the grant does, and what it leaves
@@ -94,14 +94,14 @@ module _ (m : Model) (pf : PlainFacts m) (marks : List (List Bool)) (ws : List �
             ∙ ap₂ (λ (i n : ℕ). historyAt m i n) (sym e) (sym (moved-same cut k (suc (r .place)) j e))
         go (no e) = adding-other h k items j e ∙ ic .history j jt ∙ ap (historyAt m j) (sym (moved-other cut k (suc (r .place)) j e))
 
-    low-ready-after : (j : ℕ) (d : Cycle) → j < m .t → threadAt newRecords j .state ≡ Ready d → low ≼ At d
+    low-ready-after : (j : ℕ) (d : Cycle) → j < m .t → viewOf (threadAt newRecords j .state) ≡ view.ready d → low ≼ At d
     low-ready-after j d jt st = go (ℕ-discrete j k)
       where
         go : Dec (j ≡ k) → low ≼ At d
         go (yes e) =
-            let later = run-later m pf (r .place) k (r .runs) d (ap (λ (t : Thread). t .state) (sym thread-there ∙ sym (record-granted j e)) ∙ st) in
+            let later = run-later m pf (r .place) k (r .runs) d (ap (λ (t : Thread). viewOf (t .state)) (sym thread-there ∙ sym (record-granted j e)) ∙ st) in
             ≼-trans low (At c) (At d) low-now (rw (r .now) at later)
-        go (no e) = ic .low-ready j d jt (ap (λ (t : Thread). t .state) (sym (record-other j e)) ∙ st)
+        go (no e) = ic .low-ready j d jt (ap (λ (t : Thread). viewOf (t .state)) (sym (record-other j e)) ∙ st)
 
     low-logged-after : (y : Notification) → List·Memᴰ y newLog → low ≼ At (y .cycle)
     low-logged-after y held = go (withPairs-only l c (effect .notified) held)
@@ -121,9 +121,9 @@ module _ (m : Model) (pf : PlainFacts m) (marks : List (List Bool)) (ws : List �
             by (inl p) = absurd (gone .dropped (≼-trans low (At c) (At d) low-now p))
             by (inr p) = p
 
-        go : (j : ℕ) (since : Cycle) → j < m .t → threadAt newRecords j .state ≡ Waiting e since → Dec (j ≡ k) → Before d since
-        go j since jt st (yes f) = rw (kl .distances .wait-begins k (threadAt ts k .segment) c x e since (ap (λ (t : Thread). t .state) (sym (record-granted j f)) ∙ st)) earlier
-        go j since jt st (no f) = gone .unheard j since jt (ap (λ (t : Thread). t .state) (sym (record-other j f)) ∙ st)
+        go : (j : ℕ) (since : Cycle) → j < m .t → viewOf (threadAt newRecords j .state) ≡ view.waits e since → Dec (j ≡ k) → Before d since
+        go j since jt st (yes f) = rw (kl .distances .wait-begins k (threadAt ts k .segment) c x e since (ap (λ (t : Thread). viewOf (t .state)) (sym (record-granted j f)) ∙ st)) earlier
+        go j since jt st (no f) = gone .unheard j since jt (ap (λ (t : Thread). viewOf (t .state)) (sym (record-other j f)) ∙ st)
 
     logged-after : (q j e : ℕ) → Done m newCut q j → Says m q j e → List·Memᴰ (pairOf e (nowAt m q)) newLog ⊎ Gone m newRecords low e (nowAt m q)
     logged-after q j e d says = go (done-now m cut k (r .place) (r .from) (r .runs) (r .quiet) q j d)

@@ -18,13 +18,13 @@ use Rattle.clock.specs.Order.{_⊑_, _≼_}
 use Rattle.clock.specs.Wait.{waitEnds}
 use Rattle.clock.proofs.OrderLaws.{Before→not-⊑, ⊑-antisym, ≼-trans}
 use Rattle.model.specs.declared.Model.{Model}
-use Rattle.model.specs.declared.State.the-variants.{Waiting}
 use Rattle.model.specs.declared.Thread.{Thread}
-use Rattle.model.specs.Record.{threadAt, awaits, stateAfter}
+use Rattle.model.specs.Record as view
+use Rattle.model.specs.Record.{threadAt, awaits, stateAfter, viewOf}
 use Rattle.plain.specs.Step.{placeAt}
 use Rattle.plain.specs.History.{Item, heard, historyAt}
 use Rattle.tables.specs.Word.{distanceIn}
-use Rattle.plain_laws.proofs.RecordLaws.{Ready-not-Waiting}
+use Rattle.plain_laws.proofs.RecordLaws.{ready-not-waits, waits-event}
 use Rattle.plain_laws.proofs.HappenLaws.{historyAt-more}
 use Rattle.early.specs.declared.Notification.{Notification}
 use Rattle.early.specs.Log.{pairOf, leastHeard}
@@ -53,7 +53,7 @@ module _ (m : Model) (pf : PlainFacts m) (marks : List (List Bool)) (ws : List �
   module _ {x : List ℕ} {l : List Notification} {ts : List Thread} {h : ℕ → List Item} {cut : ℕ → ℕ} {low : Bound}
       (ic : IsCut m x l ts h cut low) (bd : Bounded m ws ts cut (kl .forecasts l ts .earliest)) where
     -- whoever notifies what k hears, does so no sooner than what is heard now
-    pub no-sooner : (k e : ℕ) (since c : Cycle) → k < m .t → threadAt ts k .state ≡ Waiting e since → heardNow m ws l ts (awaits e since) ≡ At c
+    pub no-sooner : (k e : ℕ) (since c : Cycle) → k < m .t → viewOf (threadAt ts k .state) ≡ view.waits e since → heardNow m ws l ts (awaits e since) ≡ At c
         → (q j : ℕ) → Says m q j e → since ⊑ nowAt m q → c ⊑ nowAt m q
     no-sooner k e since c below w now q j says begun = go (decLt q (cut j))
       where
@@ -91,7 +91,7 @@ module _ (m : Model) (pf : PlainFacts m) (marks : List (List Bool)) (ws : List �
         go (no late) = undone late
 
     -- what is heard now, the plain run hears next
-    pub next-heard : (k e : ℕ) (since c : Cycle) → k < m .t → threadAt ts k .state ≡ Waiting e since → heardNow m ws l ts (awaits e since) ≡ At c → HearingAt m (cut k) k e since c
+    pub next-heard : (k e : ℕ) (since c : Cycle) → k < m .t → viewOf (threadAt ts k .state) ≡ view.waits e since → heardNow m ws l ts (awaits e since) ≡ At c → HearingAt m (cut k) k e since c
     next-heard k e since c below w now = found (ic .notified (pairOf e c) logged)
       where
         logged : List·Memᴰ (pairOf e c) l
@@ -100,8 +100,8 @@ module _ (m : Model) (pf : PlainFacts m) (marks : List (List Bool)) (ws : List �
         begun : since ⊑ c
         begun = leastHeard-at l e since c (heardNow-at m ws l ts e since c now .0) .1
 
-        waits : recordAt m (cut k) k .state ≡ Waiting e since
-        waits = ap (λ (t : Thread). t .state) (sym (ic .records k below)) ∙ w
+        waits : viewOf (recordAt m (cut k) k .state) ≡ view.waits e since
+        waits = ap (λ (t : Thread). viewOf (t .state)) (sym (ic .records k below)) ∙ w
 
         made : (q : ℕ) → nowAt m q ≡ c → NextHearing m (cut k) k e since (nowAt m q) → HearingAt m (cut k) k e since c
         made q same n = after (pf .happens (n .place) k below)
@@ -116,7 +116,7 @@ module _ (m : Model) (pf : PlainFacts m) (marks : List (List Bool)) (ws : List �
                 ⊑-antisym (subst (λ (y : Cycle). nowAt m r ⊑ y) same (n .by)) (subst (λ (y : Cycle). c ⊑ y) f sooner)
 
             not-run : Runs m r k → ⊥
-            not-run u = Ready-not-Waiting (u .ready) (n .hears .waits)
+            not-run u = ready-not-waits (u .ready) (n .hears .waits)
 
             quiet : (q : ℕ) → cut k ≤ q → q < suc r → Runs m q k → ⊥
             quiet q from to u = go (decLt q r)
@@ -142,7 +142,7 @@ module _ (m : Model) (pf : PlainFacts m) (marks : List (List Bool)) (ws : List �
                 }
               where
                 same-event : e′ ≡ e
-                same-event = let f : Waiting e′ since′ ≡ Waiting e since = sym (u .waits) ∙ n .hears .waits in cc
+                same-event = waits-event (u .waits) (n .hears .waits)
 
                 record-after : _≡_ {A = Thread} (record { segment = recordAt m r k .segment; state = stateAfter (waitEnds wait.Event (nowAt m r)) }) (record { segment = recordAt m (cut k) k .segment; state = stateAfter (waitEnds wait.Event c) })
                 record-after = λ i. record { segment = n .still i .segment; state = stateAfter (waitEnds wait.Event (at-c i)) }

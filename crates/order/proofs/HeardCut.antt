@@ -18,11 +18,11 @@ use Rattle.clock.specs.Wait.{waitEnds}
 use Rattle.clock.proofs.OrderLaws.{Before→⊑, ≼-trans}
 use Rattle.clock.proofs.WaitLaws.{waitEnds-later}
 use Rattle.model.specs.declared.Model.{Model}
-use Rattle.model.specs.declared.State.the-variants.{Ready, Waiting}
 use Rattle.model.specs.declared.Thread.{Thread}
-use Rattle.model.specs.Record.{threadAt, awaits, stateAfter}
+use Rattle.model.specs.Record as view
+use Rattle.model.specs.Record.{threadAt, awaits, stateAfter, viewOf}
 use Rattle.plain.specs.History.{Item, heard, historyAt}
-use Rattle.plain_laws.proofs.RecordLaws.{threadAt-set, threadAt-other, stateAfter-Ready, stateAfter-not-Waiting}
+use Rattle.plain_laws.proofs.RecordLaws.{threadAt-set, threadAt-other, stateAfter-ready, stateAfter-not-waits}
 use Rattle.early.specs.declared.Notification.{Notification}
 use Rattle.early.specs.Log.{pairOf}
 use Rattle.early.specs.Deliver.{heardNow, lookedAt, lookItems}
@@ -47,7 +47,7 @@ module _ (m : Model) (pf : PlainFacts m) (marks : List (List Bool)) (ws : List �
       (bd : Bounded m ws ts cut (kl .forecasts l ts .earliest))
     where
       -- a look at a thread that hears: its record, its history, and its cut past the close at which the plain run wakes it
-      module _ (k e : ℕ) (since c : Cycle) (below : k < m .t) (w : threadAt ts k .state ≡ Waiting e since) (heard-now : low ≼ At c) (ha : HearingAt m (cut k) k e since c) where
+      module _ (k e : ℕ) (since c : Cycle) (below : k < m .t) (w : viewOf (threadAt ts k .state) ≡ view.waits e since) (heard-now : low ≼ At c) (ha : HearingAt m (cut k) k e since c) where
         -- the record that it gets
         abbrev woken : Thread
         woken = record { segment = threadAt ts k .segment; state = stateAfter (waitEnds wait.Event c) }
@@ -92,22 +92,22 @@ module _ (m : Model) (pf : PlainFacts m) (marks : List (List Bool)) (ws : List �
                 (ap (λ (a : List Item). a ++ (heard e c ∷ [])) (ic .history k below) ∙ sym (ha .history-after))
             go (no n) = rw (adding-other h k (heard e c ∷ []) j n, moved-other cut k (suc (ha .place)) j n) (ic .history j b)
 
-        low-ready-after : (j : ℕ) (d : Cycle) → j < m .t → threadAt (set ts k woken) j .state ≡ Ready d → low ≼ At d
+        low-ready-after : (j : ℕ) (d : Cycle) → j < m .t → viewOf (threadAt (set ts k woken) j .state) ≡ view.ready d → low ≼ At d
         low-ready-after j d b r = go (ℕ-discrete j k)
           where
             go : Dec (j ≡ k) → low ≼ At d
             go (yes e) =
-                let f : stateAfter (waitEnds wait.Event c) ≡ Ready d = ap (λ (t : Thread). t .state) (sym at-k) ∙ (rw e at r) in
-                ≼-trans low (At c) (At d) heard-now (Before→⊑ (waitEnds-later wait.Event c (stateAfter-Ready (waitEnds wait.Event c) d f)))
-            go (no n) = ic .low-ready j d b (ap (λ (t : Thread). t .state) (sym (at-other j n)) ∙ r)
+                let f : viewOf (stateAfter (waitEnds wait.Event c)) ≡ view.ready d = ap (λ (t : Thread). viewOf (t .state)) (sym at-k) ∙ (rw e at r) in
+                ≼-trans low (At c) (At d) heard-now (Before→⊑ (waitEnds-later wait.Event c (stateAfter-ready (waitEnds wait.Event c) d f)))
+            go (no n) = ic .low-ready j d b (ap (λ (t : Thread). viewOf (t .state)) (sym (at-other j n)) ∙ r)
 
         gone-after : (f : ℕ) (d : Cycle) → Gone m ts low f d → Gone m (set ts k woken) low f d
         gone-after f d g = record { dropped = g .dropped; unheard = λ j s b r. go j s b r (ℕ-discrete j k) }
           where
-            go : (j : ℕ) (s : Cycle) → j < m .t → threadAt (set ts k woken) j .state ≡ Waiting f s → Dec (j ≡ k) → Before d s
+            go : (j : ℕ) (s : Cycle) → j < m .t → viewOf (threadAt (set ts k woken) j .state) ≡ view.waits f s → Dec (j ≡ k) → Before d s
             go j s b r (yes e) =
-                absurd (stateAfter-not-Waiting (waitEnds wait.Event c) f s (ap (λ (t : Thread). t .state) (sym at-k) ∙ (rw e at r)))
-            go j s b r (no n) = g .unheard j s b (ap (λ (t : Thread). t .state) (sym (at-other j n)) ∙ r)
+                absurd (stateAfter-not-waits (waitEnds wait.Event c) f s (ap (λ (t : Thread). viewOf (t .state)) (sym at-k) ∙ (rw e at r)))
+            go j s b r (no n) = g .unheard j s b (ap (λ (t : Thread). viewOf (t .state)) (sym (at-other j n)) ∙ r)
 
         pub heard-cut : IsCut m x l (set ts k woken) (adding h k (heard e c ∷ [])) later low
         heard-cut =
@@ -144,7 +144,7 @@ module _ (m : Model) (pf : PlainFacts m) (marks : List (List Bool)) (ws : List �
           )
           go (hears c at-c) = moves (heardAt-waits m ws l ts k c at-c)
             where
-              moves : (e : ℕ) × (since : Cycle) × (threadAt ts k .state ≡ Waiting e since) × (heardNow m ws l ts (awaits e since) ≡ At c) → (cut′ : ℕ → ℕ) × IsCut m x l (lookedAt m ws l ts k) (λ j. h j ++ lookItems m ws l ts k j) cut′ low
+              moves : (e : ℕ) × (since : Cycle) × (viewOf (threadAt ts k .state) ≡ view.waits e since) × (heardNow m ws l ts (awaits e since) ≡ At c) → (cut′ : ℕ → ℕ) × IsCut m x l (lookedAt m ws l ts k) (λ j. h j ++ lookItems m ws l ts k j) cut′ low
               moves (e, since, w, now) = (
                 moved cut k (suc (ha .place)),
                 cut-same

@@ -15,9 +15,9 @@ use Rattle.clock.specs.declared.Bound.the-variants.{At}
 use Rattle.clock.specs.Advance.{_⊕_}
 use Rattle.clock.specs.Order.{Before, _≼_}
 use Rattle.model.specs.declared.Model.{Model}
-use Rattle.model.specs.declared.State.the-variants.{Ready, Waiting}
 use Rattle.model.specs.declared.Thread.{Thread}
-use Rattle.model.specs.Record.{threadAt, isLive}
+use Rattle.model.specs.Record as view
+use Rattle.model.specs.Record.{threadAt, isLive, viewOf}
 use Rattle.model.specs.Footprint.{writesIn, usesIn}
 use Rattle.plain.specs.Step.{placeAt}
 use Rattle.plain.specs.History.{Item, historyAt}
@@ -51,7 +51,7 @@ pub record Good (m : Model) (cut : ℕ → ℕ) (x : List ℕ) : Type 0 where
 -- event e, notified at c before the bound low, is past for all: whoever waits on it began later
 pub record Gone (m : Model) (ts : List Thread) (low : Bound) (e : ℕ) (c : Cycle) : Type 0 where
   pub dropped : low ≼ At c → ⊥
-  pub unheard : (k : ℕ) (since : Cycle) → k < m .t → threadAt ts k .state ≡ Waiting e since → Before c since
+  pub unheard : (k : ℕ) (since : Cycle) → k < m .t → viewOf (threadAt ts k .state) ≡ view.waits e since → Before c since
 
 -- variables x, log l, records ts and histories h are the plain run's, cut at `cut`; `low` is the floor of the last drop
 pub record IsCut (m : Model) (x : List ℕ) (l : List Notification) (ts : List Thread) (h : ℕ → List Item) (cut : ℕ → ℕ) (low : Bound) : Type 0 where
@@ -59,7 +59,7 @@ pub record IsCut (m : Model) (x : List ℕ) (l : List Notification) (ts : List T
   pub records : (k : ℕ) → k < m .t → threadAt ts k ≡ recordAt m (cut k) k
   pub history : (k : ℕ) → k < m .t → h k ≡ historyAt m k (cut k)
   pub good : Good m cut x
-  pub low-ready : (k : ℕ) (c : Cycle) → k < m .t → threadAt ts k .state ≡ Ready c → low ≼ At c
+  pub low-ready : (k : ℕ) (c : Cycle) → k < m .t → viewOf (threadAt ts k .state) ≡ view.ready c → low ≼ At c
   pub low-logged : (y : Notification) → List·Memᴰ y l → low ≼ At (y .cycle)
   -- what a done place notified is logged, or past for all
   pub logged : (q k e : ℕ) → Done m cut q k → Says m q k e → List·Memᴰ (pairOf e (nowAt m q)) l ⊎ Gone m ts low e (nowAt m q)

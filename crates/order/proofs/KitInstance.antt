@@ -24,9 +24,10 @@ use Rattle.clock.proofs.WaitLaws.{waitEnds-advance}
 use Rattle.model.specs.declared.Closer.{Closer}
 use Rattle.model.specs.declared.Closer.the-variants.{End, Time, Event}
 use Rattle.model.specs.declared.Model.{Model}
-use Rattle.model.specs.declared.State.the-variants.{Ready, Waiting}
 use Rattle.model.specs.declared.Thread.{Thread}
-use Rattle.model.specs.Limits.{isBeforeHorizon}
+use Rattle.model.specs.Limits.{endTime, cutTime, isBeforeHorizon}
+use Rattle.model.specs.Record as view
+use Rattle.model.specs.Record.{viewOf}
 use Rattle.model.specs.Values.{segmentAt, segmentFor}
 use Rattle.model.specs.Effect.{nextOf, closedAt, effectOf}
 use Rattle.model.specs.Footprint.{has, writesIn, usesIn, notifiesIn}
@@ -39,7 +40,7 @@ use Rattle.tables.specs.Word.{wordsOf, distanceIn}
 use Rattle.tables_laws.proofs.ConflictLaws.{shared→marked}
 use Rattle.tables_laws.proofs.DistanceLaws.{distanceOf-self, distanceOf-after, goesTo-next}
 use Rattle.tables_laws.proofs.WordLaws.{place-below, wordsOf-length, distanceIn-wordsOf, wordsOf-fit}
-use Rattle.plain_laws.proofs.RecordLaws.{stateAfter-Ready, stateAfter-not-Waiting, effectOf-thread, effectOf-waits, horizon→<}
+use Rattle.plain_laws.proofs.RecordLaws.{stateAfter-ready, stateAfter-not-waits, effectOf-thread, effectOf-waits, horizon→<}
 use Rattle.plain_laws.proofs.RangeLaws as range
 use Rattle.plain_laws.proofs.KeepLaws.{effectOf-notifies, modelFault-keeps}
 use Rattle.early.specs.declared.Notification.{Notification}
@@ -54,17 +55,17 @@ use Rattle.order.proofs.KitLaws.{Begins, Footprints, Needed, Distances,
 use Rattle.order.proofs.PlainInstance.{plain-facts}
 
 -- a segment that closes ready at d has taken a step of the segment graph, whose advance leads from c to d
-closed-ready : (s : ℕ) (g : Closer) (c d : Cycle) (v : List ℕ) → closedAt s g c v .state ≡ Ready d → At c ⊕ stepOf g (closedAt s g c v .segment) ≡ At d
+closed-ready : (s : ℕ) (g : Closer) (c d : Cycle) (v : List ℕ) → viewOf (closedAt s g c v .state) ≡ view.ready d → At c ⊕ stepOf g (closedAt s g c v .segment) ≡ At d
 unfolding closedAt stepOf
 closed-ready s End c d v e = let z : _≡_ {A = ℕ} 0 1 = cc in absurd (omega arith)
-closed-ready s (Time k x) c d v e = rw (T→true (goesTo x (nextOf x v)) (goesTo-next x v)) (waitEnds-advance (wait.Time k) c (stateAfter-Ready _ d e))
+closed-ready s (Time k x) c d v e = rw (T→true (goesTo x (nextOf x v)) (goesTo-next x v)) (waitEnds-advance (wait.Time k) c (stateAfter-ready _ d e))
 closed-ready s (Event w x) c d v e = let z : _≡_ {A = ℕ} 0 1 = cc in absurd (omega arith)
 
 -- one that waits on an event has taken a step of one delta
-closed-waits : (s : ℕ) (g : Closer) (c since : Cycle) (v : List ℕ) (e : ℕ) → closedAt s g c v .state ≡ Waiting e since → stepOf g (closedAt s g c v .segment) ≡ oneDelta
+closed-waits : (s : ℕ) (g : Closer) (c since : Cycle) (v : List ℕ) (e : ℕ) → viewOf (closedAt s g c v .state) ≡ view.waits e since → stepOf g (closedAt s g c v .segment) ≡ oneDelta
 unfolding closedAt stepOf
 closed-waits s End c since v e f = let z : _≡_ {A = ℕ} 0 1 = cc in absurd (omega arith)
-closed-waits s (Time k x) c since v e f = absurd (stateAfter-not-Waiting (waitEnds (wait.Time k) c) e since f)
+closed-waits s (Time k x) c since v e f = absurd (stateAfter-not-waits (waitEnds (wait.Time k) c) e since f)
 closed-waits s (Event w x) c since v e f = rw (T→true (goesTo x (nextOf x v)) (goesTo-next x v)) advanceOf-Event
 
 -- the reader's marks, for threads that may reach every segment
@@ -90,8 +91,11 @@ module _ (m : Model) (fit : modelFault m ≡ 0) (ws : List ℕ) (begins : Begins
   words-enough = rw (begins .1) (simp length-append (omega (arith, wordsOf-length m)))
 
 module _ (m : Model) (fit : modelFault m ≡ 0) (ws : List ℕ) (begins : Begins (wordsOf m) ws) where
-  before-cut : (c : Cycle) → T (isBeforeHorizon m c) → c .time .0 < 1000000000
-  before-cut c t = omega (arith, horizon→< m c t, modelFault-horizon m fit .1)
+  end-cut : endTime m ≤ cutTime
+  end-cut = omega (arith, modelFault-horizon m fit .1)
+
+  before-cut : (c : Cycle) → T (isBeforeHorizon m c) → c .time .0 < cutTime
+  before-cut c t = omega (arith, horizon→< m c t, end-cut)
 
   agree : (k s : ℕ) (x y : List ℕ) → length x ≡ length y → ((v : ℕ) → T (usesIn m k s v) → getD x v 0 ≡ getD y v 0) → Agree (λ v. T (usesIn m k s v)) x y
   agree k s x y l h = record { same-length = l; same = h }
@@ -108,7 +112,7 @@ module _ (m : Model) (fit : modelFault m ≡ 0) (ws : List ℕ) (begins : Begins
       }
 
   -- the bound on the distance to the next segment, from that to this one
-  onward : (r a b : ℕ) (y : Bound) (c d : Cycle) → r < m .n → a < m .n → b < m .n → d .time .0 < 1000000000 → At c ⊕ edge m a b ≼ At d
+  onward : (r a b : ℕ) (y : Bound) (c d : Cycle) → r < m .n → a < m .n → b < m .n → d .time .0 < cutTime → At c ⊕ edge m a b ≼ At d
       → y ⊕ distanceIn m ws r a ≼ At c → y ⊕ distanceIn m ws r b ≼ At d
   onward r a b y c d rn an bn before step h =
       rw (distance-at m fit ws begins r b rn bn)
@@ -120,19 +124,19 @@ module _ (m : Model) (fit : modelFault m ≡ 0) (ws : List ℕ) (begins : Begins
   next-below : (k a : ℕ) (c : Cycle) (x : List ℕ) → a < m .n → effectOf m k a c x .thread .segment < m .n
   next-below k a c x h = modelFault-keeps m fit .next k a c x h
 
-  edge-ready : (k a : ℕ) (c d : Cycle) (x : List ℕ) → effectOf m k a c x .thread .state ≡ Ready d → At c ⊕ edge m a (effectOf m k a c x .thread .segment) ≡ At d
+  edge-ready : (k a : ℕ) (c d : Cycle) (x : List ℕ) → viewOf (effectOf m k a c x .thread .state) ≡ view.ready d → At c ⊕ edge m a (effectOf m k a c x .thread .segment) ≡ At d
   unfolding edge segmentFor
   edge-ready k a c d x e =
-      subst (λ (t : Thread). t .state ≡ Ready d → At c ⊕ stepOf (segmentAt m a .closer) (t .segment) ≡ At d) (sym (effectOf-thread m k a c x))
+      subst (λ (t : Thread). viewOf (t .state) ≡ view.ready d → At c ⊕ stepOf (segmentAt m a .closer) (t .segment) ≡ At d) (sym (effectOf-thread m k a c x))
       (closed-ready a (segmentAt m a .closer) c d (effectOf m k a c x .variables)) e
 
-  edge-waits : (k a e : ℕ) (c since : Cycle) (x : List ℕ) → effectOf m k a c x .thread .state ≡ Waiting e since → edge m a (effectOf m k a c x .thread .segment) ≡ oneDelta
+  edge-waits : (k a e : ℕ) (c since : Cycle) (x : List ℕ) → viewOf (effectOf m k a c x .thread .state) ≡ view.waits e since → edge m a (effectOf m k a c x .thread .segment) ≡ oneDelta
   unfolding edge segmentFor
   edge-waits k a e c since x f =
-      subst (λ (t : Thread). t .state ≡ Waiting e since → stepOf (segmentAt m a .closer) (t .segment) ≡ oneDelta) (sym (effectOf-thread m k a c x))
+      subst (λ (t : Thread). viewOf (t .state) ≡ view.waits e since → stepOf (segmentAt m a .closer) (t .segment) ≡ oneDelta) (sym (effectOf-thread m k a c x))
       (closed-waits a (segmentAt m a .closer) c since (effectOf m k a c x .variables) e) f
 
-  over-event : (k r a e : ℕ) (c since h : Cycle) (x : List ℕ) (y : Bound) → k < m .t → r < m .n → a < m .n → effectOf m k a c x .thread .state ≡ Waiting e since → since ⊑ h → T (isBeforeHorizon m h)
+  over-event : (k r a e : ℕ) (c since h : Cycle) (x : List ℕ) (y : Bound) → k < m .t → r < m .n → a < m .n → viewOf (effectOf m k a c x .thread .state) ≡ view.waits e since → since ⊑ h → T (isBeforeHorizon m h)
       → y ⊕ distanceIn m ws r a ≼ At c → y ⊕ distanceIn m ws r (effectOf m k a c x .thread .segment) ≼ At h ⊕ oneDelta
   over-event k r a e c since h x y kt rn an f b t l =
       let start : c ⊑ h = subst (λ (z : Cycle). z ⊑ h) (effectOf-waits m k a c x e since f) b in
@@ -166,11 +170,9 @@ module _ (m : Model) (fit : modelFault m ≡ 0) (ws : List ℕ) (begins : Begins
       record {
         model = fit;
         words = →isUnfitWords m ws (words-enough m fit ws begins) (λ i h. rw (word-at m fit ws begins i h) (wordsOf-fit m fit i h));
-        threads = modelFault-counts m fit .threads;
         events = modelFault-counts m fit .events;
-        horizon = modelFault-horizon m fit .1;
         fit-record = λ i k l. let p = range.in-range m kept i in →isFitThread m k (recordAt m i k) (record { segment = p .fits k l .segment; cycle = record { time = range.record-time m kept i k l; delta = p .fits k l .delta }; event = p .fits k l .event });
-        fit-now = λ i. let p = range.in-range m kept i in →isFitCycle 1000000000 (nowAt m i) (record { time = omega (arith, p .now-time, modelFault-horizon m fit .1); delta = p .now-delta });
+        fit-now = λ i. let p = range.in-range m kept i in →isFitCycle cutTime (nowAt m i) (record { time = before-cut (nowAt m i) (range.now-before m kept i); delta = p .now-delta });
       }
 
   module _ (marks : List (List Bool)) where

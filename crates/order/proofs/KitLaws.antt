@@ -15,10 +15,10 @@ use Rattle.clock.specs.Cycle.{stampAt}
 use Rattle.clock.specs.Advance.{_⊕_, oneDelta, noAdvance}
 use Rattle.clock.specs.Order.{Before, _⊑_, _≼_}
 use Rattle.model.specs.declared.Model.{Model}
-use Rattle.model.specs.declared.State.the-variants.{Ready, Waiting}
 use Rattle.model.specs.declared.Thread.{Thread}
 use Rattle.model.specs.Limits.{cutTime, isBeforeHorizon}
-use Rattle.model.specs.Record.{threadAt, isLive}
+use Rattle.model.specs.Record as view
+use Rattle.model.specs.Record.{threadAt, isLive, viewOf}
 use Rattle.model.specs.Effect.{effectOf}
 use Rattle.model.specs.Footprint.{writesIn, usesIn, has, notifiesIn}
 use Rattle.model.specs.Rules.{modelFault}
@@ -54,26 +54,26 @@ pub record Needed (m : Model) (marks : List (List Bool)) : Type 1 where
 -- L2 and L3: distances along what a thread does, below the horizon; and what it lists as notifying
 pub record Distances (m : Model) (ws : List ℕ) : Type 0 where
   -- thread k runs segment a at c and is ready at d, in segment b: what is bounded by y ⊕ D(r, a) before, is bounded so after
-  pub over-wait : (k r : ℕ) (a : ℕ) (c d : Cycle) (x : List ℕ) (y : Bound) → k < m .t → r < m .n → a < m .n → effectOf m k a c x .thread .state ≡ Ready d → T (isBeforeHorizon m d) → y ⊕ distanceIn m ws r a ≼ At c → y ⊕ distanceIn m ws r (effectOf m k a c x .thread .segment) ≼ At d
+  pub over-wait : (k r : ℕ) (a : ℕ) (c d : Cycle) (x : List ℕ) (y : Bound) → k < m .t → r < m .n → a < m .n → viewOf (effectOf m k a c x .thread .state) ≡ view.ready d → T (isBeforeHorizon m d) → y ⊕ distanceIn m ws r a ≼ At c → y ⊕ distanceIn m ws r (effectOf m k a c x .thread .segment) ≼ At d
   -- it waits, since c, in segment b, and its event is heard at a cycle not before c
-  pub over-event : (k r : ℕ) (a e : ℕ) (c since h : Cycle) (x : List ℕ) (y : Bound) → k < m .t → r < m .n → a < m .n → effectOf m k a c x .thread .state ≡ Waiting e since → since ⊑ h → T (isBeforeHorizon m h) → y ⊕ distanceIn m ws r a ≼ At c → y ⊕ distanceIn m ws r (effectOf m k a c x .thread .segment) ≼ At h ⊕ oneDelta
+  pub over-event : (k r : ℕ) (a e : ℕ) (c since h : Cycle) (x : List ℕ) (y : Bound) → k < m .t → r < m .n → a < m .n → viewOf (effectOf m k a c x .thread .state) ≡ view.waits e since → since ⊑ h → T (isBeforeHorizon m h) → y ⊕ distanceIn m ws r a ≼ At c → y ⊕ distanceIn m ws r (effectOf m k a c x .thread .segment) ≼ At h ⊕ oneDelta
   pub self : (r : ℕ) → r < m .n → distanceIn m ws r r ≡ noAdvance
   pub segment-below : (k a : ℕ) (c : Cycle) (x : List ℕ) → k < m .t → a < m .n → effectOf m k a c x .thread .segment < m .n
   pub listed : (k s : ℕ) (c : Cycle) (x : List ℕ) (e : ℕ) → T (has (effectOf m k s c x .notified) e) → T (notifiesIn m k s e)
   pub listed-below : (k s e : ℕ) → s < m .n → T (notifiesIn m k s e) → e < m .e
   -- a wait begins at the cycle in which its segment runs
-  pub wait-begins : (k s : ℕ) (c : Cycle) (x : List ℕ) (e : ℕ) (since : Cycle) → effectOf m k s c x .thread .state ≡ Waiting e since → since ≡ c
+  pub wait-begins : (k s : ℕ) (c : Cycle) (x : List ℕ) (e : ℕ) (since : Cycle) → viewOf (effectOf m k s c x .thread .state) ≡ view.waits e since → since ≡ c
 
 -- L4 and L5: earliest is sound at its links, and attained; forecast and hazard read by it. For every log and records.
 pub record Forecasts (m : Model) (marks : List (List Bool)) (ws : List ℕ) (l : List Notification) (ts : List Thread) : Type 0 where
   pub earliest : ℕ → Bound
-  pub ready : (k : ℕ) (c : Cycle) → k < m .t → threadAt ts k .state ≡ Ready c → earliest k ≡ At c
-  pub heard : (k e : ℕ) (since : Cycle) (x : Notification) → k < m .t → threadAt ts k .state ≡ Waiting e since → List·Memᴰ x l → x .event ≡ e → since ⊑ x .cycle → earliest k ≼ At (x .cycle) ⊕ oneDelta
-  pub linked : (k e : ℕ) (since : Cycle) (j s : ℕ) (x : Cycle) → k < m .t → threadAt ts k .state ≡ Waiting e since → j < m .t → T (isLive (threadAt ts j .state)) → s < m .n → T (notifiesIn m j s e) → since ⊑ x → earliest j ⊕ distanceIn m ws (threadAt ts j .segment) s ≼ At x → earliest k ≼ At x ⊕ oneDelta
+  pub ready : (k : ℕ) (c : Cycle) → k < m .t → viewOf (threadAt ts k .state) ≡ view.ready c → earliest k ≡ At c
+  pub heard : (k e : ℕ) (since : Cycle) (x : Notification) → k < m .t → viewOf (threadAt ts k .state) ≡ view.waits e since → List·Memᴰ x l → x .event ≡ e → since ⊑ x .cycle → earliest k ≼ At (x .cycle) ⊕ oneDelta
+  pub linked : (k e : ℕ) (since : Cycle) (j s : ℕ) (x : Cycle) → k < m .t → viewOf (threadAt ts k .state) ≡ view.waits e since → j < m .t → T (isLive (threadAt ts j .state)) → s < m .n → T (notifiesIn m j s e) → since ⊑ x → earliest j ⊕ distanceIn m ws (threadAt ts j .segment) s ≼ At x → earliest k ≼ At x ⊕ oneDelta
   -- a finite earliest comes from a ready thread, or from a logged notification that a waiting thread can hear; strictly sooner for a waiting thread
   pub attained : (k : ℕ) (b : Cycle) → k < m .t → earliest k ≡ At b
-      → ((j : ℕ) × (c : Cycle) × (j < m .t) × (threadAt ts j .state ≡ Ready c) × (c ⊑ b) × ((e : ℕ) (since : Cycle) → threadAt ts k .state ≡ Waiting e since → Before c b))
-      ⊎ ((j : ℕ) × (e : ℕ) × (since : Cycle) × (x : Notification) × (j < m .t) × (threadAt ts j .state ≡ Waiting e since) × List·Memᴰ x l × (x .event ≡ e) × (since ⊑ x .cycle) × Before (x .cycle) b)
+      → ((j : ℕ) × (c : Cycle) × (j < m .t) × (viewOf (threadAt ts j .state) ≡ view.ready c) × (c ⊑ b) × ((e : ℕ) (since : Cycle) → viewOf (threadAt ts k .state) ≡ view.waits e since → Before c b))
+      ⊎ ((j : ℕ) × (e : ℕ) × (since : Cycle) × (x : Notification) × (j < m .t) × (viewOf (threadAt ts j .state) ≡ view.waits e since) × List·Memᴰ x l × (x .event ≡ e) × (since ⊑ x .cycle) × Before (x .cycle) b)
   pub forecast-below : (e j s : ℕ) → j < m .t → T (isLive (threadAt ts j .state)) → s < m .n → T (notifiesIn m j s e) → forecastOf m ws l ts e ≼ earliest j ⊕ distanceIn m ws (threadAt ts j .segment) s
   pub forecast-attained : (e : ℕ) (b : Cycle) → forecastOf m ws l ts e ≡ At b → (j : ℕ) × (s : ℕ) × (j < m .t) × T (isLive (threadAt ts j .state)) × (earliest j ⊕ distanceIn m ws (threadAt ts j .segment) s ≡ At b)
   pub no-hazard : (i : ℕ) (c : Cycle) → hazard m marks ws l ts i c ≡ false → (j s : ℕ) → j < m .t → (j ≡ i → ⊥) → T (isLive (threadAt ts j .state)) → s < m .n → T (threadsConflict m marks i (threadAt ts i .segment) j s) → isSooner (earliest j ⊕ distanceIn m ws (threadAt ts j .segment) s) j (stampAt c i) ≡ false
@@ -83,9 +83,7 @@ pub record Forecasts (m : Model) (marks : List (List Bool)) (ws : List ℕ) (l :
 pub record Ranges (m : Model) (ws : List ℕ) : Type 0 where
   pub model : modelFault m ≡ 0
   pub words : isUnfitWords m ws ≡ false
-  pub threads : m .t ≤ 32
   pub events : m .e ≤ 32
-  pub horizon : m .horizon .0 ≤ 1000000000
   pub fit-record : (i k : ℕ) → k < m .t → T (isFitThread m k (recordAt m i k))
   pub fit-now : (i : ℕ) → T (isFitCycle cutTime (nowAt m i))
 

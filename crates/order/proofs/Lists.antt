@@ -12,16 +12,16 @@ use Rattle.base.proofs.BoolLaws.{true→T}
 use Rattle.clock.specs.declared.Cycle.{Cycle}
 use Rattle.clock.specs.declared.Bound.{Bound}
 use Rattle.model.specs.declared.Model.{Model}
-use Rattle.model.specs.declared.State.the-variants.{Ready}
 use Rattle.model.specs.declared.Thread.{Thread}
 use Rattle.model.specs.Limits.{isBeforeHorizon}
-use Rattle.model.specs.Record.{threadAt}
+use Rattle.model.specs.Record as view
+use Rattle.model.specs.Record.{threadAt, viewOf}
 use Rattle.model.specs.Footprint.{listedIn, notifiesIn}
 use Rattle.plain.specs.Start.{freshThreads, freshVariables, startOf}
 use Rattle.plain.specs.Step.{placeAt}
 use Rattle.plain.specs.Wake.{floorOf}
 use Rattle.plain.specs.History.{Item, ran, historyAt}
-use Rattle.plain_laws.proofs.RecordLaws.{readyCycle-Ready}
+use Rattle.plain_laws.proofs.RecordLaws.{readyCycle→ready}
 use Rattle.plain_laws.proofs.StartLaws.{shape}
 use Rattle.early.specs.declared.Notification.{Notification}
 use Rattle.early.specs.declared.Site.{Site}
@@ -81,7 +81,7 @@ module _ (m : Model) (pf : PlainFacts m) (marks : List (List Bool)) (ws : List �
 
   -- After a grant: the run leaves a cut, the deliveries keep it and come to rest, and the drop keeps it at its floor.
   module _ (site : Site) (ts : List Thread) (h : ℕ → List Item) (cut : ℕ → ℕ) (ic : IsCut m (site .variables .at) (logOf site) ts h cut (floorOf m ts)) (room : Roomy (floorOf m ts) (logOf site))
-      (k : ℕ) (c : Cycle) (below : k < m .t) (ready : threadAt ts k .state ≡ Ready c) (early : T (isBeforeHorizon m c)) (free : hazard m marks ws (logOf site) ts k c ≡ false) (places-left : isFull m site ts k c ≡ false) where
+      (k : ℕ) (c : Cycle) (below : k < m .t) (ready : viewOf (threadAt ts k .state) ≡ view.ready c) (early : T (isBeforeHorizon m c)) (free : hazard m marks ws (logOf site) ts k c ≡ false) (places-left : isFull m site ts k c ≡ false) where
     -- what it has logged takes no more places than were counted
     logged-places : length (logAfter m site ts k c) ≤ countedPlaces m site k (threadAt ts k .segment) c
     unfolding logAfter effectAt countedPlaces notifiesIn
@@ -169,7 +169,7 @@ module _ (m : Model) (pf : PlainFacts m) (marks : List (List Bool)) (ws : List �
           k
           c
           (g .thread)
-          (readyCycle-Ready (threadAt ts k .state) c (g .ready))
+          (readyCycle→ready (viewOf (threadAt ts k .state)) c (g .ready))
           (true→T (isBeforeHorizon m c) (g .before-horizon))
           (g .no-hazard)
           (g .room)

@@ -21,15 +21,14 @@ use Rattle.clock.specs.Order.{_⊑_, _≼_}
 use Rattle.clock.proofs.OrderLaws.{⊑-refl, Before→not-⊑}
 use Rattle.clock.proofs.AdvanceLaws.{⊕-noAdvance}
 use Rattle.model.specs.declared.Model.{Model}
-use Rattle.model.specs.declared.State.{State}
-use Rattle.model.specs.declared.State.the-variants.{Ended, Overrun, Ready, Waiting}
 use Rattle.model.specs.declared.Thread.{Thread}
 use Rattle.model.specs.Limits.{isBeforeHorizon}
-use Rattle.model.specs.Record.{threadAt, isLive, stateAfter}
+use Rattle.model.specs.Record as view
+use Rattle.model.specs.Record.{threadAt, isLive, stateAfter, View, viewOf}
 use Rattle.plain.specs.History.{Item}
 use Rattle.plain.specs.Step.{placeAt}
 use Rattle.tables.specs.Word.{distanceIn}
-use Rattle.plain_laws.proofs.RecordLaws.{stateAfter-not-Waiting}
+use Rattle.plain_laws.proofs.RecordLaws.{stateAfter-not-waits}
 use Rattle.early.specs.declared.Notification.{Notification}
 use Rattle.early.specs.Log.{pairOf}
 use Rattle.order.proofs.Places.{nowAt, recordAt, effectThere, Runs, Says, Hears, Happens, idle, runs, hears}
@@ -48,7 +47,7 @@ module _ (m : Model) (pf : PlainFacts m) (marks : List (List Bool)) (ws : List �
       where
         go : T (isLive (recordAt m (cut j) j .state)) ⊎ Over (recordAt m (cut j) j) → T (isLive (recordAt m (cut j) j .state))
         go (inl t) = t
-        go (inr over) = absurd (over-ready-not (recordAt m (cut j) j) (nowAt m q) over (ap (λ (t : Thread). t .state) (sym (over-stays m pf j (cut j) q (r .below) (omega arith) over)) ∙ r .ready))
+        go (inr over) = absurd (over-ready-not (recordAt m (cut j) j) (nowAt m q) over (ap (λ (t : Thread). viewOf (t .state)) (sym (over-stays m pf j (cut j) q (r .below) (omega arith) over)) ∙ r .ready))
 
     -- the bound of thread k at the segment of a record, and at the segment that it has at place n
     abbrev boundTo : ℕ → Thread → Bound
@@ -66,32 +65,30 @@ module _ (m : Model) (pf : PlainFacts m) (marks : List (List Bool)) (ws : List �
         ∙ ap (λ (b : Bound). f .earliest k ⊕ b) (kl .distances .self (threadAt ts k .segment) (segment-cut k kt))
         ∙ ⊕-noAdvance (f .earliest k)
 
-    -- What is shown of thread k at place n, by its state there. Ready: the bound is not after its cycle, if that is before the
+    -- What is shown of thread k at place n, by its view there. Ready: the bound is not after its cycle, if that is before the
     -- horizon. Waiting: the record is still the one at the cut, or the bound is not after the delta that follows any hearing.
-    abbrev BoundAt : ℕ → ℕ → State → Type 0
-    BoundAt k n (Ready c) = T (isBeforeHorizon m c) → far k n ≼ At c
-    BoundAt k n (Waiting e since) = (recordAt m n k ≡ threadAt ts k) ⊎ ((c : Cycle) → since ⊑ c → T (isBeforeHorizon m c) → far k n ≼ At c ⊕ oneDelta)
-    BoundAt k n (Ended c) = Unit {0}
-    BoundAt k n (Overrun c) = Unit {0}
+    abbrev BoundAt : ℕ → ℕ → View → Type 0
+    BoundAt k n (view.ready c) = T (isBeforeHorizon m c) → far k n ≼ At c
+    BoundAt k n (view.waits e since) = (recordAt m n k ≡ threadAt ts k) ⊎ ((c : Cycle) → since ⊑ c → T (isBeforeHorizon m c) → far k n ≼ At c ⊕ oneDelta)
+    BoundAt k n view.idle = Unit {0}
 
     abbrev UpTo : ℕ → Type 0
-    UpTo n = (k j : ℕ) → j ≤ n → k < m .t → cut k ≤ j → (s : State) → recordAt m j k .state ≡ s → BoundAt k j s
+    UpTo n = (k j : ℕ) → j ≤ n → k < m .t → cut k ≤ j → (v : View) → viewOf (recordAt m j k .state) ≡ v → BoundAt k j v
 
-    bound-at-cut : (k : ℕ) → k < m .t → (s : State) → recordAt m (cut k) k .state ≡ s → BoundAt k (cut k) s
-    bound-at-cut k kt (Ready c) e = λ before. rw (far-still k (cut k) kt (sym (ic .records k kt)), f .ready k c kt (ap (λ (t : Thread). t .state) (ic .records k kt) ∙ e)) ⊑-refl
-    bound-at-cut k kt (Waiting v since) e = inl (sym (ic .records k kt))
-    bound-at-cut k kt (Ended c) e = tt
-    bound-at-cut k kt (Overrun c) e = tt
+    bound-at-cut : (k : ℕ) → k < m .t → (v : View) → viewOf (recordAt m (cut k) k .state) ≡ v → BoundAt k (cut k) v
+    bound-at-cut k kt (view.ready c) e = λ before. rw (far-still k (cut k) kt (sym (ic .records k kt)), f .ready k c kt (ap (λ (t : Thread). viewOf (t .state)) (ic .records k kt) ∙ e)) ⊑-refl
+    bound-at-cut k kt (view.waits v since) e = inl (sym (ic .records k kt))
+    bound-at-cut k kt view.idle e = tt
 
-    at-place : (k n : ℕ) → cut k ≡ n → k < m .t → (s : State) → recordAt m n k .state ≡ s → BoundAt k n s
-    at-place k n here kt s e = subst (λ (i : ℕ). recordAt m i k .state ≡ s → BoundAt k i s) here (bound-at-cut k kt s) e
+    at-place : (k n : ℕ) → cut k ≡ n → k < m .t → (v : View) → viewOf (recordAt m n k .state) ≡ v → BoundAt k n v
+    at-place k n here kt v e = subst (λ (i : ℕ). viewOf (recordAt m i k .state) ≡ v → BoundAt k i v) here (bound-at-cut k kt v) e
 
     -- a thread that still waits as at its cut, and hears at place n: earliest is not after the delta that follows
     heard-next : (n : ℕ) → UpTo n → (k e : ℕ) (since : Cycle) → Hears m n k e since → recordAt m n k ≡ threadAt ts k → f .earliest k ≼ At (nowAt m n) ⊕ oneDelta
     heard-next n ih k e since hear same = let (q, j, sooner, says, now) = pf .source n k e since hear in subst (λ (c : Cycle). f .earliest k ≼ At c ⊕ oneDelta) now (by q j sooner says now (decLt q (cut j)))
       where
-        waits : threadAt ts k .state ≡ Waiting e since
-        waits = ap (λ (t : Thread). t .state) (sym same) ∙ hear .waits
+        waits : viewOf (threadAt ts k .state) ≡ view.waits e since
+        waits = ap (λ (t : Thread). viewOf (t .state)) (sym same) ∙ hear .waits
 
         by : (q j : ℕ) → q < n → Says m q j e → nowAt m q ≡ nowAt m n → Dec (q < cut j) → f .earliest k ≼ At (nowAt m q) ⊕ oneDelta
         by q j sooner says now (yes d) = go (ic .logged q j e (record { runs = says .runs; passed = d }) says)
@@ -103,46 +100,43 @@ module _ (m : Model) (pf : PlainFacts m) (marks : List (List Bool)) (ws : List �
             let run = says .runs in
             f .linked k e since j (recordAt m q j .segment) (nowAt m q) (hear .below) waits (run .below) (live-undone q j run d) (pf .segment-below q j (run .below))
             (kl .distances .listed j (recordAt m q j .segment) (nowAt m q) (placeAt m q .variables) e (says .notifies)) (rw now (hear .begun))
-            (ih j q (omega arith) (run .below) (omega arith) (Ready (nowAt m q)) (run .ready) (pf .now-before q))
+            (ih j q (omega arith) (run .below) (omega arith) (view.ready (nowAt m q)) (run .ready) (pf .now-before q))
 
-    bound-idle : (n k : ℕ) → recordAt m (suc n) k ≡ recordAt m n k → (s : State) → BoundAt k n s → BoundAt k (suc n) s
-    bound-idle n k same (Ready c) p = λ b. subst (λ (t : Thread). boundTo k t ≼ At c) (sym same) (p b)
-    bound-idle n k same (Waiting e since) (inl p) = inl (same ∙ p)
-    bound-idle n k same (Waiting e since) (inr p) = inr (λ c a b. subst (λ (t : Thread). boundTo k t ≼ At c ⊕ oneDelta) (sym same) (p c a b))
-    bound-idle n k same (Ended c) p = tt
-    bound-idle n k same (Overrun c) p = tt
+    bound-idle : (n k : ℕ) → recordAt m (suc n) k ≡ recordAt m n k → (v : View) → BoundAt k n v → BoundAt k (suc n) v
+    bound-idle n k same (view.ready c) p = λ b. subst (λ (t : Thread). boundTo k t ≼ At c) (sym same) (p b)
+    bound-idle n k same (view.waits e since) (inl p) = inl (same ∙ p)
+    bound-idle n k same (view.waits e since) (inr p) = inr (λ c a b. subst (λ (t : Thread). boundTo k t ≼ At c ⊕ oneDelta) (sym same) (p c a b))
+    bound-idle n k same view.idle p = tt
 
-    bound-run : (n k : ℕ) → k < m .t → recordAt m (suc n) k ≡ effectThere m n k .thread → far k n ≼ At (nowAt m n) → (s : State) → recordAt m (suc n) k .state ≡ s → BoundAt k (suc n) s
-    bound-run n k kt next p (Ready d) e = λ b. subst (λ (t : Thread). boundTo k t ≼ At d) (sym next)
-        (kl .distances .over-wait k (threadAt ts k .segment) (recordAt m n k .segment) (nowAt m n) d (placeAt m n .variables) (f .earliest k) kt (segment-cut k kt) (pf .segment-below n k kt) (ap (λ (t : Thread). t .state) (sym next) ∙ e) b p)
-    bound-run n k kt next p (Waiting v since) e = inr (λ c a b. subst (λ (t : Thread). boundTo k t ≼ At c ⊕ oneDelta) (sym next)
-        (kl .distances .over-event k (threadAt ts k .segment) (recordAt m n k .segment) v (nowAt m n) since c (placeAt m n .variables) (f .earliest k) kt (segment-cut k kt) (pf .segment-below n k kt) (ap (λ (t : Thread). t .state) (sym next) ∙ e) a b p))
-    bound-run n k kt next p (Ended d) e = tt
-    bound-run n k kt next p (Overrun d) e = tt
+    bound-run : (n k : ℕ) → k < m .t → recordAt m (suc n) k ≡ effectThere m n k .thread → far k n ≼ At (nowAt m n) → (v : View) → viewOf (recordAt m (suc n) k .state) ≡ v → BoundAt k (suc n) v
+    bound-run n k kt next p (view.ready d) e = λ b. subst (λ (t : Thread). boundTo k t ≼ At d) (sym next)
+        (kl .distances .over-wait k (threadAt ts k .segment) (recordAt m n k .segment) (nowAt m n) d (placeAt m n .variables) (f .earliest k) kt (segment-cut k kt) (pf .segment-below n k kt) (ap (λ (t : Thread). viewOf (t .state)) (sym next) ∙ e) b p)
+    bound-run n k kt next p (view.waits v since) e = inr (λ c a b. subst (λ (t : Thread). boundTo k t ≼ At c ⊕ oneDelta) (sym next)
+        (kl .distances .over-event k (threadAt ts k .segment) (recordAt m n k .segment) v (nowAt m n) since c (placeAt m n .variables) (f .earliest k) kt (segment-cut k kt) (pf .segment-below n k kt) (ap (λ (t : Thread). viewOf (t .state)) (sym next) ∙ e) a b p))
+    bound-run n k kt next p view.idle e = tt
 
-    bound-heard : (n k : ℕ) → recordAt m (suc n) k ≡ record { segment = recordAt m n k .segment; state = stateAfter (waitEnds wait.Event (nowAt m n)) } → far k n ≼ At (nowAt m n) ⊕ oneDelta → (s : State) → recordAt m (suc n) k .state ≡ s → BoundAt k (suc n) s
-    bound-heard n k next p (Ready d) e = λ b. subst (λ (t : Thread). boundTo k t ≼ At d) (sym next) (subst (λ (y : Bound). far k n ≼ y) (heard-ready (nowAt m n) d (ap (λ (t : Thread). t .state) (sym next) ∙ e)) p)
-    bound-heard n k next p (Waiting v since) e = absurd (stateAfter-not-Waiting (waitEnds wait.Event (nowAt m n)) v since (ap (λ (t : Thread). t .state) (sym next) ∙ e))
-    bound-heard n k next p (Ended d) e = tt
-    bound-heard n k next p (Overrun d) e = tt
+    bound-heard : (n k : ℕ) → recordAt m (suc n) k ≡ record { segment = recordAt m n k .segment; state = stateAfter (waitEnds wait.Event (nowAt m n)) } → far k n ≼ At (nowAt m n) ⊕ oneDelta → (v : View) → viewOf (recordAt m (suc n) k .state) ≡ v → BoundAt k (suc n) v
+    bound-heard n k next p (view.ready d) e = λ b. subst (λ (t : Thread). boundTo k t ≼ At d) (sym next) (subst (λ (y : Bound). far k n ≼ y) (heard-ready (nowAt m n) d (ap (λ (t : Thread). viewOf (t .state)) (sym next) ∙ e)) p)
+    bound-heard n k next p (view.waits v since) e = absurd (stateAfter-not-waits (waitEnds wait.Event (nowAt m n)) v since (ap (λ (t : Thread). viewOf (t .state)) (sym next) ∙ e))
+    bound-heard n k next p view.idle e = tt
 
-    bound-next : (n : ℕ) → UpTo n → (k : ℕ) → k < m .t → cut k ≤ n → Happens m n k → (s : State) → recordAt m (suc n) k .state ≡ s → BoundAt k (suc n) s
-    bound-next n ih k kt from (idle same _ _ _) s e = bound-idle n k same s (ih k n (omega arith) kt from s (ap (λ (t : Thread). t .state) (sym same) ∙ e))
-    bound-next n ih k kt from (runs r next _) s e = bound-run n k kt next (ih k n (omega arith) kt from (Ready (nowAt m n)) (r .ready) (pf .now-before n)) s e
-    bound-next n ih k kt from (hears v since hear next _) s e = bound-heard n k next (go (ih k n (omega arith) kt from (Waiting v since) (hear .waits))) s e
+    bound-next : (n : ℕ) → UpTo n → (k : ℕ) → k < m .t → cut k ≤ n → Happens m n k → (v : View) → viewOf (recordAt m (suc n) k .state) ≡ v → BoundAt k (suc n) v
+    bound-next n ih k kt from (idle same _ _ _) v e = bound-idle n k same v (ih k n (omega arith) kt from v (ap (λ (t : Thread). viewOf (t .state)) (sym same) ∙ e))
+    bound-next n ih k kt from (runs r next _) v e = bound-run n k kt next (ih k n (omega arith) kt from (view.ready (nowAt m n)) (r .ready) (pf .now-before n)) v e
+    bound-next n ih k kt from (hears u since hear next _) v e = bound-heard n k next (go (ih k n (omega arith) kt from (view.waits u since) (hear .waits))) v e
       where
         go : (recordAt m n k ≡ threadAt ts k) ⊎ ((c : Cycle) → since ⊑ c → T (isBeforeHorizon m c) → far k n ≼ At c ⊕ oneDelta) → far k n ≼ At (nowAt m n) ⊕ oneDelta
-        go (inl same) = rw (far-still k n kt same) (heard-next n ih k v since hear same)
+        go (inl same) = rw (far-still k n kt same) (heard-next n ih k u since hear same)
         go (inr p) = p (nowAt m n) (hear .begun) (pf .now-before n)
 
     bound-up-to : (n : ℕ) → UpTo n
-    bound-up-to zero k j h kt from s e = at-place k j (omega arith) kt s e
-    bound-up-to (suc n) k j h kt from s e = go (ℕ-discrete j (suc n)) (ℕ-discrete (cut k) j) (bound-up-to n)
+    bound-up-to zero k j h kt from v e = at-place k j (omega arith) kt v e
+    bound-up-to (suc n) k j h kt from v e = go (ℕ-discrete j (suc n)) (ℕ-discrete (cut k) j) (bound-up-to n)
       where
-        go : Dec (j ≡ suc n) → Dec (cut k ≡ j) → UpTo n → BoundAt k j s
-        go _ (yes here) ih = at-place k j here kt s e
-        go (no below) (no _) ih = ih k j (omega arith) kt from s e
-        go (yes top) (no late) ih = subst (λ (i : ℕ). recordAt m i k .state ≡ s → BoundAt k i s) (sym top) (bound-next n ih k kt (omega arith) (pf .happens n k kt) s) e
+        go : Dec (j ≡ suc n) → Dec (cut k ≡ j) → UpTo n → BoundAt k j v
+        go _ (yes here) ih = at-place k j here kt v e
+        go (no below) (no _) ih = ih k j (omega arith) kt from v e
+        go (yes top) (no late) ih = subst (λ (i : ℕ). viewOf (recordAt m i k .state) ≡ v → BoundAt k i v) (sym top) (bound-next n ih k kt (omega arith) (pf .happens n k kt) v) e
 
     pub bounded : Bounded m ws ts cut (f .earliest)
-    bounded = record { sound = λ q j r new. bound-up-to q j q (omega arith) (r .below) (omega arith) (Ready (nowAt m q)) (r .ready) (pf .now-before q); live = live-undone }
+    bounded = record { sound = λ q j r new. bound-up-to q j q (omega arith) (r .below) (omega arith) (view.ready (nowAt m q)) (r .ready) (pf .now-before q); live = live-undone }

@@ -21,21 +21,20 @@ use Rattle.clock.proofs.OrderLaws.{⊑-total, Before→⊑}
 use Rattle.clock.proofs.AdvanceLaws.{advanceOf-Event}
 use Rattle.clock.proofs.WaitLaws.{waitEnds-advance}
 use Rattle.model.specs.declared.Model.{Model}
-use Rattle.model.specs.declared.State.{State}
-use Rattle.model.specs.declared.State.the-variants.{Ready, Waiting}
 use Rattle.model.specs.declared.Thread.{Thread}
 use Rattle.model.specs.Limits.{isBeforeHorizon}
-use Rattle.model.specs.Record.{isLive, stateAfter}
+use Rattle.model.specs.Record as view
+use Rattle.model.specs.Record.{isLive, isLiveView, stateAfter, View, viewOf}
 use Rattle.plain.specs.Step.{placeAt}
 use Rattle.plain.specs.History.{Item, ran, itemsAt, historyAt}
-use Rattle.plain_laws.proofs.RecordLaws.{Ready-not-Waiting, stateAfter-Ready, horizon-mono}
+use Rattle.plain_laws.proofs.RecordLaws.{ready-not-waits, stateAfter-ready, horizon-mono}
 use Rattle.plain_laws.proofs.HappenLaws.{historyAt-more}
 use Rattle.order.proofs.Places.{nowAt, recordAt, effectThere, Runs, Happens, idle, runs, hears}
 use Rattle.order.proofs.PlainFacts.{PlainFacts}
 
 -- whoever hears at c, and is then ready, is so one delta later
-pub heard-ready : (c d : Cycle) → stateAfter (waitEnds wait.Event c) ≡ Ready d → At c ⊕ oneDelta ≡ At d
-heard-ready c d e = rw (← advanceOf-Event) (waitEnds-advance wait.Event c (stateAfter-Ready (waitEnds wait.Event c) d e))
+pub heard-ready : (c d : Cycle) → viewOf (stateAfter (waitEnds wait.Event c)) ≡ view.ready d → At c ⊕ oneDelta ≡ At d
+heard-ready c d e = rw (← advanceOf-Event) (waitEnds-advance wait.Event c (stateAfter-ready (waitEnds wait.Event c) d e))
 
 -- a cycle before the horizon is not after one that is not
 horizon-⊑ : (m : Model) (c d : Cycle) → T (isBeforeHorizon m c) → T (not (isBeforeHorizon m d)) → c ⊑ d
@@ -49,11 +48,11 @@ horizon-⊑ m c d before late = go (⊑-total c d)
 abbrev pub Over : Thread → Type 0
 Over t = T (not (isLive (t .state)))
 
-pub over-ready-not : (t : Thread) (c : Cycle) → Over t → t .state ≡ Ready c → ⊥
-over-ready-not t c over e = subst (λ (s : State). T (not (isLive s))) e over
+pub over-ready-not : (t : Thread) (c : Cycle) → Over t → viewOf (t .state) ≡ view.ready c → ⊥
+over-ready-not t c over e = subst (λ (v : View). T (not (isLiveView v))) e over
 
-pub over-waits-not : (t : Thread) (e : ℕ) (since : Cycle) → Over t → t .state ≡ Waiting e since → ⊥
-over-waits-not t e since over p = subst (λ (s : State). T (not (isLive s))) p over
+pub over-waits-not : (t : Thread) (e : ℕ) (since : Cycle) → Over t → viewOf (t .state) ≡ view.waits e since → ⊥
+over-waits-not t e since over p = subst (λ (v : View). T (not (isLiveView v))) p over
 
 -- a place runs one thread
 pub same-runner : (m : Model) (p a b : ℕ) → Runs m p a → Runs m p b → a ≡ b
@@ -80,7 +79,7 @@ module _ (m : Model) (pf : PlainFacts m) where
         go : Happens m i k → recordAt m (suc i) k ≡ effectThere m i k .thread
         go (idle _ _ none _) = absurd (none here)
         go (runs _ next _) = next
-        go (hears e since r _ _) = absurd (Ready-not-Waiting (here .ready) (r .waits))
+        go (hears e since r _ _) = absurd (ready-not-waits (here .ready) (r .waits))
 
     pub run-history : historyAt m k (suc i) ≡ historyAt m k i ++ (ran (recordAt m i k .segment) (nowAt m i) ∷ [])
     run-history = historyAt-more m k i ∙ ap (λ (l : List Item). historyAt m k i ++ l) (go (pf .happens i k (here .below)))
@@ -88,14 +87,14 @@ module _ (m : Model) (pf : PlainFacts m) where
         go : Happens m i k → itemsAt m (placeAt m i) k ≡ ran (recordAt m i k .segment) (nowAt m i) ∷ []
         go (idle _ _ none _) = absurd (none here)
         go (runs _ _ items) = items
-        go (hears e since r _ _) = absurd (Ready-not-Waiting (here .ready) (r .waits))
+        go (hears e since r _ _) = absurd (ready-not-waits (here .ready) (r .waits))
 
     -- it is ready again no sooner than now: at a later place, or not before the horizon
-    pub run-later : (d : Cycle) → effectThere m i k .thread .state ≡ Ready d → nowAt m i ⊑ d
+    pub run-later : (d : Cycle) → viewOf (effectThere m i k .thread .state) ≡ view.ready d → nowAt m i ⊑ d
     run-later d e = go (T-case (isBeforeHorizon m d))
       where
-        again : recordAt m (suc i) k .state ≡ Ready d
-        again = ap (λ (t : Thread). t .state) run-record ∙ e
+        again : viewOf (recordAt m (suc i) k .state) ≡ view.ready d
+        again = ap (λ (t : Thread). viewOf (t .state)) run-record ∙ e
 
         go : T (isBeforeHorizon m d) ⊎ T (not (isBeforeHorizon m d)) → nowAt m i ⊑ d
         go (inr late) = horizon-⊑ m (nowAt m i) d (pf .now-before i) late

@@ -10,9 +10,9 @@ use Rattle.clock.specs.declared.Wait.the-variants as wait
 use Rattle.clock.specs.Order.{_⊑_}
 use Rattle.clock.specs.Wait.{waitEnds}
 use Rattle.model.specs.declared.Model.{Model}
-use Rattle.model.specs.declared.State.the-variants.{Ready, Waiting}
 use Rattle.model.specs.declared.Thread.{Thread}
-use Rattle.model.specs.Record.{threadAt, stateAfter}
+use Rattle.model.specs.Record as view
+use Rattle.model.specs.Record.{threadAt, stateAfter, viewOf}
 use Rattle.model.specs.Effect.{Effect, effectOf}
 use Rattle.model.specs.Footprint.{has}
 use Rattle.plain.specs.Step.{placeAt}
@@ -28,7 +28,7 @@ recordAt m i k = threadAt (placeAt m i .threads) k
 pub record Runs (m : Model) (i k : ℕ) : Type 0 where
   pub below : k < m .t
   pub turn : placeAt m i .turn ≡ k
-  pub ready : recordAt m i k .state ≡ Ready (nowAt m i)
+  pub ready : viewOf (recordAt m i k .state) ≡ view.ready (nowAt m i)
 
 -- what thread k does there
 abbrev pub effectThere : Model → ℕ → ℕ → Effect
@@ -43,7 +43,7 @@ pub record Says (m : Model) (i k e : ℕ) : Type 0 where
 pub record Hears (m : Model) (i k e : ℕ) (since : Cycle) : Type 0 where
   pub below : k < m .t
   pub closes : m .t ≤ placeAt m i .turn
-  pub waits : recordAt m i k .state ≡ Waiting e since
+  pub waits : viewOf (recordAt m i k .state) ≡ view.waits e since
   pub notified : T (has (placeAt m i .notified) e)
   pub begun : since ⊑ nowAt m i
 

@@ -10,8 +10,9 @@ use lib.ListN.{length}
 use Rattle.clock.specs.declared.Cycle.{Cycle}
 use Rattle.clock.specs.Order.{Before, _⊑_}
 use Rattle.model.specs.declared.Model.{Model}
-use Rattle.model.specs.declared.State.the-variants.{Ready, Waiting}
 use Rattle.model.specs.Limits.{isBeforeHorizon}
+use Rattle.model.specs.Record as view
+use Rattle.model.specs.Record.{viewOf}
 use Rattle.plain.specs.Step.{placeAt}
 use Rattle.plain.specs.Run.{isDone}
 use Rattle.plain.specs.History.{historyAt}
@@ -57,10 +58,10 @@ pub record PlainFacts (m : Model) : Type 0 where
   pub stamps : (i j a b : ℕ) → i < j → Runs m i a → Runs m j b → Before (nowAt m i) (nowAt m j) ⊎ ((nowAt m i ≡ nowAt m j) × (a < b))
   pub now-before : (i : ℕ) → T (isBeforeHorizon m (nowAt m i))
   -- a wait has begun by now
-  pub begun : (i k e : ℕ) (since : Cycle) → k < m .t → recordAt m i k .state ≡ Waiting e since → since ⊑ nowAt m i
+  pub begun : (i k e : ℕ) (since : Cycle) → k < m .t → viewOf (recordAt m i k .state) ≡ view.waits e since → since ⊑ nowAt m i
   -- whoever hears, somebody notified in that cycle
   pub source : (i k e : ℕ) (since : Cycle) → Hears m i k e since → (q : ℕ) × (j : ℕ) × (q < i) × Says m q j e × (nowAt m q ≡ nowAt m i)
-  pub next-run : (n k : ℕ) (c : Cycle) → k < m .t → recordAt m n k .state ≡ Ready c → T (isBeforeHorizon m c) → NextRun m n k c
+  pub next-run : (n k : ℕ) (c : Cycle) → k < m .t → viewOf (recordAt m n k .state) ≡ view.ready c → T (isBeforeHorizon m c) → NextRun m n k c
   -- a thread that waits at n hears, at the latest in the cycle of any notification of its event that is not before its wait
-  pub next-hearing : (n k e q j : ℕ) (since : Cycle) → k < m .t → recordAt m n k .state ≡ Waiting e since → Says m q j e → since ⊑ nowAt m q → NextHearing m n k e since (nowAt m q)
+  pub next-hearing : (n k e q j : ℕ) (since : Cycle) → k < m .t → viewOf (recordAt m n k .state) ≡ view.waits e since → Says m q j e → since ⊑ nowAt m q → NextHearing m n k e since (nowAt m q)
   pub ending : Ending m

@@ -10,10 +10,10 @@ use lib.Dec.{T}
 use Rattle.clock.specs.declared.Cycle.{Cycle}
 use Rattle.clock.specs.Order.{_⊑_}
 use Rattle.model.specs.declared.Model.{Model}
-use Rattle.model.specs.declared.State.the-variants.{Ready, Waiting}
 use Rattle.model.specs.declared.Thread.{Thread}
 use Rattle.model.specs.Limits.{isBeforeHorizon}
-use Rattle.model.specs.Record.{threadAt}
+use Rattle.model.specs.Record as view
+use Rattle.model.specs.Record.{threadAt, viewOf}
 use Rattle.model.specs.Footprint.{has}
 use Rattle.model.specs.Rules.{modelFault}
 use Rattle.plain.specs.Start.{Place}
@@ -45,7 +45,7 @@ module _ (m : Model) where
   runs-back : (i k : ℕ) → Runs m i k → happen.Runs m (placeAt m i) k
   runs-back i k r =
       let turn = r .turn in
-      let ready : recordAt m i (placeAt m i .turn) .state ≡ Ready (nowAt m i) = subst (λ (j : ℕ). recordAt m i j .state ≡ Ready (nowAt m i)) (sym turn) (r .ready) in
+      let ready : viewOf (recordAt m i (placeAt m i .turn) .state) ≡ view.ready (nowAt m i) = subst (λ (j : ℕ). viewOf (recordAt m i j .state) ≡ view.ready (nowAt m i)) (sym turn) (r .ready) in
       (ready→ran m (placeAt m i) (omega (arith, turn, r .below)) ready, turn)
 
   -- who hears
@@ -80,7 +80,7 @@ module _ (m : Model) where
     where
       go : Sees m (placeAt m i) → ((k : ℕ) × Runs m i k) ⊎ ((k : ℕ) → Runs m i k → ⊥)
       go (sees-ran q h r s) = inl (placeAt m i .turn, runs-there i (placeAt m i .turn) (q, refl))
-      go (sees-passed q h r s) = inr (λ k x. r (subst (λ (j : ℕ). recordAt m i j .state ≡ Ready (nowAt m i)) (sym (x .turn)) (x .ready)))
+      go (sees-passed q h r s) = inr (λ k x. r (subst (λ (j : ℕ). viewOf (recordAt m i j .state) ≡ view.ready (nowAt m i)) (sym (x .turn)) (x .ready)))
       go (sees-begun q h c f b s) = inr (λ k x. ran-not-closed (runs-back i k x .0) q)
       go (sees-rested q h l s) = inr (λ k x. ran-not-closed (runs-back i k x .0) q)
 
@@ -99,7 +99,7 @@ module _ (m : Model) where
       (s .place, placeAt m (s .place) .turn, s .earlier, says-there (s .place) e (s .says), s .now)
 
   module _ (kept : range.Keeps m) where
-    run-there : (n k : ℕ) (c : Cycle) → k < m .t → recordAt m n k .state ≡ Ready c → T (isBeforeHorizon m c) → NextRun m n k c
+    run-there : (n k : ℕ) (c : Cycle) → k < m .t → viewOf (recordAt m n k .state) ≡ view.ready c → T (isBeforeHorizon m c) → NextRun m n k c
     run-there n k c l e b =
         let r = end.will-run m k n c kept l e b in
         record {
@@ -112,11 +112,11 @@ module _ (m : Model) where
           quiet = λ q a d x. r .quiet .not-run q a d (runs-back q k x);
         }
 
-    hearing-there : (n k e q j : ℕ) (since : Cycle) → k < m .t → recordAt m n k .state ≡ Waiting e since → Says m q j e → since ⊑ nowAt m q → NextHearing m n k e since (nowAt m q)
+    hearing-there : (n k e q j : ℕ) (since : Cycle) → k < m .t → viewOf (recordAt m n k .state) ≡ view.waits e since → Says m q j e → since ⊑ nowAt m q → NextHearing m n k e since (nowAt m q)
     hearing-there n k e q j since l w s b =
         let h = hear.will-hear m k n e since w q (says-back q j e s) b in
         let same : recordAt m (h .place) k ≡ recordAt m n k = h .quiet .still (h .place) (h .quiet .forth) (omega arith) in
-        let waits : recordAt m (h .place) k .state ≡ Waiting e since = ap (λ (t : Thread). t .state) same ∙ w in
+        let waits : viewOf (recordAt m (h .place) k .state) ≡ view.waits e since = ap (λ (t : Thread). viewOf (t .state)) same ∙ w in
         record {
           place = h .place;
           from = h .quiet .forth;

@@ -20,11 +20,10 @@ use Rattle.clock.proofs.OrderLaws.{⊑-trans, ⊑-antisym, Before→not-⊑, �
 use Rattle.clock.proofs.CycleLaws.{StampBefore, →isStampBefore}
 use Rattle.clock.proofs.AdvanceLaws.{⊕-inflate}
 use Rattle.model.specs.declared.Model.{Model}
-use Rattle.model.specs.declared.State.{State}
-use Rattle.model.specs.declared.State.the-variants.{Ended, Overrun, Ready, Waiting}
 use Rattle.model.specs.declared.Thread.{Thread}
 use Rattle.model.specs.Limits.{isBeforeHorizon}
-use Rattle.model.specs.Record.{threadAt, isLive, readyCycle}
+use Rattle.model.specs.Record as view
+use Rattle.model.specs.Record.{threadAt, isLive, isLiveView, readyCycleOf, View, viewOf}
 use Rattle.model.specs.Footprint.{listedIn, notifiesIn}
 use Rattle.plain.specs.Wake.{floorOf, someReady}
 use Rattle.plain.specs.History.{Item}
@@ -51,16 +50,15 @@ module _ (m : Model) (pf : PlainFacts m) (marks : List (List Bool)) (ws : List �
   module _ {x : List ℕ} {l : List Notification} {ts : List Thread} {h : ℕ → List Item} {cut : ℕ → ℕ} (ic : IsCut m x l ts h cut (floorOf m ts)) (i : ℕ) (c : Cycle) (lr : LeastReady m ts i c) where
     -- a thread whose earliest is not after the floor is ready there, with no smaller number
     floor-thread : (j : ℕ) (a : Cycle) → j < m .t → T (isLive (threadAt ts j .state)) → kl .forecasts l ts .earliest j ≡ At a → a ⊑ c → j < i → ⊥
-    floor-thread j a below live ea ac ji = go (threadAt ts j .state) refl live
+    floor-thread j a below live ea ac ji = go (viewOf (threadAt ts j .state)) refl live
       where
         fl : floorOf m ts ≡ At c
         fl = least-floor m ts i c lr
 
-        go : (s : State) → threadAt ts j .state ≡ s → T (isLive s) → ⊥
-        go (Ended d) e t = t
-        go (Overrun d) e t = t
-        go (Waiting f d) e t = Before→not-⊑ (waiting-after-floor m marks ws kl l ts (cut-quiet ic) j f d c a below e fl ea) ac
-        go (Ready d) e t = lr .least j d below e (→isStampBefore (stampAt d j) (stampAt c i) (inr (at-floor, ji)))
+        go : (v : View) → viewOf (threadAt ts j .state) ≡ v → T (isLiveView v) → ⊥
+        go view.idle e t = t
+        go (view.waits f d) e t = Before→not-⊑ (waiting-after-floor m marks ws kl l ts (cut-quiet ic) j f d c a below e fl ea) ac
+        go (view.ready d) e t = lr .least j d below e (→isStampBefore (stampAt d j) (stampAt c i) (inr (at-floor, ji)))
           where
             same-a : d ≡ a
             same-a = let p : At d ≡ At a = sym (kl .forecasts l ts .ready j d below e) ∙ ea in cc
@@ -136,7 +134,7 @@ module _ (m : Model) (pf : PlainFacts m) (marks : List (List Bool)) (ws : List �
         (record {
           fit = cut-fit m pf marks ws kl ic short;
           thread = lr .below;
-          ready = ap readyCycle (lr .ready);
+          ready = ap readyCycleOf (lr .ready);
           before-horizon = T→true (isBeforeHorizon m c) early;
           no-hazard = rw (logOf-siteOf x l) least-free;
           room = least-room room;

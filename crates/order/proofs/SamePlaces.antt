@@ -18,7 +18,7 @@ use Rattle.model.specs.declared.Thread.{Thread}
 use Rattle.model.specs.Footprint.{writesIn}
 use Rattle.plain.specs.Step.{placeAt}
 use Rattle.plain.specs.History.{Item, ran, heard, historyAt, itemsAt}
-use Rattle.plain_laws.proofs.RecordLaws.{Ready-not-Waiting}
+use Rattle.plain_laws.proofs.RecordLaws.{ready-not-waits}
 use Rattle.plain_laws.proofs.HappenLaws.{historyAt-more}
 use Rattle.early.specs.declared.Site.{Site}
 use Rattle.order.proofs.Places.{recordAt, Runs, Happens, idle, runs, hears}
@@ -71,7 +71,7 @@ module _ (m : Model) (pf : PlainFacts m) (k : ℕ) (below : k < m .t) where
       one : Happens m i k → (x : Item) × (ranItems (itemsAt m (placeAt m i) k) ≡ x ∷ [])
       one (idle stays items not-runs not-hears) = absurd (not-runs r)
       one (runs u new items) = (ran (recordAt m i k .segment) (placeAt m i .now), ap ranItems items)
-      one (hears e since h new items) = absurd (Ready-not-Waiting (r .ready) (h .waits))
+      one (hears e since h new items) = absurd (ready-not-waits (r .ready) (h .waits))
 
   -- it never gets less
   next-mono : (i : ℕ) → length (ranUpTo i) ≤ length (ranUpTo (suc i))

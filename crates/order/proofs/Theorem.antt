@@ -19,7 +19,7 @@ use Rattle.plain.specs.Wake.{someReady}
 use Rattle.plain.specs.History.{Item, historyAt}
 use Rattle.early.specs.declared.Site.{Site}
 use Rattle.early.specs.declared.Answer.{Answer}
-use Rattle.early.specs.declared.Answer.the-variants.{Granted, Refused}
+use Rattle.early.specs.declared.Answer.the-variants.{Refused}
 use Rattle.early.specs.Log.{places, logOf}
 use Rattle.early.specs.Fit.{isUnfit}
 use Rattle.early.specs.Answer.{numberOf}

@@ -10,7 +10,7 @@ use Rattle.model.specs.Record.{threadAt}
 use Rattle.reader.specs.File.{readFile}
 use Rattle.tables.specs.Conflict.{marksOf}
 use Rattle.tables.specs.Word.{wordsOf}
-use Rattle.plain.specs.Start.{Place, freshThreads}
+use Rattle.plain.specs.Start.{freshThreads}
 use Rattle.plain.specs.Wake.{someReady}
 use Rattle.plain.specs.Step.{placeAt}
 use Rattle.plain.specs.Run.{isDone}
