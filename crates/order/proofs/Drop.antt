@@ -33,7 +33,7 @@ use Rattle.early_laws.proofs.OnceLaws.{dropBefore-once}
 use Rattle.early_laws.proofs.LookLaws.{heardNow-none}
 use Rattle.early_laws.proofs.RestLaws.{Rest}
 use Rattle.order.proofs.Places.{nowAt}
-use Rattle.order.proofs.KitLaws.{KitLaws}
+use Rattle.order.proofs.KitLaws.{Hearable, Source, from-ready, from-logged, boundIn, KitLaws}
 use Rattle.order.proofs.Invariant.{Gone, IsCut}
 use Rattle.order.proofs.Floor.{finite-below, floor-below, floor-glb}
 
@@ -46,14 +46,6 @@ hearable-waits : (l : List Notification) (v : View) (c : Cycle) → hearable l (
 hearable-waits l view.idle c e = absurd (At-not-Never (sym e))
 hearable-waits l (view.ready d) c e = absurd (At-not-Never (sym e))
 hearable-waits l (view.waits a d) c e = (a, d, refl, e)
-
--- thread k waits on y's event, not after y: it could hear y
-pub record Hearable (m : Model) (l : List Notification) (ts : List Thread) (k : ℕ) (y : Notification) : Type 0 where
-  pub below : k < m .t
-  pub since : Cycle
-  pub waits : viewOf (threadAt ts k .state) ≡ view.waits (y .event) since
-  pub logged : List·Memᴰ y l
-  pub begun : since ⊑ y .cycle
 
 -- nothing before the floor can be heard
 abbrev pub Quiet : Model → List Notification → List Thread → Type 0
@@ -80,6 +72,12 @@ kept-or-dropped (At f) c = go (⊑-total f c)
     go : (f ⊑ c) ⊎ Before c f → (f ⊑ c) ⊎ (f ⊑ c → ⊥)
     go (inl h) = inl h
     go (inr h) = inr (λ k. Before→not-⊑ h k)
+
+-- a thread with a finite bound has a finite earliest, not after it
+pub bound-finite : (m : Model) (ws : List ℕ) (ts : List Thread) (earliest : ℕ → Bound) (j s : ℕ) (b : Cycle) → boundIn m ws ts earliest j s ≡ At b
+    → (a : Cycle) × (earliest j ≡ At a) × (a ⊑ b)
+bound-finite m ws ts earliest j s b e =
+    finite-below (earliest j) b (subst (λ (z : Bound). earliest j ≼ z) e (⊕-inflate (earliest j) (distanceIn m ws (threadAt ts j .segment) s)))
 
 module _ (m : Model) (marks : List (List Bool)) (ws : List ℕ) (kl : KitLaws m marks ws) (l : List Notification) (ts : List Thread) where
   abbrev leastHearable : Bound
@@ -110,27 +108,17 @@ module _ (m : Model) (marks : List (List Bool)) (ws : List ℕ) (kl : KitLaws m 
       earliest : ℕ → Bound
       earliest = kl .forecasts l ts .earliest
 
-      from : (j : ℕ) (a b : Cycle) → a ⊑ b → Before b c →
-          ((i : ℕ) × (d : Cycle) × (i < m .t) × (viewOf (threadAt ts i .state) ≡ view.ready d) × (d ⊑ a) × ((f : ℕ) (u : Cycle) → viewOf (threadAt ts j .state) ≡ view.waits f u → Before d a))
-          ⊎ ((i : ℕ) × (f : ℕ) × (u : Cycle) × (y : Notification) × (i < m .t) × (viewOf (threadAt ts i .state) ≡ view.waits f u) × List·Memᴰ y l × (y .event ≡ f) × (u ⊑ y .cycle) × Before (y .cycle) a) →
-          floorOf m ts ≼ At c
-      from j a b ab bc (inl (i, d, i-below, ready, da, _)) =
+      from : (j : ℕ) (a b : Cycle) → a ⊑ b → Before b c → Source m l ts j a → floorOf m ts ≼ At c
+      from j a b ab bc (from-ready i d i-below ready da _) =
           ≼-trans (floorOf m ts) (At d) (At c) (floor-below m ts i d i-below ready) (⊑-trans da (⊑-trans ab (Before→⊑ bc)))
-      from j a b ab bc (inr (i, f, u, y, i-below, waits, logged, ev, uy, ya)) =
-          absurd (Before→not-⊑ bc (⊑-trans (subst (λ (z : Bound). z ≼ At (y .cycle)) q smaller) (⊑-trans (Before→⊑ ya) ab)))
-        where
-          smaller : leastHearable ≼ At (y .cycle)
-          smaller =
-              leastHearable-≼
-              i
-              y
-              (record { below = i-below; since = u; waits = subst (λ (g : ℕ). viewOf (threadAt ts i .state) ≡ view.waits g u) (sym ev) waits; logged = logged; begun = uy })
+      from j a b ab bc (from-logged i y h ya) =
+          absurd (Before→not-⊑ bc (⊑-trans (subst (λ (z : Bound). z ≼ At (y .cycle)) q (leastHearable-≼ i y h)) (⊑-trans (Before→⊑ ya) ab)))
 
       forecast : (b : Cycle) × (forecastOf m ws l ts e ≡ At b) × Before b c → floorOf m ts ≼ At c
       forecast (b, fb, bc) = attained (kl .forecasts l ts .forecast-attained e b fb)
         where
-          attained : (j : ℕ) × (s : ℕ) × (j < m .t) × T (isLive (threadAt ts j .state)) × (earliest j ⊕ distanceIn m ws (threadAt ts j .segment) s ≡ At b) → floorOf m ts ≼ At c
-          attained (j, s, j-below, live, eb) = source (finite-below (earliest j) b (subst (λ (z : Bound). earliest j ≼ z) eb (⊕-inflate (earliest j) (distanceIn m ws (threadAt ts j .segment) s))))
+          attained : (j : ℕ) × (s : ℕ) × (j < m .t) × T (isLive (threadAt ts j .state)) × (boundIn m ws ts earliest j s ≡ At b) → floorOf m ts ≼ At c
+          attained (j, s, j-below, live, eb) = source (bound-finite m ws ts earliest j s b eb)
             where
               source : (a : Cycle) × (earliest j ≡ At a) × (a ⊑ b) → floorOf m ts ≼ At c
               source (a, ea, ab) = from j a b ab bc (kl .forecasts l ts .attained j a j-below ea)
@@ -153,17 +141,9 @@ module _ (m : Model) (marks : List (List Bool)) (ws : List ℕ) (kl : KitLaws m 
       → (d : Cycle) × (floorOf m ts ≼ At d) × (d ⊑ b) × ((e : ℕ) (since : Cycle) → viewOf (threadAt ts k .state) ≡ view.waits e since → Before d b)
   earliest-source quiet k b below e = from (kl .forecasts l ts .attained k b below e)
     where
-      from :
-          ((i : ℕ) × (d : Cycle) × (i < m .t) × (viewOf (threadAt ts i .state) ≡ view.ready d) × (d ⊑ b) × ((f : ℕ) (u : Cycle) → viewOf (threadAt ts k .state) ≡ view.waits f u → Before d b))
-          ⊎ ((i : ℕ) × (f : ℕ) × (u : Cycle) × (y : Notification) × (i < m .t) × (viewOf (threadAt ts i .state) ≡ view.waits f u) × List·Memᴰ y l × (y .event ≡ f) × (u ⊑ y .cycle) × Before (y .cycle) b) →
-          (d : Cycle) × (floorOf m ts ≼ At d) × (d ⊑ b) × ((e : ℕ) (since : Cycle) → viewOf (threadAt ts k .state) ≡ view.waits e since → Before d b)
-      from (inl (i, d, i-below, ready, db, strict)) = (d, floor-below m ts i d i-below ready, db, strict)
-      from (inr (i, f, u, y, i-below, waits, logged, ev, uy, yb)) = (
-        y .cycle,
-        quiet i y (record { below = i-below; since = u; waits = subst (λ (g : ℕ). viewOf (threadAt ts i .state) ≡ view.waits g u) (sym ev) waits; logged = logged; begun = uy }),
-        Before→⊑ yb,
-        λ g v w. yb,
-      )
+      from : Source m l ts k b → (d : Cycle) × (floorOf m ts ≼ At d) × (d ⊑ b) × ((e : ℕ) (since : Cycle) → viewOf (threadAt ts k .state) ≡ view.waits e since → Before d b)
+      from (from-ready i d i-below ready db strict) = (d, floor-below m ts i d i-below ready, db, strict)
+      from (from-logged i y h yb) = (y .cycle, quiet i y h, Before→⊑ yb, λ f u w. yb)
 
   -- every earliest is at the floor or later
   pub floor-below-earliest : Quiet m l ts → (k : ℕ) → k < m .t → floorOf m ts ≼ kl .forecasts l ts .earliest k

@@ -15,6 +15,7 @@ use Rattle.base.proofs.BoolLaws.{T-case, T→false}
 use Rattle.model.specs.declared.Model.{Model}
 use Rattle.model.specs.Effect.{effectOf}
 use Rattle.model.specs.Footprint.{writesIn, usesIn}
+use Rattle.model_effect.proofs.FrameLaws.{Agree}
 use Rattle.plain.specs.Start.{startOf, freshVariables}
 use Rattle.plain.specs.Step.{placeAt}
 use Rattle.order.proofs.Places.{nowAt, recordAt, Runs}
@@ -98,7 +99,7 @@ module _ (m : Model) (pf : PlainFacts m) (marks : List (List Bool)) (ws : List �
       done-still = done-kept m cut k (suc r) (omega arith)
 
       -- (B) it finds what the plain run finds there
-      pub values : (v : ℕ) → T (usesIn m k seg v) → getD x v 0 ≡ getD (placeAt m r .variables) v 0
+      values : (v : ℕ) → T (usesIn m k seg v) → getD x v 0 ≡ getD (placeAt m r .variables) v 0
       values v uses = g .value v r (λ p a h runs w. safe p a h runs (record { variable = v; shared = inl (w, uses) })) later
         where
           later : (p a : ℕ) → r ≤ p → Runs m p a → Writes m p a v → Done m cut p a → ⊥
@@ -107,6 +108,9 @@ module _ (m : Model) (pf : PlainFacts m) (marks : List (List Bool)) (ws : List �
               go : Dec (p ≡ r) → ⊥
               go (yes e) = new (subst (λ (i : ℕ). Done m cut r i) (same-runner m r a k (rw e at runs) here) (rw e at d))
               go (no e) = g .ordered r k p a (omega arith) here new d (record { variable = v; shared = inr (uses, w) })
+
+      pub agree : Agree (λ v. T (usesIn m k seg v)) x (placeAt m r .variables)
+      agree = record { same-length = g .size ∙ sym (pf .variables-length r); same = values }
 
       ordered-after : (p a q b : ℕ) → p < q → Runs m p a → (Done m (moved cut k (suc r)) p a → ⊥) → Done m (moved cut k (suc r)) q b → Touch m p a q b → ⊥
       ordered-after p a q b h runs undone d t = go (done-after q b d)
@@ -134,7 +138,7 @@ module _ (m : Model) (pf : PlainFacts m) (marks : List (List Bool)) (ws : List �
               old p a runs w (inr (e, f)) = absurd (T-not (writesIn m k seg v) skips (subst (λ (i : ℕ). Writes m r i v) f (subst (λ (i : ℕ). Writes m i a v) e w)))
           go (inl writes) (no late) = absurd (after r k (omega arith) here writes (done-here m cut k r from here quiet))
           go (inl writes) (yes h) =
-              kl .footprints .local-variables k seg (nowAt m r) x (placeAt m r .variables) (g .size ∙ sym (pf .variables-length r)) values v (kl .footprints .writes-uses k seg v writes)
+              kl .footprints .local k seg (nowAt m r) x (placeAt m r .variables) agree .variables-agree .same v (kl .footprints .writes-uses k seg v writes)
               ∙ ap (λ (y : List ℕ). getD y v 0) (sym (pf .variables-run r k here))
               ∙ sym (value-kept v (suc r) q h (λ p a f t runs w. between p a f runs w (done-after p a (before p a t runs w))))
             where

@@ -9,12 +9,10 @@ use mathlib.Core.List.{List}
 use native.Mathlib.Omega.{arith}
 use native.Mathlib.Decide.{decLt, ℕ-discrete}
 use lib.Dec.{T, T-not}
-use lib.ListN.{length, getD}
 use Rattle.base.proofs.BoolLaws.{false→T}
 use Rattle.clock.specs.declared.Cycle.{Cycle}
 use Rattle.clock.specs.declared.Bound.{Bound}
 use Rattle.clock.specs.Cycle.{stampAt}
-use Rattle.clock.specs.Advance.{_⊕_}
 use Rattle.clock.proofs.CycleLaws.{StampBefore}
 use Rattle.model.specs.declared.Model.{Model}
 use Rattle.model.specs.declared.Thread.{Thread}
@@ -23,17 +21,17 @@ use Rattle.model.specs.Record as view
 use Rattle.model.specs.Record.{threadAt, viewOf}
 use Rattle.model.specs.Effect.{Effect, effectOf}
 use Rattle.model.specs.Footprint.{usesIn}
+use Rattle.model_effect.proofs.FrameLaws.{Alike}
 use Rattle.plain.specs.Step.{placeAt}
 use Rattle.plain.specs.History.{Item}
-use Rattle.tables.specs.Word.{distanceIn}
 use Rattle.early.specs.declared.Notification.{Notification}
 use Rattle.early.specs.Hazard.{threadsConflict, isSooner, hazard}
 use Rattle.early_laws.proofs.HazardLaws.{→isSooner}
 use Rattle.order.proofs.Places.{nowAt, recordAt, effectThere, Runs}
 use Rattle.order.proofs.PlainFacts.{PlainFacts, NextRun}
-use Rattle.order.proofs.KitLaws.{KitLaws}
+use Rattle.order.proofs.KitLaws.{boundIn, KitLaws}
 use Rattle.order.proofs.Invariant.{Done, Touch, Good, IsCut, Bounded, moved}
-use Rattle.order.proofs.GoodLaws.{touch-swap, values, good-step}
+use Rattle.order.proofs.GoodLaws.{touch-swap, agree, good-step}
 use Rattle.order.proofs.LowerBound.{bounded}
 
 module _ (m : Model) (pf : PlainFacts m) (marks : List (List Bool)) (ws : List ℕ) (kl : KitLaws m marks ws)
@@ -58,7 +56,7 @@ module _ (m : Model) (pf : PlainFacts m) (marks : List (List Bool)) (ws : List �
           bd = bounded m pf marks ws kl ic (kl .forecasts l ts)
 
           b : Bound
-          b = kl .forecasts l ts .earliest a ⊕ distanceIn m ws (threadAt ts a .segment) (recordAt m p a .segment)
+          b = boundIn m ws ts (kl .forecasts l ts .earliest) a (recordAt m p a .segment)
 
           touched : Touch m (r .place) k p a
           touched = touch-swap m p a (r .place) k touch
@@ -85,21 +83,23 @@ module _ (m : Model) (pf : PlainFacts m) (marks : List (List Bool)) (ws : List �
       abbrev effect : Effect
       effect = effectOf m k (threadAt ts k .segment) c x
 
-      effect-there : effect ≡ effectOf m k (recordAt m (r .place) k .segment) (nowAt m (r .place)) x
+      abbrev there : ℕ
+      there = recordAt m (r .place) k .segment
+
+      effect-there : effect ≡ effectOf m k there (nowAt m (r .place)) x
       effect-there = ap₂ (λ (s : ℕ) (d : Cycle). effectOf m k s d x) (ap (λ (t : Thread). t .segment) (same-record r)) (sym (r .now))
 
-      length-same : length x ≡ length (placeAt m (r .place) .variables)
-      length-same = ic .good .size ∙ sym (pf .variables-length (r .place))
-
       -- (B) it finds what the plain run finds there
-      pub values-there : (v : ℕ) → T (usesIn m k (recordAt m (r .place) k .segment) v) → getD x v 0 ≡ getD (placeAt m (r .place) .variables) v 0
-      values-there = values m pf marks ws kl cut x (ic .good) (r .place) k (r .runs) (r .from) (r .quiet) safe
+      alike : Alike (λ v. T (usesIn m k there v)) (effectOf m k there (nowAt m (r .place)) x) (effectThere m (r .place) k)
+      alike =
+          kl .footprints .local k there (nowAt m (r .place)) x (placeAt m (r .place) .variables)
+          (agree m pf marks ws kl cut x (ic .good) (r .place) k (r .runs) (r .from) (r .quiet) safe)
 
       pub effect-thread : effect .thread ≡ effectThere m (r .place) k .thread
-      effect-thread = ap (λ (y : Effect). y .thread) effect-there ∙ kl .footprints .local-thread k (recordAt m (r .place) k .segment) (nowAt m (r .place)) x (placeAt m (r .place) .variables) length-same values-there
+      effect-thread = ap (λ (y : Effect). y .thread) effect-there ∙ alike .same-thread
 
       pub effect-notified : effect .notified ≡ effectThere m (r .place) k .notified
-      effect-notified = ap (λ (y : Effect). y .notified) effect-there ∙ kl .footprints .local-notified k (recordAt m (r .place) k .segment) (nowAt m (r .place)) x (placeAt m (r .place) .variables) length-same values-there
+      effect-notified = ap (λ (y : Effect). y .notified) effect-there ∙ alike .same-notified
 
       -- (C) and leaves the variables good
       pub effect-good : Good m (moved cut k (suc (r .place))) (effect .variables)

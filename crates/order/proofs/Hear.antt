@@ -13,7 +13,6 @@ use Rattle.clock.specs.declared.Cycle.{Cycle}
 use Rattle.clock.specs.declared.Wait.the-variants as wait
 use Rattle.clock.specs.declared.Bound.{Bound}
 use Rattle.clock.specs.declared.Bound.the-variants.{At}
-use Rattle.clock.specs.Advance.{_⊕_}
 use Rattle.clock.specs.Order.{_⊑_, _≼_}
 use Rattle.clock.specs.Wait.{waitEnds}
 use Rattle.clock.proofs.OrderLaws.{Before→not-⊑, ⊑-antisym, ≼-trans}
@@ -23,7 +22,6 @@ use Rattle.model.specs.Record as view
 use Rattle.model.specs.Record.{threadAt, awaits, stateAfter, viewOf}
 use Rattle.plain.specs.Step.{placeAt}
 use Rattle.plain.specs.History.{Item, heard, historyAt}
-use Rattle.tables.specs.Word.{distanceIn}
 use Rattle.plain_laws.proofs.RecordLaws.{ready-not-waits, waits-event}
 use Rattle.plain_laws.proofs.HappenLaws.{historyAt-more}
 use Rattle.early.specs.declared.Notification.{Notification}
@@ -34,7 +32,7 @@ use Rattle.early_laws.proofs.LogLaws.{leastHeard-≼, leastHeard-at}
 use Rattle.early_laws.proofs.LookLaws.{heardNow-at}
 use Rattle.order.proofs.Places.{nowAt, recordAt, Runs, Says, Hears, Happens, idle, runs, hears}
 use Rattle.order.proofs.PlainFacts.{PlainFacts, NextHearing}
-use Rattle.order.proofs.KitLaws.{KitLaws}
+use Rattle.order.proofs.KitLaws.{boundIn, KitLaws}
 use Rattle.order.proofs.Invariant.{Done, Gone, IsCut, Bounded}
 
 -- the plain run's next hearing of thread k after its cut, at cycle c
@@ -69,7 +67,7 @@ module _ (m : Model) (pf : PlainFacts m) (marks : List (List Bool)) (ws : List �
             (least-now .1)
             (≼-trans
             (forecastOf m ws l ts e)
-            (kl .forecasts l ts .earliest j ⊕ distanceIn m ws (threadAt ts j .segment) (recordAt m q j .segment))
+            (boundIn m ws ts (kl .forecasts l ts .earliest) j (recordAt m q j .segment))
             (At (nowAt m q))
             (kl .forecasts l ts .forecast-below
             e

@@ -26,6 +26,7 @@ use Rattle.early.specs.declared.Notification.{Notification}
 use Rattle.early.specs.Log.{pairOf}
 use Rattle.early_laws.proofs.OnceLaws.{Once}
 use Rattle.order.proofs.Places.{nowAt, recordAt, Runs, Says}
+use Rattle.order.proofs.KitLaws.{Shared, boundIn}
 
 -- place q runs thread k, and k has passed it
 pub record Done (m : Model) (cut : ℕ → ℕ) (q k : ℕ) : Type 0 where
@@ -35,7 +36,7 @@ pub record Done (m : Model) (cut : ℕ → ℕ) (q k : ℕ) : Type 0 where
 -- places p and q, which run a and b, touch a variable that one of them writes
 pub record Touch (m : Model) (p a q b : ℕ) : Type 0 where
   pub variable : ℕ
-  pub shared : (T (writesIn m a (recordAt m p a .segment) variable) × T (usesIn m b (recordAt m q b .segment) variable)) ⊎ (T (usesIn m a (recordAt m p a .segment) variable) × T (writesIn m b (recordAt m q b .segment) variable))
+  pub shared : Shared m a (recordAt m p a .segment) b (recordAt m q b .segment) variable
 
 -- the variables of the done places
 pub record Good (m : Model) (cut : ℕ → ℕ) (x : List ℕ) : Type 0 where
@@ -69,7 +70,7 @@ pub record IsCut (m : Model) (x : List ℕ) (l : List Notification) (ts : List T
 
 -- no place that is not done runs sooner than its thread's earliest plus the distance to its segment
 pub record Bounded (m : Model) (ws : List ℕ) (ts : List Thread) (cut : ℕ → ℕ) (earliest : ℕ → Bound) : Type 0 where
-  pub sound : (q j : ℕ) → Runs m q j → (q < cut j → ⊥) → earliest j ⊕ distanceIn m ws (threadAt ts j .segment) (recordAt m q j .segment) ≼ At (nowAt m q)
+  pub sound : (q j : ℕ) → Runs m q j → (q < cut j → ⊥) → boundIn m ws ts earliest j (recordAt m q j .segment) ≼ At (nowAt m q)
   pub live : (q j : ℕ) → Runs m q j → (q < cut j → ⊥) → T (isLive (threadAt ts j .state))
 
 -- the cut of thread k moved to place n

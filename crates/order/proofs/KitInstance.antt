@@ -3,7 +3,8 @@
 -- distance is the least over all paths.
 -- Assumes nothing.
 use Prim.Native.Nat.{ℕ, _≤_, _<_, _+_, _*_}
-use mathlib.Core.Path.{_≡_, sym, _∙_, subst}
+use mathlib.Core.Path.{_≡_, refl, ap, sym, _∙_, subst}
+use mathlib.Core.Logic.{_⊎_, inl, inr}
 use mathlib.Core.Bool.{Bool}
 use mathlib.Core.List.{List, []}
 use native.Mathlib.Omega.{arith}
@@ -32,7 +33,7 @@ use Rattle.model.specs.Values.{segmentAt, segmentFor}
 use Rattle.model.specs.Effect.{nextOf, closedAt, effectOf}
 use Rattle.model.specs.Footprint.{has, writesIn, usesIn, notifiesIn}
 use Rattle.model.specs.Rules.{modelFault}
-use Rattle.model_effect.proofs.FrameLaws.{Agree, writesIn→usesIn, effectOf-frame, effectOf-length, notified-listed, effectOf-local}
+use Rattle.model_effect.proofs.FrameLaws.{writesIn→usesIn, effectOf-frame, effectOf-length, notified-listed, effectOf-local}
 use Rattle.model_rules.proofs.RuleLaws.{modelFault-horizon, modelFault-counts}
 use Rattle.tables.specs.Conflict.{marksOf}
 use Rattle.tables.specs.Distance.{stepOf, goesTo, edge, distanceOf}
@@ -46,12 +47,12 @@ use Rattle.plain_laws.proofs.KeepLaws.{effectOf-notifies, modelFault-keeps}
 use Rattle.early.specs.declared.Notification.{Notification}
 use Rattle.early.specs.Hazard.{threadsConflict}
 use Rattle.early.specs.Fit.{isFitWord}
-use Rattle.early_laws.proofs.EarliestLaws.{earliestAt, earliest-ready, earliest-heard, earliest-linked, earliest-attained}
+use Rattle.early_laws.proofs.EarliestLaws.{earliestAt, FromReady, FromLogged, earliest-ready, earliest-heard, earliest-linked, earliest-attained}
 use Rattle.early_laws.proofs.ForecastLaws as forecast
 use Rattle.early_laws.proofs.HazardLaws as danger
 use Rattle.early_laws.proofs.FitLaws.{→isFitThread, →isFitCycle, →isUnfitWords}
 use Rattle.order.proofs.Places.{recordAt, nowAt}
-use Rattle.order.proofs.KitLaws.{Begins, Footprints, Needed, Distances, Ranges, Forecasts, KitLaws}
+use Rattle.order.proofs.KitLaws.{Source, from-ready, from-logged, Begins, Footprints, Needed, Distances, Ranges, Forecasts, KitLaws}
 use Rattle.order.proofs.PlainInstance.{plain-facts}
 
 -- a segment that closes ready at d has taken a step of the segment graph, whose advance leads from c to d
@@ -97,18 +98,13 @@ module _ (m : Model) (fit : modelFault m ≡ 0) (ws : List ℕ) (begins : Begins
   before-cut : (c : Cycle) → T (isBeforeHorizon m c) → c .time .0 < cutTime
   before-cut c t = omega (arith, horizon→< m c t, end-cut)
 
-  agree : (k s : ℕ) (x y : List ℕ) → length x ≡ length y → ((v : ℕ) → T (usesIn m k s v) → getD x v 0 ≡ getD y v 0) → Agree (λ v. T (usesIn m k s v)) x y
-  agree k s x y l h = record { same-length = l; same = h }
-
   footprints : Footprints m
   footprints =
       record {
         writes-uses = λ k s v t. writesIn→usesIn m k s v t;
         sized = λ k s c x. effectOf-length m k s c x;
         frame = λ k s c x v e. effectOf-frame m k s c x v e;
-        local-variables = λ k s c x y l h v u. effectOf-local m k s c x y (agree k s x y l h) .variables-agree .same v u;
-        local-notified = λ k s c x y l h. effectOf-local m k s c x y (agree k s x y l h) .same-notified;
-        local-thread = λ k s c x y l h. effectOf-local m k s c x y (agree k s x y l h) .same-thread;
+        local = λ k s c x y a. effectOf-local m k s c x y a;
       }
 
   -- the bound on the distance to the next segment, from that to this one
@@ -157,7 +153,6 @@ module _ (m : Model) (fit : modelFault m ≡ 0) (ws : List ℕ) (begins : Begins
         over-wait = λ k r a c d x y kt rn an f t l. onward r a (effectOf m k a c x .thread .segment) y c d rn an (next-below k a c x an) (before-cut d t) (subst (λ (z : Bound). z ≼ At d) (sym (edge-ready k a c d x f)) (≼-refl (At d))) l;
         over-event = over-event;
         self = λ r h. distance-at m fit ws begins r r h h ∙ distanceOf-self m r h;
-        segment-below = λ k a c x kt h. next-below k a c x h;
         listed = λ k s c x e t. effectOf-notifies m k s c x e t;
         listed-below = listed-below;
         wait-begins = λ k s c x e since f. effectOf-waits m k s c x e since f;
@@ -181,14 +176,19 @@ module _ (m : Model) (fit : modelFault m ≡ 0) (ws : List ℕ) (begins : Begins
         record {
           earliest = earliestAt m ws l ts;
           ready = earliest-ready m ws l ts;
-          heard = earliest-heard m ws l ts;
+          heard = λ k y h. earliest-heard m ws l ts k (y .event) (h .since) y (h .below) (h .waits) (h .logged) refl (h .begun);
           linked = earliest-linked m ws l ts;
-          attained = earliest-attained m ws l ts;
+          attained = λ k b h e. source k b (earliest-attained m ws l ts k b h e);
           forecast-below = forecast.forecast-below m ws l ts;
           forecast-attained = λ e b f. let (k, s, p, q, _, _, r) = forecast.forecast-attained m ws l ts e b f in (k, s, p, q, r);
           no-hazard = λ i c. danger.no-hazard m marks ws l ts i c;
           some-hazard = λ i c e. let (j, s, t) = danger.hazard→threat m marks ws l ts i c e in (j, s, t .thread, t .other, t .live, t .sooner);
         }
+      where
+        source : (k : ℕ) (b : Cycle) → FromReady m ws l ts k b ⊎ FromLogged m ws l ts b → Source m l ts k b
+        source k b (inl (j, c, below, r, cb, strict)) = from-ready j c below r cb strict
+        source k b (inr (j, e, since, y, below, w, held, same, begun, yb)) =
+            from-logged j y (record { below = below; since = since; waits = w ∙ ap (λ (a : ℕ). view.waits a since) (sym same); logged = held; begun = begun }) yb
 
     pub kit-laws : Needed m marks → KitLaws m marks ws
     kit-laws needed = record { footprints = footprints; needed = needed; distances = distances; ranges = ranges; forecasts = forecasts }

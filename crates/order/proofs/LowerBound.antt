@@ -27,13 +27,12 @@ use Rattle.model.specs.Record as view
 use Rattle.model.specs.Record.{threadAt, isLive, stateAfter, View, viewOf}
 use Rattle.plain.specs.History.{Item}
 use Rattle.plain.specs.Step.{placeAt}
-use Rattle.tables.specs.Word.{distanceIn}
 use Rattle.plain_laws.proofs.RecordLaws.{stateAfter-not-waits}
 use Rattle.early.specs.declared.Notification.{Notification}
 use Rattle.early.specs.Log.{pairOf}
 use Rattle.order.proofs.Places.{nowAt, recordAt, effectThere, Runs, Says, Hears, Happens, idle, runs, hears}
 use Rattle.order.proofs.PlainFacts.{PlainFacts}
-use Rattle.order.proofs.KitLaws.{KitLaws, Forecasts}
+use Rattle.order.proofs.KitLaws.{boundIn, KitLaws, Forecasts}
 use Rattle.order.proofs.PlaceLaws.{Over, over-ready-not, over-stays, heard-ready}
 use Rattle.order.proofs.Invariant.{Gone, IsCut, Bounded}
 
@@ -51,7 +50,7 @@ module _ (m : Model) (pf : PlainFacts m) (marks : List (List Bool)) (ws : List �
 
     -- the bound of thread k at the segment of a record, and at the segment that it has at place n
     abbrev boundTo : ℕ → Thread → Bound
-    boundTo k t = f .earliest k ⊕ distanceIn m ws (threadAt ts k .segment) (t .segment)
+    boundTo k t = boundIn m ws ts (f .earliest) k (t .segment)
 
     abbrev far : ℕ → ℕ → Bound
     far k n = boundTo k (recordAt m n k)
@@ -94,7 +93,7 @@ module _ (m : Model) (pf : PlainFacts m) (marks : List (List Bool)) (ws : List �
         by q j sooner says now (yes d) = go (ic .logged q j e (record { runs = says .runs; passed = d }) says)
           where
             go : List·Memᴰ (pairOf e (nowAt m q)) l ⊎ Gone m ts low e (nowAt m q) → f .earliest k ≼ At (nowAt m q) ⊕ oneDelta
-            go (inl held) = f .heard k e since (pairOf e (nowAt m q)) (hear .below) waits held refl (rw now (hear .begun))
+            go (inl held) = f .heard k (pairOf e (nowAt m q)) (record { below = hear .below; since = since; waits = waits; logged = held; begun = rw now (hear .begun) })
             go (inr gone) = absurd (Before→not-⊑ (gone .unheard k since (hear .below) waits) (rw now (hear .begun)))
         by q j sooner says now (no d) =
             let run = says .runs in

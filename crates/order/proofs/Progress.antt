@@ -14,11 +14,9 @@ use Rattle.clock.specs.declared.Cycle.{Cycle}
 use Rattle.clock.specs.declared.Bound.{Bound}
 use Rattle.clock.specs.declared.Bound.the-variants.{At}
 use Rattle.clock.specs.Cycle.{stampAt}
-use Rattle.clock.specs.Advance.{_⊕_}
 use Rattle.clock.specs.Order.{_⊑_, _≼_}
 use Rattle.clock.proofs.OrderLaws.{⊑-trans, ⊑-antisym, Before→not-⊑, ⊑-refl}
 use Rattle.clock.proofs.CycleLaws.{StampBefore, →isStampBefore}
-use Rattle.clock.proofs.AdvanceLaws.{⊕-inflate}
 use Rattle.model.specs.declared.Model.{Model}
 use Rattle.model.specs.declared.Thread.{Thread}
 use Rattle.model.specs.Limits.{isBeforeHorizon}
@@ -27,7 +25,6 @@ use Rattle.model.specs.Record.{threadAt, isLive, isLiveView, readyCycleOf, View
 use Rattle.model.specs.Footprint.{listedIn, notifiesIn}
 use Rattle.plain.specs.Wake.{floorOf, someReady}
 use Rattle.plain.specs.History.{Item}
-use Rattle.tables.specs.Word.{distanceIn}
 use Rattle.early.specs.declared.Notification.{Notification}
 use Rattle.early.specs.declared.Site.{Site}
 use Rattle.early.specs.Log.{places, siteOf, countedPlaces}
@@ -38,10 +35,10 @@ use Rattle.early_laws.proofs.HazardLaws.{isSooner→}
 use Rattle.early_laws.proofs.GrantLaws.{isFull-floor}
 use Rattle.early_laws.proofs.RequestLaws.{requestOf-granted}
 use Rattle.order.proofs.PlainFacts.{PlainFacts}
-use Rattle.order.proofs.KitLaws.{KitLaws}
+use Rattle.order.proofs.KitLaws.{boundIn, KitLaws}
 use Rattle.order.proofs.Invariant.{IsCut}
-use Rattle.order.proofs.Floor.{floor-below, finite-below}
-use Rattle.order.proofs.Drop.{cut-quiet, floor-below-earliest, waiting-after-floor}
+use Rattle.order.proofs.Floor.{floor-below}
+use Rattle.order.proofs.Drop.{bound-finite, cut-quiet, floor-below-earliest, waiting-after-floor}
 use Rattle.order.proofs.Capacity.{Roomy, floor-places}
 use Rattle.order.proofs.Reached.{Reached, cut-fit, logged-event}
 use Rattle.order.proofs.LeastReady.{LeastReady, least-floor, some-least}
@@ -78,11 +75,11 @@ module _ (m : Model) (pf : PlainFacts m) (marks : List (List Bool)) (ws : List �
             earliest : ℕ → Bound
             earliest = kl .forecasts l ts .earliest
 
-            found : (j : ℕ) × (s : ℕ) × (j < m .t) × (j ≡ i → ⊥) × T (isLive (threadAt ts j .state)) × T (isSooner (earliest j ⊕ distanceIn m ws (threadAt ts j .segment) s) j (stampAt c i)) → ⊥
-            found (j, s, below, other, live, sooner-than) = at-cycle (isSooner→ (earliest j ⊕ distanceIn m ws (threadAt ts j .segment) s) j c i sooner-than)
+            found : (j : ℕ) × (s : ℕ) × (j < m .t) × (j ≡ i → ⊥) × T (isLive (threadAt ts j .state)) × T (isSooner (boundIn m ws ts earliest j s) j (stampAt c i)) → ⊥
+            found (j, s, below, other, live, sooner-than) = at-cycle (isSooner→ (boundIn m ws ts earliest j s) j c i sooner-than)
               where
-                at-cycle : (b : Cycle) × (earliest j ⊕ distanceIn m ws (threadAt ts j .segment) s ≡ At b) × StampBefore (stampAt b j) (stampAt c i) → ⊥
-                at-cycle (b, eb, stamp) = at-earliest (finite-below (earliest j) b (subst (λ (z : Bound). earliest j ≼ z) eb (⊕-inflate (earliest j) (distanceIn m ws (threadAt ts j .segment) s))))
+                at-cycle : (b : Cycle) × (boundIn m ws ts earliest j s ≡ At b) × StampBefore (stampAt b j) (stampAt c i) → ⊥
+                at-cycle (b, eb, stamp) = at-earliest (bound-finite m ws ts earliest j s b eb)
                   where
                     at-earliest : (a : Cycle) × (earliest j ≡ At a) × (a ⊑ b) → ⊥
                     at-earliest (a, ea, ab) = by-stamp stamp
