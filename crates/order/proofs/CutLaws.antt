@@ -1,16 +1,20 @@
 -- How a cut is moved: only its own thread's cut changes, what was done stays done, and what becomes done lies between
--- the old cut and the new one. Likewise for histories with one thread's items more.
+-- the old cut and the new one. Likewise for records with one thread's changed, and histories with one thread's items more.
 -- Assumes nothing.
 use Prim.Native.Nat.{ℕ, suc, _≤_, _<_}
-use mathlib.Core.Path.{_≡_, refl, subst}
+use mathlib.Core.Path.{_≡_, refl, sym, subst}
 use mathlib.Core.Logic.{_⊎_, inl, inr}
 use mathlib.Core.List.{List, _++_, append-nil}
 use native.Mathlib.Omega.{arith}
 use native.Mathlib.Decide.{decLt, ℕ-discrete}
+use lib.ListN.{length, set}
 use borrow.Author.Tests.{eq-eqb, ne-eqb}
 use Rattle.model.specs.declared.Model.{Model}
-use Rattle.plain.specs.History.{Item}
-use Rattle.order.proofs.Places.{Runs}
+use Rattle.model.specs.declared.Thread.{Thread}
+use Rattle.model.specs.Record.{threadAt}
+use Rattle.plain.specs.History.{Item, historyAt}
+use Rattle.plain_laws.proofs.RecordLaws.{threadAt-set, threadAt-other}
+use Rattle.order.proofs.Places.{recordAt, Runs}
 use Rattle.order.proofs.Invariant.{Done, moved, adding}
 
 pub moved-same : (cut : ℕ → ℕ) (k n j : ℕ) → j ≡ k → moved cut k n j ≡ n
@@ -28,6 +32,32 @@ adding-same h k items j e = rw (eq-eqb j k e) refl
 pub adding-other : (h : ℕ → List Item) (k : ℕ) (items : List Item) (j : ℕ) → (j ≡ k → ⊥) → adding h k items j ≡ h j
 unfolding adding
 adding-other h k items j other = rw (ne-eqb j k other) (append-nil (h j))
+
+-- what holds of the record that thread k gets, and of every other, holds of all after
+pub set-each : (P : ℕ → Thread → Type 0) (ts : List Thread) (k : ℕ) (t : Thread) → k < length ts → P k t
+    → ((j : ℕ) → (j ≡ k → ⊥) → P j (threadAt ts j)) → (j : ℕ) → P j (threadAt (set ts k t) j)
+set-each P ts k t inside new old j = go (ℕ-discrete j k)
+  where
+    go : Dec (j ≡ k) → P j (threadAt (set ts k t) j)
+    go (yes e) = rw e (subst (P k) (sym (threadAt-set ts k t inside)) new)
+    go (no n) = subst (P j) (sym (threadAt-other ts k j t n)) (old j n)
+
+-- thread k gets the record that it has at place n: the records are those of the cut moved there
+pub moved-records : (m : Model) (ts : List Thread) (cut : ℕ → ℕ) (k n : ℕ) (t : Thread) → k < length ts → t ≡ recordAt m n k
+    → ((j : ℕ) → j < m .t → threadAt ts j ≡ recordAt m (cut j) j) → (j : ℕ) → j < m .t → threadAt (set ts k t) j ≡ recordAt m (moved cut k n j) j
+moved-records m ts cut k n t inside there old =
+    set-each (λ j u. j < m .t → u ≡ recordAt m (moved cut k n j) j) ts k t inside
+    (λ b. rw (moved-same cut k n k refl) there)
+    (λ j other b. rw (moved-other cut k n j other) (old j b))
+
+-- and its history there
+pub moved-history : (m : Model) (h : ℕ → List Item) (cut : ℕ → ℕ) (k n : ℕ) (items : List Item) → h k ++ items ≡ historyAt m k n
+    → ((j : ℕ) → j < m .t → h j ≡ historyAt m j (cut j)) → (j : ℕ) → j < m .t → adding h k items j ≡ historyAt m j (moved cut k n j)
+moved-history m h cut k n items there old j b = go (ℕ-discrete j k)
+  where
+    go : Dec (j ≡ k) → adding h k items j ≡ historyAt m j (moved cut k n j)
+    go (yes e) = rw (adding-same h k items j e, moved-same cut k n j e, e) there
+    go (no other) = rw (adding-other h k items j other, moved-other cut k n j other) (old j b)
 
 module _ (m : Model) (cut : ℕ → ℕ) (k n : ℕ) (on : cut k ≤ n) where
   -- what was done stays done

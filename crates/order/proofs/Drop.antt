@@ -35,7 +35,7 @@ use Rattle.early_laws.proofs.RestLaws.{Rest}
 use Rattle.order.proofs.Places.{nowAt}
 use Rattle.order.proofs.KitLaws.{Hearable, Source, from-ready, from-logged, boundIn, KitLaws}
 use Rattle.order.proofs.Invariant.{Gone, IsCut}
-use Rattle.order.proofs.Floor.{finite-below, floor-below, floor-glb}
+use Rattle.order.proofs.Floor.{not-⊑→Before, finite-below, floor-below, floor-glb}
 
 -- what a thread could hear of the log, by its wait
 abbrev hearable : List Notification → Awaited → Bound
@@ -54,11 +54,7 @@ Quiet m l ts = (k : ℕ) (y : Notification) → Hearable m l ts k y → floorOf 
 -- a bound that a cycle is not below, is before it
 before-or-not : (b : Bound) (c : Cycle) → (At c ≼ b → ⊥) → (d : Cycle) × (b ≡ At d) × Before d c
 before-or-not Never c h = absurd (h tt)
-before-or-not (At d) c h = (d, refl, go (⊑-total c d))
-  where
-    go : (c ⊑ d) ⊎ Before d c → Before d c
-    go (inl k) = absurd (h k)
-    go (inr k) = k
+before-or-not (At d) c h = (d, refl, not-⊑→Before h)
 
 -- a drop keeps what is not before its bound
 dropBefore-keeps : (f : Bound) (l : List Notification) {y : Notification} → List·Memᴰ y l → f ≼ At (y .cycle) → List·Memᴰ y (dropBefore f l)
@@ -187,13 +183,9 @@ module _ {m : Model} {x : List ℕ} {l : List Notification} {ts : List Thread} {
       dropped e c logged before =
           record {
             dropped = before;
-            unheard = λ k since below w. past k since below w (⊑-total since c);
+            unheard = λ k since below w.
+                not-⊑→Before (λ begun. before (quiet k (pairOf e c) (record { below = below; since = since; waits = w; logged = logged; begun = begun })));
           }
-        where
-          past : (k : ℕ) (since : Cycle) → k < m .t → viewOf (threadAt ts k .state) ≡ view.waits e since → (since ⊑ c) ⊎ Before c since → Before c since
-          past k since below w (inl begun) =
-              absurd (before (quiet k (pairOf e c) (record { below = below; since = since; waits = w; logged = logged; begun = begun })))
-          past k since below w (inr b) = b
 
       still : (e : ℕ) (c : Cycle) → List·Memᴰ (pairOf e c) l ⊎ Gone m ts low e c → List·Memᴰ (pairOf e c) (dropBefore floor l) ⊎ Gone m ts floor e c
       still e c (inr g) = inr (record { dropped = λ b. g .dropped (≼-trans low floor (At c) floor-rises b); unheard = g .unheard })

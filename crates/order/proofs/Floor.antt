@@ -3,11 +3,13 @@
 -- Assumes nothing.
 use Prim.Native.Nat.{ℕ, _<_}
 use mathlib.Core.Path.{_≡_, refl, ap, subst}
+use mathlib.Core.Logic.{_⊎_, inl, inr}
 use mathlib.Core.List.{List}
 use Rattle.clock.specs.declared.Cycle.{Cycle}
 use Rattle.clock.specs.declared.Bound.{Bound}
 use Rattle.clock.specs.declared.Bound.the-variants.{Never, At}
-use Rattle.clock.specs.Order.{_⊑_, _≼_}
+use Rattle.clock.specs.Order.{Before, _⊑_, _≼_}
+use Rattle.clock.proofs.OrderLaws.{⊑-total}
 use Rattle.clock.proofs.LeastLaws.{leastBelow-glb}
 use Rattle.model.specs.declared.Model.{Model}
 use Rattle.model.specs.declared.Thread.{Thread}
@@ -15,6 +17,21 @@ use Rattle.model.specs.Record as view
 use Rattle.model.specs.Record.{threadAt, readyCycle, readyCycleOf, View, viewOf}
 use Rattle.plain.specs.Wake.{floorOf}
 use Rattle.plain_laws.proofs.WakeLaws.{floorOf-≼}
+
+-- of two cycles one is not after the other
+pub not-⊑→Before : {a b : Cycle} → (a ⊑ b → ⊥) → Before b a
+not-⊑→Before {a} {b} n = go (⊑-total a b)
+  where
+    go : (a ⊑ b) ⊎ Before b a → Before b a
+    go (inl h) = absurd (n h)
+    go (inr h) = h
+
+pub not-Before→⊑ : {a b : Cycle} → (Before b a → ⊥) → a ⊑ b
+not-Before→⊑ {a} {b} n = go (⊑-total a b)
+  where
+    go : (a ⊑ b) ⊎ Before b a → a ⊑ b
+    go (inl h) = h
+    go (inr h) = absurd (n h)
 
 -- a finite bound below a cycle
 pub finite-below : (b : Bound) (c : Cycle) → b ≼ At c → (d : Cycle) × (b ≡ At d) × (d ⊑ c)

@@ -8,14 +8,13 @@ use mathlib.Core.Logic.{_⊎_, inl, inr}
 use mathlib.Core.Bool.{Bool, false}
 use mathlib.Core.List.{List, [], _∷_, _++_, List·Memᴰ, Memᴰ·cast}
 use native.Mathlib.Omega.{arith}
-use native.Mathlib.Decide.{ℕ-discrete}
 use lib.Dec.{T}
-use lib.ListN.{set, length-set}
+use lib.ListN.{length, set, length-set}
 use Rattle.clock.specs.declared.Cycle.{Cycle}
 use Rattle.clock.specs.declared.Bound.{Bound}
 use Rattle.clock.specs.declared.Bound.the-variants.{At}
 use Rattle.clock.specs.Order.{Before, _⊑_, _≼_}
-use Rattle.clock.proofs.OrderLaws.{⊑-total, ≼-trans}
+use Rattle.clock.proofs.OrderLaws.{≼-trans}
 use Rattle.model.specs.declared.Model.{Model}
 use Rattle.model.specs.declared.Thread.{Thread}
 use Rattle.model.specs.Record as view
@@ -23,7 +22,6 @@ use Rattle.model.specs.Record.{threadAt, viewOf}
 use Rattle.model.specs.Effect.{Effect, effectOf}
 use Rattle.model.specs.Footprint.{has}
 use Rattle.plain.specs.History.{Item, ran, historyAt}
-use Rattle.plain_laws.proofs.RecordLaws.{threadAt-set, threadAt-other}
 use Rattle.early.specs.declared.Notification.{Notification}
 use Rattle.early.specs.Log.{pairOf, withPairs}
 use Rattle.early.specs.Hazard.{hazard}
@@ -34,7 +32,8 @@ use Rattle.order.proofs.PlainFacts.{PlainFacts, NextRun}
 use Rattle.order.proofs.KitLaws.{KitLaws}
 use Rattle.order.proofs.PlaceLaws.{run-record, run-history, run-later}
 use Rattle.order.proofs.Invariant.{Done, Gone, IsCut, moved, adding}
-use Rattle.order.proofs.CutLaws.{moved-same, moved-other, adding-same, adding-other, done-kept, done-here, done-now}
+use Rattle.order.proofs.CutLaws.{set-each, moved-records, moved-history, done-kept, done-here, done-now}
+use Rattle.order.proofs.Floor.{not-⊑→Before}
 use Rattle.order.proofs.Grant.{same-record, effect-thread, effect-notified, effect-good}
 
 module _ (m : Model) (pf : PlainFacts m) (marks : List (List Bool)) (ws : List ℕ) (kl : KitLaws m marks ws)
@@ -55,11 +54,8 @@ module _ (m : Model) (pf : PlainFacts m) (marks : List (List Bool)) (ws : List �
     abbrev newCut : ℕ → ℕ
     newCut = moved cut k (suc (r .place))
 
-    record-granted : (j : ℕ) → j ≡ k → threadAt newRecords j ≡ effect .thread
-    record-granted j e = ap (threadAt newRecords) e ∙ threadAt-set ts k (effect .thread) (omega (arith, ic .size))
-
-    record-other : (j : ℕ) → (j ≡ k → ⊥) → threadAt newRecords j ≡ threadAt ts j
-    record-other j other = threadAt-other ts k j (effect .thread) other
+    inside : k < length ts
+    inside = omega (arith, ic .size)
 
     thread-there : effect .thread ≡ effectThere m (r .place) k .thread
     thread-there = effect-thread m pf marks ws kl ic k c kt ready r clear
@@ -70,38 +66,21 @@ module _ (m : Model) (pf : PlainFacts m) (marks : List (List Bool)) (ws : List �
     low-now : low ≼ At c
     low-now = ic .low-ready k c kt ready
 
-    records-after : (j : ℕ) → j < m .t → threadAt newRecords j ≡ recordAt m (newCut j) j
-    records-after j jt = go (ℕ-discrete j k)
-      where
-        go : Dec (j ≡ k) → threadAt newRecords j ≡ recordAt m (newCut j) j
-        go (yes e) = record-granted j e ∙ thread-there ∙ sym (run-record m pf (r .place) k (r .runs)) ∙ ap₂ (λ (n i : ℕ). recordAt m n i) (sym (moved-same cut k (suc (r .place)) j e)) (sym e)
-        go (no e) = record-other j e ∙ ic .records j jt ∙ ap (λ (n : ℕ). recordAt m n j) (sym (moved-other cut k (suc (r .place)) j e))
-
     abbrev items : List Item
     items = ran (threadAt ts k .segment) c ∷ []
 
     items-there : items ≡ ran (recordAt m (r .place) k .segment) (nowAt m (r .place)) ∷ []
     items-there = ap₂ (λ (t : Thread) (d : Cycle). ran (t .segment) d ∷ []) (same-record m pf marks ws kl ic k c kt ready r) (sym (r .now))
 
-    history-after : (j : ℕ) → j < m .t → adding h k items j ≡ historyAt m j (newCut j)
-    history-after j jt = go (ℕ-discrete j k)
-      where
-        go : Dec (j ≡ k) → adding h k items j ≡ historyAt m j (newCut j)
-        go (yes e) =
-            adding-same h k items j e
-            ∙ ap₂ (λ (a b : List Item). a ++ b) (ap h e ∙ ic .history k kt ∙ sym (r .history)) items-there
-            ∙ sym (run-history m pf (r .place) k (r .runs))
-            ∙ ap₂ (λ (i n : ℕ). historyAt m i n) (sym e) (sym (moved-same cut k (suc (r .place)) j e))
-        go (no e) = adding-other h k items j e ∙ ic .history j jt ∙ ap (historyAt m j) (sym (moved-other cut k (suc (r .place)) j e))
+    history-there : h k ++ items ≡ historyAt m k (suc (r .place))
+    history-there =
+        ap₂ (λ (a b : List Item). a ++ b) (ic .history k kt ∙ sym (r .history)) items-there ∙ sym (run-history m pf (r .place) k (r .runs))
 
     low-ready-after : (j : ℕ) (d : Cycle) → j < m .t → viewOf (threadAt newRecords j .state) ≡ view.ready d → low ≼ At d
-    low-ready-after j d jt st = go (ℕ-discrete j k)
-      where
-        go : Dec (j ≡ k) → low ≼ At d
-        go (yes e) =
-            let later = run-later m pf (r .place) k (r .runs) d (ap (λ (t : Thread). viewOf (t .state)) (sym thread-there ∙ sym (record-granted j e)) ∙ st) in
-            ≼-trans low (At c) (At d) low-now (rw (r .now) at later)
-        go (no e) = ic .low-ready j d jt (ap (λ (t : Thread). viewOf (t .state)) (sym (record-other j e)) ∙ st)
+    low-ready-after j d =
+        set-each (λ j t. j < m .t → viewOf (t .state) ≡ view.ready d → low ≼ At d) ts k (effect .thread) inside
+        (λ jt st. ≼-trans low (At c) (At d) low-now (rw (r .now) at (run-later m pf (r .place) k (r .runs) d (rw thread-there at st))))
+        (λ j other. ic .low-ready j d) j
 
     low-logged-after : (y : Notification) → List·Memᴰ y newLog → low ≼ At (y .cycle)
     low-logged-after y held = go (withPairs-only l c (effect .notified) held)
@@ -112,18 +91,17 @@ module _ (m : Model) (pf : PlainFacts m) (marks : List (List Bool)) (ws : List �
 
     -- what was past for all is past for the wait that may begin now
     gone-kept : (e : ℕ) (d : Cycle) → Gone m ts low e d → Gone m newRecords low e d
-    gone-kept e d gone = record { dropped = gone .dropped; unheard = λ j since jt st. go j since jt st (ℕ-discrete j k) }
+    gone-kept e d gone =
+        record {
+          dropped = gone .dropped;
+          unheard = λ j since.
+              set-each (λ j t. j < m .t → viewOf (t .state) ≡ view.waits e since → Before d since) ts k (effect .thread) inside
+              (λ jt st. rw (kl .distances .wait-begins k (threadAt ts k .segment) c x e since st) earlier)
+              (λ j other. gone .unheard j since) j;
+        }
       where
         earlier : Before d c
-        earlier = by (⊑-total c d)
-          where
-            by : (c ⊑ d) ⊎ Before d c → Before d c
-            by (inl p) = absurd (gone .dropped (≼-trans low (At c) (At d) low-now p))
-            by (inr p) = p
-
-        go : (j : ℕ) (since : Cycle) → j < m .t → viewOf (threadAt newRecords j .state) ≡ view.waits e since → Dec (j ≡ k) → Before d since
-        go j since jt st (yes f) = rw (kl .distances .wait-begins k (threadAt ts k .segment) c x e since (ap (λ (t : Thread). viewOf (t .state)) (sym (record-granted j f)) ∙ st)) earlier
-        go j since jt st (no f) = gone .unheard j since jt (ap (λ (t : Thread). viewOf (t .state)) (sym (record-other j f)) ∙ st)
+        earlier = not-⊑→Before (λ p. gone .dropped (≼-trans low (At c) (At d) low-now p))
 
     logged-after : (q j e : ℕ) → Done m newCut q j → Says m q j e → List·Memᴰ (pairOf e (nowAt m q)) newLog ⊎ Gone m newRecords low e (nowAt m q)
     logged-after q j e d says = go (done-now m cut k (r .place) (r .from) (r .runs) (r .quiet) q j d)
@@ -151,8 +129,8 @@ module _ (m : Model) (pf : PlainFacts m) (marks : List (List Bool)) (ws : List �
     granted-cut =
         record {
           size = rw (length-set ts k (effect .thread)) (ic .size);
-          records = records-after;
-          history = history-after;
+          records = moved-records m ts cut k (suc (r .place)) (effect .thread) inside (thread-there ∙ sym (run-record m pf (r .place) k (r .runs))) (ic .records);
+          history = moved-history m h cut k (suc (r .place)) items history-there (ic .history);
           good = effect-good m pf marks ws kl ic k c kt ready r clear;
           low-ready = low-ready-after;
           low-logged = low-logged-after;

@@ -8,7 +8,7 @@ use mathlib.Core.Bool.{Bool}
 use mathlib.Core.List.{List, [], _∷_, _++_, List·Memᴰ, append-nil}
 use native.Mathlib.Omega.{arith}
 use native.Mathlib.Decide.{ℕ-discrete}
-use lib.ListN.{set, length-set}
+use lib.ListN.{length, set, length-set}
 use Rattle.clock.specs.declared.Cycle.{Cycle}
 use Rattle.clock.specs.declared.Wait.the-variants as wait
 use Rattle.clock.specs.declared.Bound.{Bound}
@@ -22,7 +22,7 @@ use Rattle.model.specs.declared.Thread.{Thread}
 use Rattle.model.specs.Record as view
 use Rattle.model.specs.Record.{threadAt, awaits, stateAfter, viewOf}
 use Rattle.plain.specs.History.{Item, heard, historyAt}
-use Rattle.plain_laws.proofs.RecordLaws.{threadAt-set, threadAt-other, stateAfter-ready, stateAfter-not-waits}
+use Rattle.plain_laws.proofs.RecordLaws.{stateAfter-ready, stateAfter-not-waits}
 use Rattle.early.specs.declared.Notification.{Notification}
 use Rattle.early.specs.Log.{pairOf}
 use Rattle.early.specs.Deliver.{heardNow, lookedAt, lookItems}
@@ -32,7 +32,7 @@ use Rattle.order.proofs.Places.{nowAt, recordAt, Says}
 use Rattle.order.proofs.PlainFacts.{PlainFacts}
 use Rattle.order.proofs.KitLaws.{KitLaws}
 use Rattle.order.proofs.Invariant.{Done, Gone, IsCut, Bounded, moved, adding}
-use Rattle.order.proofs.CutLaws.{moved-same, moved-other, adding-same, adding-other, done-kept, done-back}
+use Rattle.order.proofs.CutLaws.{set-each, moved-records, moved-history, adding-same, adding-other, done-kept, done-back}
 use Rattle.order.proofs.GoodLaws.{good-moved}
 use Rattle.order.proofs.Hear.{HearingAt, next-heard}
 
@@ -65,56 +65,31 @@ module _ (m : Model) (pf : PlainFacts m) (marks : List (List Bool)) (ws : List �
         back : (q a : ℕ) → Done m later q a → Done m cut q a
         back = done-back m cut k (suc (ha .place)) on (ha .quiet)
 
-        at-k : threadAt (set ts k woken) k ≡ woken
-        at-k = threadAt-set ts k woken (omega (arith, ic .size))
-
-        at-other : (j : ℕ) → (j ≡ k → ⊥) → threadAt (set ts k woken) j ≡ threadAt ts j
-        at-other j other = threadAt-other ts k j woken other
-
-        records-after : (j : ℕ) → j < m .t → threadAt (set ts k woken) j ≡ recordAt m (later j) j
-        records-after j b = go (ℕ-discrete j k)
-          where
-            woken-is : woken ≡ recordAt m (suc (ha .place)) k
-            woken-is =
-                (λ i. record { segment = ic .records k below i .segment; state = stateAfter (waitEnds wait.Event c) }) ∙ sym (ha .after)
-
-            go : Dec (j ≡ k) → threadAt (set ts k woken) j ≡ recordAt m (later j) j
-            go (yes e) = rw (moved-same cut k (suc (ha .place)) j e, e) (at-k ∙ woken-is)
-            go (no n) = rw (moved-other cut k (suc (ha .place)) j n) (at-other j n ∙ ic .records j b)
-
-        history-after : (j : ℕ) → j < m .t → adding h k (heard e c ∷ []) j ≡ historyAt m j (later j)
-        history-after j b = go (ℕ-discrete j k)
-          where
-            go : Dec (j ≡ k) → adding h k (heard e c ∷ []) j ≡ historyAt m j (later j)
-            go (yes e′) =
-                rw
-                (adding-same h k (heard e c ∷ []) j e′, moved-same cut k (suc (ha .place)) j e′, e′)
-                (ap (λ (a : List Item). a ++ (heard e c ∷ [])) (ic .history k below) ∙ sym (ha .history-after))
-            go (no n) = rw (adding-other h k (heard e c ∷ []) j n, moved-other cut k (suc (ha .place)) j n) (ic .history j b)
+        inside : k < length ts
+        inside = omega (arith, ic .size)
 
         low-ready-after : (j : ℕ) (d : Cycle) → j < m .t → viewOf (threadAt (set ts k woken) j .state) ≡ view.ready d → low ≼ At d
-        low-ready-after j d b r = go (ℕ-discrete j k)
-          where
-            go : Dec (j ≡ k) → low ≼ At d
-            go (yes e) =
-                let f : viewOf (stateAfter (waitEnds wait.Event c)) ≡ view.ready d = ap (λ (t : Thread). viewOf (t .state)) (sym at-k) ∙ (rw e at r) in
-                ≼-trans low (At c) (At d) heard-now (Before→⊑ (waitEnds-later wait.Event c (stateAfter-ready (waitEnds wait.Event c) d f)))
-            go (no n) = ic .low-ready j d b (ap (λ (t : Thread). viewOf (t .state)) (sym (at-other j n)) ∙ r)
+        low-ready-after j d =
+            set-each (λ j t. j < m .t → viewOf (t .state) ≡ view.ready d → low ≼ At d) ts k woken inside
+            (λ b r. ≼-trans low (At c) (At d) heard-now (Before→⊑ (waitEnds-later wait.Event c (stateAfter-ready (waitEnds wait.Event c) d r))))
+            (λ j other. ic .low-ready j d) j
 
         gone-after : (f : ℕ) (d : Cycle) → Gone m ts low f d → Gone m (set ts k woken) low f d
-        gone-after f d g = record { dropped = g .dropped; unheard = λ j s b r. go j s b r (ℕ-discrete j k) }
-          where
-            go : (j : ℕ) (s : Cycle) → j < m .t → viewOf (threadAt (set ts k woken) j .state) ≡ view.waits f s → Dec (j ≡ k) → Before d s
-            go j s b r (yes e) =
-                absurd (stateAfter-not-waits (waitEnds wait.Event c) f s (ap (λ (t : Thread). viewOf (t .state)) (sym at-k) ∙ (rw e at r)))
-            go j s b r (no n) = g .unheard j s b (ap (λ (t : Thread). viewOf (t .state)) (sym (at-other j n)) ∙ r)
+        gone-after f d g =
+            record {
+              dropped = g .dropped;
+              unheard = λ j s.
+                  set-each (λ j t. j < m .t → viewOf (t .state) ≡ view.waits f s → Before d s) ts k woken inside
+                  (λ b r. absurd (stateAfter-not-waits (waitEnds wait.Event c) f s r))
+                  (λ j other. g .unheard j s) j;
+            }
 
         pub heard-cut : IsCut m x l (set ts k woken) (adding h k (heard e c ∷ [])) later low
         heard-cut =
             record {
               size = rw length-set (ic .size);
-              records = records-after;
-              history = history-after;
+              records = moved-records m ts cut k (suc (ha .place)) woken inside woken-is (ic .records);
+              history = moved-history m h cut k (suc (ha .place)) (heard e c ∷ []) heard-is (ic .history);
               good = good-moved m pf marks ws kl cut x k (suc (ha .place)) on (ha .quiet) (ic .good);
               low-ready = low-ready-after;
               low-logged = ic .low-logged;
@@ -123,6 +98,13 @@ module _ (m : Model) (pf : PlainFacts m) (marks : List (List Bool)) (ws : List �
               once = ic .once;
             }
           where
+            woken-is : woken ≡ recordAt m (suc (ha .place)) k
+            woken-is =
+                (λ i. record { segment = ic .records k below i .segment; state = stateAfter (waitEnds wait.Event c) }) ∙ sym (ha .after)
+
+            heard-is : h k ++ (heard e c ∷ []) ≡ historyAt m k (suc (ha .place))
+            heard-is = ap (λ (a : List Item). a ++ (heard e c ∷ [])) (ic .history k below) ∙ sym (ha .history-after)
+
             logged-after : (f : ℕ) (d : Cycle) → List·Memᴰ (pairOf f d) l ⊎ Gone m ts low f d → List·Memᴰ (pairOf f d) l ⊎ Gone m (set ts k woken) low f d
             logged-after f d (inl i) = inl i
             logged-after f d (inr g) = inr (gone-after f d g)

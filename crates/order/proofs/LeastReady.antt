@@ -14,7 +14,7 @@ use Rattle.clock.specs.declared.Bound.{Bound}
 use Rattle.clock.specs.declared.Bound.the-variants.{At}
 use Rattle.clock.specs.Cycle.{stampAt, isStampBefore}
 use Rattle.clock.specs.Order.{Before, _⊑_, _≼_}
-use Rattle.clock.proofs.OrderLaws.{Before-irrefl, Three, before, same, after, Before-total, ⊑-total, Before→not-⊑, ≼-antisym}
+use Rattle.clock.proofs.OrderLaws.{Before-irrefl, Three, before, same, after, Before-total, Before→not-⊑, ≼-antisym}
 use Rattle.clock.proofs.CycleLaws.{StampBefore, isStampBefore→, →isStampBefore}
 use Rattle.model.specs.declared.Model.{Model}
 use Rattle.model.specs.declared.Thread.{Thread}
@@ -24,7 +24,7 @@ use Rattle.model.specs.Record.{threadAt, View, viewOf}
 use Rattle.plain.specs.Wake.{floorOf, someReady}
 use Rattle.plain_laws.proofs.RecordLaws.{ready-same, horizon-mono}
 use Rattle.plain_laws.proofs.WakeLaws.{floorOf-attained, someReady-some, someReady-found}
-use Rattle.order.proofs.Floor.{floor-below, floor-glb, finite-below}
+use Rattle.order.proofs.Floor.{not-Before→⊑, floor-below, floor-glb, finite-below}
 
 -- where none is ready before the horizon, a ready thread is not before it
 pub someReady-none : (m : Model) (ts : List Thread) → someReady m ts ≡ false → (k : ℕ) (c : Cycle) → k < m .t → viewOf (threadAt ts k .state) ≡ view.ready c → T (isBeforeHorizon m c) → ⊥
@@ -57,11 +57,8 @@ pub record LeastReady (m : Model) (ts : List Thread) (i : ℕ) (c : Cycle) : Typ
 -- its cycle is the floor
 pub least-floor : (m : Model) (ts : List Thread) (i : ℕ) (c : Cycle) → LeastReady m ts i c → floorOf m ts ≡ At c
 least-floor m ts i c lr =
-    ≼-antisym (floorOf m ts) (At c) (floor-below m ts i c (lr .below) (lr .ready)) (floor-glb m ts (At c) (λ k d below r. go k d below r (⊑-total c d)))
-  where
-    go : (k : ℕ) (d : Cycle) → k < m .t → viewOf (threadAt ts k .state) ≡ view.ready d → (c ⊑ d) ⊎ Before d c → c ⊑ d
-    go k d below r (inl h) = h
-    go k d below r (inr h) = absurd (lr .least k d below r (→isStampBefore (stampAt d k) (stampAt c i) (inl h)))
+    ≼-antisym (floorOf m ts) (At c) (floor-below m ts i c (lr .below) (lr .ready))
+    (floor-glb m ts (At c) (λ k d below r. not-Before→⊑ (λ h. lr .least k d below r (→isStampBefore (stampAt d k) (stampAt c i) (inl h)))))
 
 -- where one is ready before the horizon, there is a least
 pub some-least : (m : Model) (ts : List Thread) → someReady m ts ≡ true → (i : ℕ) × (c : Cycle) × LeastReady m ts i c × T (isBeforeHorizon m c)

@@ -17,7 +17,7 @@ use Rattle.clock.specs.declared.Bound.the-variants.{At}
 use Rattle.clock.specs.Wait.{waitEnds}
 use Rattle.clock.specs.Advance.{_⊕_, oneDelta}
 use Rattle.clock.specs.Order.{Before, _⊑_}
-use Rattle.clock.proofs.OrderLaws.{⊑-total, Before→⊑}
+use Rattle.clock.proofs.OrderLaws.{Before→⊑}
 use Rattle.clock.proofs.AdvanceLaws.{advanceOf-Event}
 use Rattle.clock.proofs.WaitLaws.{waitEnds-advance}
 use Rattle.model.specs.declared.Model.{Model}
@@ -31,6 +31,7 @@ use Rattle.plain_laws.proofs.RecordLaws.{ready-not-waits, stateAfter-ready, hor
 use Rattle.plain_laws.proofs.HappenLaws.{historyAt-more}
 use Rattle.order.proofs.Places.{nowAt, recordAt, effectThere, Runs, Happens, idle, runs, hears}
 use Rattle.order.proofs.PlainFacts.{PlainFacts}
+use Rattle.order.proofs.Floor.{not-Before→⊑}
 
 -- whoever hears at c, and is then ready, is so one delta later
 pub heard-ready : (c d : Cycle) → viewOf (stateAfter (waitEnds wait.Event c)) ≡ view.ready d → At c ⊕ oneDelta ≡ At d
@@ -38,11 +39,7 @@ heard-ready c d e = rw (← advanceOf-Event) (waitEnds-advance wait.Event c (sta
 
 -- a cycle before the horizon is not after one that is not
 horizon-⊑ : (m : Model) (c d : Cycle) → T (isBeforeHorizon m c) → T (not (isBeforeHorizon m d)) → c ⊑ d
-horizon-⊑ m c d before late = go (⊑-total c d)
-  where
-    go : (c ⊑ d) ⊎ Before d c → c ⊑ d
-    go (inl h) = h
-    go (inr h) = absurd (T-not (isBeforeHorizon m d) late (horizon-mono m (Before→⊑ h) before))
+horizon-⊑ m c d before late = not-Before→⊑ (λ h. T-not (isBeforeHorizon m d) late (horizon-mono m (Before→⊑ h) before))
 
 -- one that has ended or overrun neither runs nor hears
 abbrev pub Over : Thread → Type 0

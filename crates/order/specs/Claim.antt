@@ -23,7 +23,7 @@ abbrev pub afterListWith : Model → List (List Bool) → List ℕ → List ℕ 
 afterListWith m marks ws ks = requestsOf m marks ws freshSite (freshThreads m) ks
 
 -- with the tables that the reader made
-abbrev pub afterList : Model → List ℕ → Listed
+unfoldable pub afterList : Model → List ℕ → Listed
 afterList m ks = afterListWith m (marksOf m) (wordsOf m) ks
 
 -- the request of thread k, made next
