@@ -89,23 +89,16 @@ granted-item : (m : Model) (ws : List ℕ) (site : Site) (ts : List Thread) (k :
 unfolding grantedTo
 granted-item m ws site ts k c = rw (itemsAfter-self m site ts k c ws) (omega arith)
 
-module _ (m : Model) (pf : PlainFacts m) (marks : List (List Bool)) (ws : List ℕ) (kl : KitLaws m marks ws) where
+module _ (m : Model) (pf : PlainFacts m) {marks : List (List Bool)} {ws : List ℕ} (kl : KitLaws m marks ws) where
   abbrev whole : ℕ
   whole = total (m .t) (λ k. historyAt m k (pf .ending .place))
 
   -- a granted request makes the histories longer
   longer-by-grant : (site : Site) (ts : List Thread) (h : ℕ → List Item) → Reached m site ts h → someReady m ts ≡ true → (k : ℕ) × (total (m .t) h < total (m .t) (λ j. h j ++ requestOf m marks ws site ts k .items j))
   longer-by-grant site ts h r e =
-      let (k, c, below, p) = some-granted m pf marks ws kl site ts h r e in (
-        k,
-        total-more
-            (m .t)
-            h
-            (requestOf m marks ws site ts k .items)
-            k
-            below
-            (subst (λ (a : Requested). 0 < length (a .items k)) (sym p) (granted-item m ws site ts k c)),
-      )
+      let (k, c, below, p) = some-granted m pf kl site ts h r e in
+      let some = subst (λ (a : Requested). 0 < length (a .items k)) (sym p) (granted-item m ws site ts k c) in
+      (k, total-more (m .t) h (requestOf m marks ws site ts k .items) k below some)
 
   -- from a reached state whose histories can grow by at most n
   carried : (n : ℕ) (site : Site) (ts : List Thread) (h : ℕ → List Item) → Reached m site ts h → whole ≤ total (m .t) h + n → (more : List ℕ) × (someReady m (requestsOf m marks ws site ts more .threads) ≡ false)
@@ -116,7 +109,7 @@ module _ (m : Model) (pf : PlainFacts m) (marks : List (List Bool)) (ws : List �
       go false e = ([], e)
       go true e =
           let (k, grown) = longer-by-grant site ts h r e in
-          let bound = reached-total m pf (request-reached m pf marks ws kl site ts h r k) in
+          let bound = reached-total m pf (request-reached m pf kl site ts h r k) in
           absurd (omega arith)
   carried (suc n) site ts h r enough = go (someReady m ts) refl (λ site ts h r e. carried n site ts h r e)
     where
@@ -128,7 +121,7 @@ module _ (m : Model) (pf : PlainFacts m) (marks : List (List Bool)) (ws : List �
         where
           on : (k : ℕ) × (total (m .t) h < total (m .t) (λ j. h j ++ requestOf m marks ws site ts k .items j)) → (more : List ℕ) × (someReady m (requestsOf m marks ws site ts more .threads) ≡ false)
           on (k, grown) =
-              let (more, p) = ih (a .site) (a .threads) (λ j. h j ++ a .items j) (request-reached m pf marks ws kl site ts h r k) (omega arith) in
+              let (more, p) = ih (a .site) (a .threads) (λ j. h j ++ a .items j) (request-reached m pf kl site ts h r k) (omega arith) in
               (k ∷ more, p)
             where
               a : Requested

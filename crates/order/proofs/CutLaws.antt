@@ -46,8 +46,7 @@ set-each P ts k t inside new old j = go (ℕ-discrete j k)
 pub moved-records : (m : Model) (ts : List Thread) (cut : ℕ → ℕ) (k n : ℕ) (t : Thread) → k < length ts → t ≡ recordAt m n k
     → ((j : ℕ) → j < m .t → threadAt ts j ≡ recordAt m (cut j) j) → (j : ℕ) → j < m .t → threadAt (set ts k t) j ≡ recordAt m (moved cut k n j) j
 moved-records m ts cut k n t inside there old =
-    set-each (λ j u. j < m .t → u ≡ recordAt m (moved cut k n j) j) ts k t inside
-    (λ b. rw (moved-same cut k n k refl) there)
+    set-each (λ j u. j < m .t → u ≡ recordAt m (moved cut k n j) j) ts k t inside (λ b. rw (moved-same cut k n k refl) there)
     (λ j other b. rw (moved-other cut k n j other) (old j b))
 
 -- and its history there

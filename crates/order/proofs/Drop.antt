@@ -75,21 +75,16 @@ pub bound-finite : (m : Model) (ws : List ℕ) (ts : List Thread) (earliest : �
 bound-finite m ws ts earliest j s b e =
     finite-below (earliest j) b (subst (λ (z : Bound). earliest j ≼ z) e (⊕-inflate (earliest j) (distanceIn m ws (threadAt ts j .segment) s)))
 
-module _ (m : Model) (marks : List (List Bool)) (ws : List ℕ) (kl : KitLaws m marks ws) (l : List Notification) (ts : List Thread) where
+module _ (m : Model) {marks : List (List Bool)} {ws : List ℕ} (kl : KitLaws m marks ws) (l : List Notification) (ts : List Thread) where
   abbrev leastHearable : Bound
   leastHearable = leastBelow (m .t) (λ k. hearable l (awaitedBy (threadAt ts k .state)))
 
   -- the least that anybody could hear
   leastHearable-≼ : (k : ℕ) (y : Notification) → Hearable m l ts k y → leastHearable ≼ At (y .cycle)
   leastHearable-≼ k y h =
-      ≼-trans
-      leastHearable
-      (leastHeard l (y .event) (h .since))
-      (At (y .cycle))
-      (subst
-      (λ (v : View). leastHearable ≼ hearable l (awaitedOf v))
-      (h .waits)
-      (leastBelow-≼ (m .t) (λ k. hearable l (awaitedBy (threadAt ts k .state))) k (h .below)))
+      let least = leastBelow-≼ (m .t) (λ k. hearable l (awaitedBy (threadAt ts k .state))) k (h .below) in
+      ≼-trans leastHearable (leastHeard l (y .event) (h .since)) (At (y .cycle))
+      (subst (λ (v : View). leastHearable ≼ hearable l (awaitedOf v)) (h .waits) least)
       (leastHeard-≼ l (y .event) (h .since) y (h .logged) refl (h .begun))
 
   -- If the least that anybody could hear is at c and nobody hears, the floor is not after c: some forecast is before c,

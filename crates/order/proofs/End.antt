@@ -35,7 +35,7 @@ use Rattle.early.specs.declared.Notification.{Notification}
 use Rattle.early.specs.Log.{pairOf}
 use Rattle.order.proofs.Places.{nowAt, recordAt, Runs, Says, Hears, Happens, idle, runs, hears}
 use Rattle.order.proofs.PlainFacts.{PlainFacts}
-use Rattle.order.proofs.KitLaws.{KitLaws}
+use Rattle.order.proofs.KitLaws.{boundIn, KitLaws}
 use Rattle.order.proofs.Invariant.{Gone, IsCut, Bounded}
 use Rattle.order.proofs.Floor.{finite-below}
 use Rattle.order.proofs.Drop.{cut-quiet, floor-below-earliest}
@@ -64,7 +64,7 @@ history-past m pf k i below past =
     let e : i ≡ pf .ending .place + (i - pf .ending .place) = omega arith in
     ap (historyAt m k) e ∙ history-ended m pf k below (i - pf .ending .place)
 
-module _ (m : Model) (pf : PlainFacts m) (marks : List (List Bool)) (ws : List ℕ) (kl : KitLaws m marks ws)
+module _ (m : Model) (pf : PlainFacts m) {marks : List (List Bool)} {ws : List ℕ} (kl : KitLaws m marks ws)
     {x : List ℕ} {l : List Notification} {ts : List Thread} {h : ℕ → List Item} {cut : ℕ → ℕ}
     (ic : IsCut m x l ts h cut (floorOf m ts)) (bd : Bounded m ws ts cut (kl .forecasts l ts .earliest)) (over : someReady m ts ≡ false)
   where
@@ -85,19 +85,10 @@ module _ (m : Model) (pf : PlainFacts m) (marks : List (List Bool)) (ws : List �
         go : Dec (q < cut j) → q < cut j
         go (yes early) = early
         go (no late) =
-            absurd
-            (floor-late
-            (nowAt m q)
-            (≼-trans
-            (floorOf m ts)
-            earliest
-            (At (nowAt m q))
-            (floor-below-earliest m marks ws kl l ts (cut-quiet ic) j (r .below))
-            (≼-trans
-            earliest
-            (earliest ⊕ distanceIn m ws (threadAt ts j .segment) (recordAt m q j .segment))
-            (At (nowAt m q))
-            (⊕-inflate earliest (distanceIn m ws (threadAt ts j .segment) (recordAt m q j .segment)))
+            let bound = boundIn m ws ts (kl .forecasts l ts .earliest) j (recordAt m q j .segment) in
+            absurd (floor-late (nowAt m q)
+            (≼-trans (floorOf m ts) earliest (At (nowAt m q)) (floor-below-earliest m kl l ts (cut-quiet ic) j (r .below))
+            (≼-trans earliest bound (At (nowAt m q)) (⊕-inflate earliest (distanceIn m ws (threadAt ts j .segment) (recordAt m q j .segment)))
             (bd .sound q j r late)))
             (pf .now-before q))
 
@@ -157,14 +148,5 @@ module _ (m : Model) (pf : PlainFacts m) (marks : List (List Bool)) (ws : List �
 
     pub end-variables : x ≡ placeAt m end .variables
     end-variables =
-        ext-getD
-        0
-        x
-        (placeAt m end .variables)
-        (ic .good .size ∙ sym (pf .variables-length end))
-        (λ v below.
-        ic .good .value
-        v
-        end
-        (λ p a h r w. record { runs = r; passed = all-done p a r })
-        (λ p a past r w d. pf .ending .no-run p a past r))
+        ext-getD 0 x (placeAt m end .variables) (ic .good .size ∙ sym (pf .variables-length end))
+        (λ v below. ic .good .value v end (λ p a h r w. record { runs = r; passed = all-done p a r }) (λ p a past r w d. pf .ending .no-run p a past r))

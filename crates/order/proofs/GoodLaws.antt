@@ -37,7 +37,7 @@ crossed (inr (u, w)) = inl (w, u)
 pub touch-swap : (m : Model) (p a q b : ℕ) → Touch m p a q b → Touch m q b p a
 touch-swap m p a q b t = record { variable = t .variable; shared = crossed (t .shared) }
 
-module _ (m : Model) (pf : PlainFacts m) (marks : List (List Bool)) (ws : List ℕ) (kl : KitLaws m marks ws) where
+module _ (m : Model) (pf : PlainFacts m) {marks : List (List Bool)} {ws : List ℕ} (kl : KitLaws m marks ws) where
   -- a place that does not write v keeps it
   pub value-stays : (v p : ℕ) → ((a : ℕ) → Runs m p a → Writes m p a v → ⊥) → getD (placeAt m (suc p) .variables) v 0 ≡ getD (placeAt m p .variables) v 0
   value-stays v p none = go (pf .runs-one p)

@@ -34,7 +34,7 @@ use Rattle.order.proofs.Invariant.{Done, Touch, Good, IsCut, Bounded, m
 use Rattle.order.proofs.GoodLaws.{touch-swap, agree, good-step}
 use Rattle.order.proofs.LowerBound.{bounded}
 
-module _ (m : Model) (pf : PlainFacts m) (marks : List (List Bool)) (ws : List ℕ) (kl : KitLaws m marks ws)
+module _ (m : Model) (pf : PlainFacts m) {marks : List (List Bool)} {ws : List ℕ} (kl : KitLaws m marks ws)
     {x : List ℕ} {l : List Notification} {ts : List Thread} {h : ℕ → List Item} {cut : ℕ → ℕ} {low : Bound}
     (ic : IsCut m x l ts h cut low) (k : ℕ) (c : Cycle) (kt : k < m .t) (ready : viewOf (threadAt ts k .state) ≡ view.ready c)
   where
@@ -53,7 +53,7 @@ module _ (m : Model) (pf : PlainFacts m) (marks : List (List Bool)) (ws : List �
           T-not (isSooner b a (stampAt c k)) (false→T (isSooner b a (stampAt c k)) quiet) (→isSooner b (nowAt m p) a c k (bd .sound p a runs undone) stamps)
         where
           bd : Bounded m ws ts cut (kl .forecasts l ts .earliest)
-          bd = bounded m pf marks ws kl ic (kl .forecasts l ts)
+          bd = bounded m pf kl ic (kl .forecasts l ts)
 
           b : Bound
           b = boundIn m ws ts (kl .forecasts l ts .earliest) a (recordAt m p a .segment)
@@ -93,7 +93,7 @@ module _ (m : Model) (pf : PlainFacts m) (marks : List (List Bool)) (ws : List �
       alike : Alike (λ v. T (usesIn m k there v)) (effectOf m k there (nowAt m (r .place)) x) (effectThere m (r .place) k)
       alike =
           kl .footprints .local k there (nowAt m (r .place)) x (placeAt m (r .place) .variables)
-          (agree m pf marks ws kl cut x (ic .good) (r .place) k (r .runs) (r .from) (r .quiet) safe)
+          (agree m pf kl cut x (ic .good) (r .place) k (r .runs) (r .from) (r .quiet) safe)
 
       pub effect-thread : effect .thread ≡ effectThere m (r .place) k .thread
       effect-thread = ap (λ (y : Effect). y .thread) effect-there ∙ alike .same-thread
@@ -103,4 +103,4 @@ module _ (m : Model) (pf : PlainFacts m) (marks : List (List Bool)) (ws : List �
 
       -- (C) and leaves the variables good
       pub effect-good : Good m (moved cut k (suc (r .place))) (effect .variables)
-      effect-good = subst (λ (y : Effect). Good m (moved cut k (suc (r .place))) (y .variables)) (sym effect-there) (good-step m pf marks ws kl cut x (ic .good) (r .place) k (r .runs) (r .from) (r .quiet) safe)
+      effect-good = subst (λ (y : Effect). Good m (moved cut k (suc (r .place))) (y .variables)) (sym effect-there) (good-step m pf kl cut x (ic .good) (r .place) k (r .runs) (r .from) (r .quiet) safe)

@@ -36,7 +36,7 @@ use Rattle.order.proofs.CutLaws.{set-each, moved-records, moved-history
 use Rattle.order.proofs.Floor.{not-⊑→Before}
 use Rattle.order.proofs.Grant.{same-record, effect-thread, effect-notified, effect-good}
 
-module _ (m : Model) (pf : PlainFacts m) (marks : List (List Bool)) (ws : List ℕ) (kl : KitLaws m marks ws)
+module _ (m : Model) (pf : PlainFacts m) {marks : List (List Bool)} {ws : List ℕ} (kl : KitLaws m marks ws)
     {x : List ℕ} {l : List Notification} {ts : List Thread} {h : ℕ → List Item} {cut : ℕ → ℕ} {low : Bound}
     (ic : IsCut m x l ts h cut low) (k : ℕ) (c : Cycle) (kt : k < m .t) (ready : viewOf (threadAt ts k .state) ≡ view.ready c)
     (r : NextRun m (cut k) k c) (clear : hazard m marks ws l ts k c ≡ false)
@@ -58,10 +58,10 @@ module _ (m : Model) (pf : PlainFacts m) (marks : List (List Bool)) (ws : List �
     inside = omega (arith, ic .size)
 
     thread-there : effect .thread ≡ effectThere m (r .place) k .thread
-    thread-there = effect-thread m pf marks ws kl ic k c kt ready r clear
+    thread-there = effect-thread m pf kl ic k c kt ready r clear
 
     notified-there : effect .notified ≡ effectThere m (r .place) k .notified
-    notified-there = effect-notified m pf marks ws kl ic k c kt ready r clear
+    notified-there = effect-notified m pf kl ic k c kt ready r clear
 
     low-now : low ≼ At c
     low-now = ic .low-ready k c kt ready
@@ -70,7 +70,7 @@ module _ (m : Model) (pf : PlainFacts m) (marks : List (List Bool)) (ws : List �
     items = ran (threadAt ts k .segment) c ∷ []
 
     items-there : items ≡ ran (recordAt m (r .place) k .segment) (nowAt m (r .place)) ∷ []
-    items-there = ap₂ (λ (t : Thread) (d : Cycle). ran (t .segment) d ∷ []) (same-record m pf marks ws kl ic k c kt ready r) (sym (r .now))
+    items-there = ap₂ (λ (t : Thread) (d : Cycle). ran (t .segment) d ∷ []) (same-record m pf kl ic k c kt ready r) (sym (r .now))
 
     history-there : h k ++ items ≡ historyAt m k (suc (r .place))
     history-there =
@@ -131,7 +131,7 @@ module _ (m : Model) (pf : PlainFacts m) (marks : List (List Bool)) (ws : List �
           size = rw (length-set ts k (effect .thread)) (ic .size);
           records = moved-records m ts cut k (suc (r .place)) (effect .thread) inside (thread-there ∙ sym (run-record m pf (r .place) k (r .runs))) (ic .records);
           history = moved-history m h cut k (suc (r .place)) items history-there (ic .history);
-          good = effect-good m pf marks ws kl ic k c kt ready r clear;
+          good = effect-good m pf kl ic k c kt ready r clear;
           low-ready = low-ready-after;
           low-logged = low-logged-after;
           logged = logged-after;

@@ -47,7 +47,7 @@ pub record HearingAt (m : Model) (n k e : ℕ) (since c : Cycle) : Type 0 where
   pub after : recordAt m (suc place) k ≡ record { segment = recordAt m n k .segment; state = stateAfter (waitEnds wait.Event c) }
   pub history-after : historyAt m k (suc place) ≡ historyAt m k n ++ (heard e c ∷ [])
 
-module _ (m : Model) (pf : PlainFacts m) (marks : List (List Bool)) (ws : List ℕ) (kl : KitLaws m marks ws) where
+module _ (m : Model) (pf : PlainFacts m) {marks : List (List Bool)} {ws : List ℕ} (kl : KitLaws m marks ws) where
   module _ {x : List ℕ} {l : List Notification} {ts : List Thread} {h : ℕ → List Item} {cut : ℕ → ℕ} {low : Bound}
       (ic : IsCut m x l ts h cut low) (bd : Bounded m ws ts cut (kl .forecasts l ts .earliest)) where
     -- whoever notifies what k hears, does so no sooner than what is heard now
@@ -60,24 +60,14 @@ module _ (m : Model) (pf : PlainFacts m) (marks : List (List Bool)) (ws : List �
 
         undone : (q < cut j → ⊥) → c ⊑ nowAt m q
         undone late =
-            ≼-trans
-            (At c)
-            (forecastOf m ws l ts e)
-            (At (nowAt m q))
-            (least-now .1)
-            (≼-trans
-            (forecastOf m ws l ts e)
-            (boundIn m ws ts (kl .forecasts l ts .earliest) j (recordAt m q j .segment))
-            (At (nowAt m q))
-            (kl .forecasts l ts .forecast-below
-            e
-            j
-            (recordAt m q j .segment)
-            (says .runs .below)
-            (bd .live q j (says .runs) late)
-            (pf .segment-below q j (says .runs .below))
-            (kl .distances .listed j (recordAt m q j .segment) (nowAt m q) (placeAt m q .variables) e (says .notifies)))
-            (bd .sound q j (says .runs) late))
+            let run = says .runs in
+            let segment = recordAt m q j .segment in
+            let f = kl .forecasts l ts in
+            let says-listed = kl .distances .listed j segment (nowAt m q) (placeAt m q .variables) e (says .notifies) in
+            ≼-trans (At c) (forecastOf m ws l ts e) (At (nowAt m q)) (least-now .1)
+            (≼-trans (forecastOf m ws l ts e) (boundIn m ws ts (f .earliest) j segment) (At (nowAt m q))
+            (f .forecast-below e j segment (run .below) (bd .live q j run late) (pf .segment-below q j (run .below)) says-listed)
+            (bd .sound q j run late))
 
         done : List·Memᴰ (pairOf e (nowAt m q)) l ⊎ Gone m ts low e (nowAt m q) → c ⊑ nowAt m q
         done (inl logged) =

@@ -40,7 +40,7 @@ use Rattle.order.proofs.Hear.{HearingAt, next-heard}
 pub cut-same : {m : Model} {x : List ℕ} {l : List Notification} {ts ts′ : List Thread} {h h′ : ℕ → List Item} {cut : ℕ → ℕ} {low : Bound} → IsCut m x l ts h cut low → ts ≡ ts′ → ((j : ℕ) → h j ≡ h′ j) → IsCut m x l ts′ h′ cut low
 cut-same {m} {x} {l} {ts} {ts′} {h} {h′} {cut} {low} ic e f = subst₂ (λ (a : List Thread) (b : ℕ → List Item). IsCut m x l a b cut low) e (fun-ext f) ic
 
-module _ (m : Model) (pf : PlainFacts m) (marks : List (List Bool)) (ws : List ℕ) (kl : KitLaws m marks ws) where
+module _ (m : Model) (pf : PlainFacts m) {marks : List (List Bool)} {ws : List ℕ} (kl : KitLaws m marks ws) where
   module _
       {x : List ℕ} {l : List Notification} {ts : List Thread} {h : ℕ → List Item} {cut : ℕ → ℕ} {low : Bound}
       (ic : IsCut m x l ts h cut low)
@@ -80,8 +80,7 @@ module _ (m : Model) (pf : PlainFacts m) (marks : List (List Bool)) (ws : List �
               dropped = g .dropped;
               unheard = λ j s.
                   set-each (λ j t. j < m .t → viewOf (t .state) ≡ view.waits f s → Before d s) ts k woken inside
-                  (λ b r. absurd (stateAfter-not-waits (waitEnds wait.Event c) f s r))
-                  (λ j other. g .unheard j s) j;
+                  (λ b r. absurd (stateAfter-not-waits (waitEnds wait.Event c) f s r)) (λ j other. g .unheard j s) j;
             }
 
         pub heard-cut : IsCut m x l (set ts k woken) (adding h k (heard e c ∷ [])) later low
@@ -90,7 +89,7 @@ module _ (m : Model) (pf : PlainFacts m) (marks : List (List Bool)) (ws : List �
               size = rw length-set (ic .size);
               records = moved-records m ts cut k (suc (ha .place)) woken inside woken-is (ic .records);
               history = moved-history m h cut k (suc (ha .place)) (heard e c ∷ []) heard-is (ic .history);
-              good = good-moved m pf marks ws kl cut x k (suc (ha .place)) on (ha .quiet) (ic .good);
+              good = good-moved m pf kl cut x k (suc (ha .place)) on (ha .quiet) (ic .good);
               low-ready = low-ready-after;
               low-logged = ic .low-logged;
               logged = λ q j f d s. logged-after f (nowAt m q) (ic .logged q j f (back q j d) s);
@@ -120,8 +119,7 @@ module _ (m : Model) (pf : PlainFacts m) (marks : List (List Bool)) (ws : List �
           go (unheard none) = (
             cut,
             cut-same
-                ic
-                (sym (lookedAt-none m ws l ts k none))
+                ic (sym (lookedAt-none m ws l ts k none))
                 (λ j. sym (ap (λ (a : List Item). h j ++ a) (lookItems-none m ws l ts k j none) ∙ append-nil (h j))),
           )
           go (hears c at-c) = moves (heardAt-waits m ws l ts k c at-c)
@@ -130,13 +128,12 @@ module _ (m : Model) (pf : PlainFacts m) (marks : List (List Bool)) (ws : List �
               moves (e, since, w, now) = (
                 moved cut k (suc (ha .place)),
                 cut-same
-                    (heard-cut k e since c below w (ic .low-logged (pairOf e c) logged) ha)
-                    (sym (lookedAt-heard m ws l ts k c at-c))
+                    (heard-cut k e since c below w (ic .low-logged (pairOf e c) logged) ha) (sym (lookedAt-heard m ws l ts k c at-c))
                     (λ j. added j (ℕ-discrete j k)),
               )
                 where
                   ha : HearingAt m (cut k) k e since c
-                  ha = next-heard m pf marks ws kl ic bd k e since c below w now
+                  ha = next-heard m pf kl ic bd k e since c below w now
 
                   logged : List·Memᴰ (pairOf e c) l
                   logged = leastHeard-at l e since c (heardNow-at m ws l ts e since c now .0) .0

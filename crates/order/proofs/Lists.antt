@@ -49,7 +49,7 @@ use Rattle.order.proofs.Reached.{Reached, reached-log, reached-variable
 pub reached-same : {m : Model} {site : Site} {ts : List Thread} {h h′ : ℕ → List Item} → ((j : ℕ) → h j ≡ h′ j) → Reached m site ts h → Reached m site ts h′
 reached-same {m} {site} {ts} e r = subst (λ (a : ℕ → List Item). Reached m site ts a) (fun-ext e) r
 
-module _ (m : Model) (pf : PlainFacts m) (marks : List (List Bool)) (ws : List ℕ) (kl : KitLaws m marks ws) where
+module _ (m : Model) (pf : PlainFacts m) {marks : List (List Bool)} {ws : List ℕ} (kl : KitLaws m marks ws) where
   fresh-size : m .t ≤ length (freshThreads m)
   unfolding placeAt startOf
   fresh-size = shape m 0 .enough
@@ -68,7 +68,7 @@ module _ (m : Model) (pf : PlainFacts m) (marks : List (List Bool)) (ws : List �
               size = fresh-size;
               records = λ k below. refl;
               history = λ k below. refl;
-              good = good-fresh m pf marks ws kl;
+              good = good-fresh m pf kl;
               low-ready = λ k c below r. floor-below m (freshThreads m) k c below r;
               low-logged = λ y i. absurd (List·Memᴰ·not-nil i);
               logged = λ q k e d s. absurd (omega (arith, d .passed));
@@ -86,25 +86,20 @@ module _ (m : Model) (pf : PlainFacts m) (marks : List (List Bool)) (ws : List �
     logged-places : length (logAfter m site ts k c) ≤ countedPlaces m site k (threadAt ts k .segment) c
     unfolding logAfter effectAt countedPlaces notifiesIn
     logged-places =
-        withPairs-shorter
-        (logOf site)
-        c
-        (effectAt m site ts k c .notified)
-        (listedIn m k (threadAt ts k .segment))
-        (ic .once)
+        withPairs-shorter (logOf site) c (effectAt m site ts k c .notified) (listedIn m k (threadAt ts k .segment)) (ic .once)
         (λ e t. kl .distances .listed k (threadAt ts k .segment) c (site .variables .at) e t)
 
     ran-cut : (cut′ : ℕ → ℕ) × IsCut m (effectAt m site ts k c .variables) (logAfter m site ts k c) (closedThreads m site ts k c) (adding h k (ran (threadAt ts k .segment) c ∷ [])) cut′ (floorOf m ts)
     unfolding effectAt logAfter closedThreads
-    ran-cut = (moved cut k (suc (run .place)), granted-cut m pf marks ws kl ic k c below ready run free)
+    ran-cut = (moved cut k (suc (run .place)), granted-cut m pf kl ic k c below ready run free)
       where
         run : NextRun m (cut k) k c
-        run = next-place m pf marks ws kl ic k c below ready early
+        run = next-place m pf kl ic k c below ready early
 
     delivered-cut : (cut′ : ℕ → ℕ) × IsCut m (effectAt m site ts k c .variables) (logAfter m site ts k c) (threadsAfter m ws site ts k c) (λ j. h j ++ itemsAfter m ws site ts k c j) cut′ (floorOf m ts)
     unfolding threadsAfter itemsAfter adding
     delivered-cut =
-        let (cut′, ic′) = settled-cut m pf marks ws kl (effectAt m site ts k c .variables) (logAfter m site ts k c) (adding h k (ran (threadAt ts k .segment) c ∷ [])) (floorOf m ts) (closedThreads m site ts k c) ran-cut in
+        let (cut′, ic′) = settled-cut m pf kl (effectAt m site ts k c .variables) (logAfter m site ts k c) (adding h k (ran (threadAt ts k .segment) c ∷ [])) (floorOf m ts) (closedThreads m site ts k c) ran-cut in
         (cut′, cut-same ic′ refl (λ j. append-assoc (h j) (cond (eqb j k) (ran (threadAt ts k .segment) c ∷ []) []) (settledItems m ws (logAfter m site ts k c) (closedThreads m site ts k c) j)))
 
     pub granted-reached : Reached m (siteAfter m ws site ts k c) (threadsAfter m ws site ts k c) (λ j. h j ++ itemsAfter m ws site ts k c j)
@@ -115,18 +110,10 @@ module _ (m : Model) (pf : PlainFacts m) (marks : List (List Bool)) (ws : List �
           log = dropBefore floor new;
           site-is = refl;
           cut = delivered-cut .0;
-          is-cut = dropped-cut after (rest-quiet m marks ws kl new (threadsAfter m ws site ts k c) (threadsAfter-rest m site ts k c ws));
+          is-cut = dropped-cut after (rest-quiet m kl new (threadsAfter m ws site ts k c) (threadsAfter-rest m site ts k c ws));
           roomy =
-              roomy-granted
-              (floorOf m ts)
-              floor
-              (logOf site)
-              c
-              (effectAt m site ts k c .notified)
-              (floor-below m ts k c below ready)
-              (floor-rises after)
-              (λ t. let a = isFull-early m site ts k c places-left t in let b = logged-places in omega arith)
-              room;
+              roomy-granted (floorOf m ts) floor (logOf site) c (effectAt m site ts k c .notified) (floor-below m ts k c below ready)
+              (floor-rises after) (λ t. let a = isFull-early m site ts k c places-left t in let b = logged-places in omega arith) room;
           short = let a = dropBefore-length floor new in let b = logged-places in let d = isFull-none m site ts k c places-left in omega arith;
         }
       where
@@ -147,11 +134,8 @@ module _ (m : Model) (pf : PlainFacts m) (marks : List (List Bool)) (ws : List �
     where
       here : IsCut m (site .variables .at) (logOf site) ts h (r .cut) (floorOf m ts)
       here =
-          subst₂
-          (λ (x : List ℕ) (l : List Notification). IsCut m x l ts h (r .cut) (floorOf m ts))
-          (sym (reached-variables r))
-          (sym (reached-log r))
-          (r .is-cut)
+          subst₂ (λ (x : List ℕ) (l : List Notification). IsCut m x l ts h (r .cut) (floorOf m ts)) (sym (reached-variables r))
+          (sym (reached-log r)) (r .is-cut)
 
       room : Roomy (floorOf m ts) (logOf site)
       room = subst (λ (l : List Notification). Roomy (floorOf m ts) l) (sym (reached-log r)) (r .roomy)
@@ -159,20 +143,8 @@ module _ (m : Model) (pf : PlainFacts m) (marks : List (List Bool)) (ws : List �
       go : (a : Requested) → Asked m marks ws site ts k a → Reached m (a .site) (a .threads) (λ j. h j ++ a .items j)
       go a (refused n u f) = reached-same (λ j. sym (append-nil (h j))) r
       go a (granted c g) =
-          granted-reached
-          site
-          ts
-          h
-          (r .cut)
-          here
-          room
-          k
-          c
-          (g .thread)
-          (readyCycle→ready (viewOf (threadAt ts k .state)) c (g .ready))
-          (true→T (isBeforeHorizon m c) (g .before-horizon))
-          (g .no-hazard)
-          (g .room)
+          granted-reached site ts h (r .cut) here room k c (g .thread) (readyCycle→ready (viewOf (threadAt ts k .state)) c (g .ready))
+          (true→T (isBeforeHorizon m c) (g .before-horizon)) (g .no-hazard) (g .room)
 
   -- and so does a list of them
   pub list-reached : (ks : List ℕ) (site : Site) (ts : List Thread) (h : ℕ → List Item) → Reached m site ts h

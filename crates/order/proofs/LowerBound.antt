@@ -36,7 +36,7 @@ use Rattle.order.proofs.KitLaws.{boundIn, KitLaws, Forecasts}
 use Rattle.order.proofs.PlaceLaws.{Over, over-ready-not, over-stays, heard-ready}
 use Rattle.order.proofs.Invariant.{Gone, IsCut, Bounded}
 
-module _ (m : Model) (pf : PlainFacts m) (marks : List (List Bool)) (ws : List ℕ) (kl : KitLaws m marks ws)
+module _ (m : Model) (pf : PlainFacts m) {marks : List (List Bool)} {ws : List ℕ} (kl : KitLaws m marks ws)
     {x : List ℕ} {l : List Notification} {ts : List Thread} {h : ℕ → List Item} {cut : ℕ → ℕ} {low : Bound}
     (ic : IsCut m x l ts h cut low) (f : Forecasts m marks ws l ts)
   where

@@ -43,7 +43,7 @@ use Rattle.order.proofs.Capacity.{Roomy, floor-places}
 use Rattle.order.proofs.Reached.{Reached, cut-fit, logged-event}
 use Rattle.order.proofs.LeastReady.{LeastReady, least-floor, some-least}
 
-module _ (m : Model) (pf : PlainFacts m) (marks : List (List Bool)) (ws : List ℕ) (kl : KitLaws m marks ws) where
+module _ (m : Model) (pf : PlainFacts m) {marks : List (List Bool)} {ws : List ℕ} (kl : KitLaws m marks ws) where
   module _ {x : List ℕ} {l : List Notification} {ts : List Thread} {h : ℕ → List Item} {cut : ℕ → ℕ} (ic : IsCut m x l ts h cut (floorOf m ts)) (i : ℕ) (c : Cycle) (lr : LeastReady m ts i c) where
     -- a thread whose earliest is not after the floor is ready there, with no smaller number
     floor-thread : (j : ℕ) (a : Cycle) → j < m .t → T (isLive (threadAt ts j .state)) → kl .forecasts l ts .earliest j ≡ At a → a ⊑ c → j < i → ⊥
@@ -54,7 +54,7 @@ module _ (m : Model) (pf : PlainFacts m) (marks : List (List Bool)) (ws : List �
 
         go : (v : View) → viewOf (threadAt ts j .state) ≡ v → T (isLiveView v) → ⊥
         go view.idle e t = t
-        go (view.waits f d) e t = Before→not-⊑ (waiting-after-floor m marks ws kl l ts (cut-quiet ic) j f d c a below e fl ea) ac
+        go (view.waits f d) e t = Before→not-⊑ (waiting-after-floor m kl l ts (cut-quiet ic) j f d c a below e fl ea) ac
         go (view.ready d) e t = lr .least j d below e (→isStampBefore (stampAt d j) (stampAt c i) (inr (at-floor, ji)))
           where
             same-a : d ≡ a
@@ -85,7 +85,7 @@ module _ (m : Model) (pf : PlainFacts m) (marks : List (List Bool)) (ws : List �
                     at-earliest (a, ea, ab) = by-stamp stamp
                       where
                         above : c ⊑ a
-                        above = subst (λ (z : Bound). At c ≼ z) ea (subst (λ (z : Bound). z ≼ earliest j) fl (floor-below-earliest m marks ws kl l ts (cut-quiet ic) j below))
+                        above = subst (λ (z : Bound). At c ≼ z) ea (subst (λ (z : Bound). z ≼ earliest j) fl (floor-below-earliest m kl l ts (cut-quiet ic) j below))
 
                         by-stamp : StampBefore (stampAt b j) (stampAt c i) → ⊥
                         by-stamp (inl bc) = Before→not-⊑ bc (⊑-trans above ab)
@@ -95,17 +95,9 @@ module _ (m : Model) (pf : PlainFacts m) (marks : List (List Bool)) (ws : List �
     pub least-counted : Roomy (floorOf m ts) l → countedPlaces m (siteOf x l) i (threadAt ts i .segment) c ≤ places
     unfolding countedPlaces notifiesIn
     least-counted room =
-        rw
-        (logOf-siteOf x l)
-        (floor-places
-        (m .e)
-        l
-        c
-        (listedIn m i (threadAt ts i .segment))
-        (ic .once)
-        (kl .ranges .events)
-        (subst (λ (b : Bound). Roomy b l) fl room)
-        (λ y in-log. (logged-event m pf marks ws kl ic y in-log, subst (λ (b : Bound). b ≼ At (y .cycle)) fl (ic .low-logged y in-log)))
+        rw (logOf-siteOf x l)
+        (floor-places (m .e) l c (listedIn m i (threadAt ts i .segment)) (ic .once) (kl .ranges .events) (subst (λ (b : Bound). Roomy b l) fl room)
+        (λ y in-log. (logged-event m pf kl ic y in-log, subst (λ (b : Bound). b ≼ At (y .cycle)) fl (ic .low-logged y in-log)))
         (λ e t. kl .distances .listed-below i (threadAt ts i .segment) e inside t))
       where
         fl : floorOf m ts ≡ At c
@@ -120,16 +112,8 @@ module _ (m : Model) (pf : PlainFacts m) (marks : List (List Bool)) (ws : List �
     -- it is granted
     pub cut-granted : Roomy (floorOf m ts) l → length l ≤ places → T (isBeforeHorizon m c) → requestOf m marks ws (siteOf x l) ts i ≡ grantedTo m ws (siteOf x l) ts i c
     cut-granted room short early =
-        requestOf-granted
-        m
-        marks
-        ws
-        (siteOf x l)
-        ts
-        i
-        c
-        (record {
-          fit = cut-fit m pf marks ws kl ic short;
+        requestOf-granted m marks ws (siteOf x l) ts i c (record {
+          fit = cut-fit m pf kl ic short;
           thread = lr .below;
           ready = ap readyCycleOf (lr .ready);
           before-horizon = T→true (isBeforeHorizon m c) early;
@@ -140,9 +124,7 @@ module _ (m : Model) (pf : PlainFacts m) (marks : List (List Bool)) (ws : List �
   -- the least ready stamp before the horizon is always granted
   pub least-granted : (site : Site) (ts : List Thread) (h : ℕ → List Item) → Reached m site ts h → (i : ℕ) (c : Cycle) → LeastReady m ts i c → T (isBeforeHorizon m c) → requestOf m marks ws site ts i ≡ grantedTo m ws site ts i c
   least-granted site ts h r i c lr early =
-      subst
-      (λ (s : Site). requestOf m marks ws s ts i ≡ grantedTo m ws s ts i c)
-      (sym (r .site-is))
+      subst (λ (s : Site). requestOf m marks ws s ts i ≡ grantedTo m ws s ts i c) (sym (r .site-is))
       (cut-granted (r .is-cut) i c lr (r .roomy) (r .short) early)
 
   -- where one is ready before the horizon, some thread's request is granted

@@ -43,15 +43,11 @@ reached-log r = ap logOf (r .site-is) ∙ logOf-siteOf (r .variables) (r .log)
 pub reached-variables : {m : Model} {site : Site} {ts : List Thread} {h : ℕ → List Item} (r : Reached m site ts h) → site .variables .at ≡ r .variables
 reached-variables r = ap (λ (s : Site). s .variables .at) (r .site-is) ∙ siteOf-variables (r .variables) (r .log)
 
-module _ (m : Model) (pf : PlainFacts m) (marks : List (List Bool)) (ws : List ℕ) (kl : KitLaws m marks ws) where
+module _ (m : Model) (pf : PlainFacts m) {marks : List (List Bool)} {ws : List ℕ} (kl : KitLaws m marks ws) where
   -- whatever a place notifies is an event of the model
   pub says-event : (q k e : ℕ) → Says m q k e → e < m .e
   says-event q k e s =
-      kl .distances .listed-below
-      k
-      (recordAt m q k .segment)
-      e
-      (pf .segment-below q k (s .runs .below))
+      kl .distances .listed-below k (recordAt m q k .segment) e (pf .segment-below q k (s .runs .below))
       (kl .distances .listed k (recordAt m q k .segment) (nowAt m q) (placeAt m q .variables) e (s .notifies))
 
   module _ {x : List ℕ} {l : List Notification} {ts : List Thread} {h : ℕ → List Item} {cut : ℕ → ℕ} {low : Bound} (ic : IsCut m x l ts h cut low) where
@@ -61,12 +57,7 @@ module _ (m : Model) (pf : PlainFacts m) (marks : List (List Bool)) (ws : List �
     -- a cut with a short log is fit
     pub cut-fit : length l ≤ places → isUnfit m ws (siteOf x l) ts ≡ false
     cut-fit short =
-        →isUnfit
-        m
-        ws
-        (siteOf x l)
-        ts
-        (record {
+        →isUnfit m ws (siteOf x l) ts (record {
           model = kl .ranges .model;
           threads = →isUnfitThreads m ts (ic .size) (λ k below. subst (λ (t : Thread). T (isFitThread m k t)) (sym (ic .records k below)) (kl .ranges .fit-record (cut k) k below));
           log = siteOf-fit m x l short logged-fit;

@@ -108,7 +108,7 @@ module _ (m : Model) (pf : PlainFacts m) (k : ℕ) (below : k < m .t) where
       go (yes h) = let e : i + (j - i) ≡ j = omega arith in sym (ran-still i (j - i) (rw e same)) ∙ ap ranUpTo e
       go (no h) = let e : j + (i - j) ≡ i = omega arith in ap ranUpTo (sym e) ∙ ran-still j (i - j) (rw e (sym same))
 
-module _ (m : Model) (pf : PlainFacts m) (marks : List (List Bool)) (ws : List ℕ) (kl : KitLaws m marks ws) where
+module _ (m : Model) (pf : PlainFacts m) {marks : List (List Bool)} {ws : List ℕ} (kl : KitLaws m marks ws) where
   -- two cuts after which the threads have run equally often have the same places done
   pub same-done : (cut cut′ : ℕ → ℕ) → ((k : ℕ) → k < m .t → runCount (historyAt m k (cut k)) ≡ runCount (historyAt m k (cut′ k))) → (q k : ℕ) → Done m cut q k → Done m cut′ q k
   same-done cut cut′ same q k d = record { runs = d .runs; passed = go (decLt q (cut′ k)) }
@@ -182,15 +182,7 @@ module _ (m : Model) (pf : PlainFacts m) (marks : List (List Bool)) (ws : List �
               let s : u .thread ≡ a = same-runner m p (u .thread) a (subst (λ (i : ℕ). Runs m i (u .thread)) e (u .runs-it)) r in
               u .late (subst₂ (λ (i b : ℕ). i < cut b) (sym e) (sym s) (d .passed))
           later p a h r w d (no other) =
-              g .ordered
-              (first .index)
-              (u .thread)
-              p
-              a
-              (omega arith)
-              (u .runs-it)
-              (λ e. u .late (e .passed))
-              d
+              g .ordered (first .index) (u .thread) p a (omega arith) (u .runs-it) (λ e. u .late (e .passed)) d
               (record { variable = v; shared = inl (u .writes, kl .footprints .writes-uses a (recordAt m p a .segment) v w) })
 
   -- the same places done: the same variables
@@ -210,15 +202,8 @@ module _ (m : Model) (pf : PlainFacts m) (marks : List (List Bool)) (ws : List �
     pub reached-variables-same : site .variables .at ≡ site′ .variables .at
     reached-variables-same =
         reached-variables r ∙
-        same-done-variables
-        (r .cut)
-        (r′ .cut)
-        (r .variables)
-        (r′ .variables)
-        (same-done (r .cut) (r′ .cut) counts)
-        (same-done (r′ .cut) (r .cut) (λ k below. sym (counts k below)))
-        (r .is-cut .good)
-        (r′ .is-cut .good) ∙
+        same-done-variables (r .cut) (r′ .cut) (r .variables) (r′ .variables) (same-done (r .cut) (r′ .cut) counts)
+        (same-done (r′ .cut) (r .cut) (λ k below. sym (counts k below))) (r .is-cut .good) (r′ .is-cut .good) ∙
         sym (reached-variables r′)
 
     pub reached-ran-same : (k : ℕ) → k < m .t → ranItems (h k) ≡ ranItems (h′ k)

@@ -17,7 +17,7 @@ use Rattle.order.proofs.Invariant.{IsCut}
 use Rattle.order.proofs.LowerBound.{bounded}
 use Rattle.order.proofs.HeardCut.{cut-same, looked-cut}
 
-module _ (m : Model) (pf : PlainFacts m) (marks : List (List Bool)) (ws : List ℕ) (kl : KitLaws m marks ws) (x : List ℕ) (l : List Notification) (h : ℕ → List Item) (low : Bound) where
+module _ (m : Model) (pf : PlainFacts m) {marks : List (List Bool)} {ws : List ℕ} (kl : KitLaws m marks ws) (x : List ℕ) (l : List Notification) (h : ℕ → List Item) (low : Bound) where
   -- a cut of these variables and this log, where so much was heard since h
   abbrev Cut : List Thread → (ℕ → List Item) → Type 0
   Cut ts is = (cut : ℕ → ℕ) × IsCut m x l ts (λ j. h j ++ is j) cut low
@@ -25,7 +25,7 @@ module _ (m : Model) (pf : PlainFacts m) (marks : List (List Bool)) (ws : List �
   -- one look more
   looked-on : (ts : List Thread) (is : ℕ → List Item) (k : ℕ) → k < m .t → Cut ts is → Cut (lookedAt m ws l ts k) (λ j. is j ++ lookItems m ws l ts k j)
   looked-on ts is k below (cut, ic) =
-      let (cut′, ic′) = looked-cut m pf marks ws kl ic (bounded m pf marks ws kl ic (kl .forecasts l ts)) k below in
+      let (cut′, ic′) = looked-cut m pf kl ic (bounded m pf kl ic (kl .forecasts l ts)) k below in
       (cut′, cut-same ic′ refl (λ j. append-assoc (h j) (is j) (lookItems m ws l ts k j)))
 
   pub settled-cut : (ts : List Thread) → (cut : ℕ → ℕ) × IsCut m x l ts h cut low → (cut : ℕ → ℕ) × IsCut m x l (settled m ws l ts) (λ j. h j ++ settledItems m ws l ts j) cut low

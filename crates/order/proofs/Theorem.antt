@@ -40,34 +40,34 @@ use Rattle.order.proofs.Lists.{fresh-reached, request-reached, list-rea
 use Rattle.order.proofs.SamePlaces.{ranItems, runCount, reached-variables-same, reached-ran-same}
 use Rattle.order.proofs.CarriedOn.{reached-begins, reached-carried}
 
-module _ (m : Model) (pf : PlainFacts m) (marks : List (List Bool)) (ws : List ℕ) (kl : KitLaws m marks ws) where
+module _ (m : Model) (pf : PlainFacts m) {marks : List (List Bool)} {ws : List ℕ} (kl : KitLaws m marks ws) where
   abbrev after : List ℕ → Listed
   after ks = afterListWith m marks ws ks
 
   -- every list of requests leaves a reached state
   pub after-reached : (ks : List ℕ) → Reached m (after ks .site) (after ks .threads) (after ks .history)
-  after-reached ks = list-reached m pf marks ws kl ks freshSite (freshThreads m) (λ j. []) (fresh-reached m pf marks ws kl)
+  after-reached ks = list-reached m pf kl ks freshSite (freshThreads m) (λ j. []) (fresh-reached m pf kl)
 
   -- where no thread is ready before the horizon, all is as in the plain run carried on until it is done
   pub agrees-at-end : (ks : List ℕ) → someReady m (after ks .threads) ≡ false → AgreesAt m (after ks) (pf .ending .place)
   agrees-at-end ks over =
       record {
-        variables = reached-variables r ∙ end-variables m pf marks ws kl (r .is-cut) bd over;
-        history = λ k below. end-history m pf marks ws kl (r .is-cut) bd over k below;
-        closing = λ k below. end-record m pf marks ws kl (r .is-cut) bd over k below;
+        variables = reached-variables r ∙ end-variables m pf kl (r .is-cut) bd over;
+        history = λ k below. end-history m pf kl (r .is-cut) bd over k below;
+        closing = λ k below. end-record m pf kl (r .is-cut) bd over k below;
       }
     where
       r : Reached m (after ks .site) (after ks .threads) (after ks .history)
       r = after-reached ks
 
       bd : Bounded m ws (after ks .threads) (r .cut) (kl .forecasts (r .log) (after ks .threads) .earliest)
-      bd = bounded m pf marks ws kl (r .is-cut) (kl .forecasts (r .log) (after ks .threads))
+      bd = bounded m pf kl (r .is-cut) (kl .forecasts (r .log) (after ks .threads))
 
   -- the least ready stamp before the horizon is always granted
   pub least-granted-next : (ks : List ℕ) (i : ℕ) (c : Cycle) → LeastReady m (after ks .threads) i c → T (isBeforeHorizon m c)
       → requestNext m marks ws ks i ≡ grantedTo m ws (after ks .site) (after ks .threads) i c
   least-granted-next ks i c lr early =
-      least-granted m pf marks ws kl (after ks .site) (after ks .threads) (after ks .history) (after-reached ks) i c lr early
+      least-granted m pf kl (after ks .site) (after ks .threads) (after ks .history) (after-reached ks) i c lr early
 
   -- demand 3 for one list
   pub claim : (ks : List ℕ) → Claim m marks ws ks
@@ -76,7 +76,7 @@ module _ (m : Model) (pf : PlainFacts m) (marks : List (List Bool)) (ws : List �
       record {
         at-end = λ over. (pf .ending .place, pf .ending .done, agrees-at-end ks over);
         goes-on = λ ready.
-            let (k, c, below, p) = some-granted m pf marks ws kl (after ks .site) (after ks .threads) (after ks .history) (after-reached ks) ready in
+            let (k, c, below, p) = some-granted m pf kl (after ks .site) (after ks .threads) (after ks .history) (after-reached ks) ready in
             (k, threadAt (after ks .threads) k .segment, c, ap (λ (a : Requested). a .answer) p);
       }
 
@@ -87,12 +87,12 @@ module _ (m : Model) (pf : PlainFacts m) (marks : List (List Bool)) (ws : List �
   -- any list can be carried on to an end
   pub carried-on : (ks : List ℕ) → (more : List ℕ) × (someReady m (after (ks ++ more) .threads) ≡ false)
   carried-on ks =
-      let (more, p) = reached-carried m pf marks ws kl (after ks .site) (after ks .threads) (after ks .history) (after-reached ks) in
+      let (more, p) = reached-carried m pf kl (after ks .site) (after ks .threads) (after ks .history) (after-reached ks) in
       (more, ap (someReady m) (requestsOf-append m marks ws ks more freshSite (freshThreads m)) ∙ p)
 
   -- no request answers 11: every reached state is fit
   pub after-fit : (ks : List ℕ) → isUnfit m ws (after ks .site) (after ks .threads) ≡ false
-  after-fit ks = reached-fit m pf marks ws kl (after-reached ks)
+  after-fit ks = reached-fit m pf kl (after-reached ks)
 
   pub never-unfit : (ks : List ℕ) (k : ℕ) → requestNext m marks ws ks k .answer ≡ Refused unfit → ⊥
   never-unfit ks k e = requestOf-fit m marks ws (after ks .site) (after ks .threads) k (after-fit ks) e
@@ -102,17 +102,17 @@ module _ (m : Model) (pf : PlainFacts m) (marks : List (List Bool)) (ws : List �
       → (a : Answer) → List·Memᴰ a (requestsOf m marks ws site ts ks .answers) → a ≡ Refused unfit → ⊥
   unfolding requestsOf
   answers-fit [] site ts h r a i e = List·Memᴰ·not-nil i
-  answers-fit (k ∷ ks) site ts h r a i e = go (List·Memᴰ·cases-cons i) (λ j. answers-fit ks (b .site) (b .threads) (λ j. h j ++ b .items j) (request-reached m pf marks ws kl site ts h r k) a j e)
+  answers-fit (k ∷ ks) site ts h r a i e = go (List·Memᴰ·cases-cons i) (λ j. answers-fit ks (b .site) (b .threads) (λ j. h j ++ b .items j) (request-reached m pf kl site ts h r k) a j e)
     where
       b : Requested
       b = requestOf m marks ws site ts k
 
       go : (a ≡ b .answer) ⊎ List·Memᴰ a (requestsOf m marks ws (b .site) (b .threads) ks .answers) → (List·Memᴰ a (requestsOf m marks ws (b .site) (b .threads) ks .answers) → ⊥) → ⊥
-      go (inl p) ih = requestOf-fit m marks ws site ts k (reached-fit m pf marks ws kl r) (sym p ∙ e)
+      go (inl p) ih = requestOf-fit m marks ws site ts k (reached-fit m pf kl r) (sym p ∙ e)
       go (inr j) ih = ih j
 
   pub answers-never-unfit : (ks : List ℕ) (a : Answer) → List·Memᴰ a (after ks .answers) → a ≡ Refused unfit → ⊥
-  answers-never-unfit ks a i e = answers-fit ks freshSite (freshThreads m) (λ j. []) (fresh-reached m pf marks ws kl) a i e
+  answers-never-unfit ks a i e = answers-fit ks freshSite (freshThreads m) (λ j. []) (fresh-reached m pf kl) a i e
 
   -- the log never holds more than 128 pairs, and no pair twice
   pub log-bounded : (ks : List ℕ) → length (logOf (after ks .site)) ≤ places
@@ -123,8 +123,7 @@ module _ (m : Model) (pf : PlainFacts m) (marks : List (List Bool)) (ws : List �
 
   pub log-count : (ks : List ℕ) → after ks .site .count ≤ places
   log-count ks =
-      rw
-      (ap (λ (s : Site). s .count) (after-reached ks .site-is) ∙ siteOf-count (after-reached ks .variables) (after-reached ks .log))
+      rw (ap (λ (s : Site). s .count) (after-reached ks .site-is) ∙ siteOf-count (after-reached ks .variables) (after-reached ks .log))
       (after-reached ks .short)
 
 -- two lists, each with tables of its own, after which every thread has run equally often
@@ -132,11 +131,11 @@ module _ (m : Model) (pf : PlainFacts m) {marks marks′ : List (List Bool)} {ws
     (same : (k : ℕ) → k < m .t → runCount (afterListWith m marks ws ks .history k) ≡ runCount (afterListWith m marks′ ws′ js .history k)) where
   -- leave the same variables
   pub same-variables : afterListWith m marks ws ks .site .variables .at ≡ afterListWith m marks′ ws′ js .site .variables .at
-  same-variables = reached-variables-same m pf marks ws kl (after-reached m pf marks ws kl ks) (after-reached m pf marks′ ws′ kl′ js) same
+  same-variables = reached-variables-same m pf kl (after-reached m pf kl ks) (after-reached m pf kl′ js) same
 
   -- and have run the same
   pub same-runs : (k : ℕ) → k < m .t → ranItems (afterListWith m marks ws ks .history k) ≡ ranItems (afterListWith m marks′ ws′ js .history k)
-  same-runs = reached-ran-same m pf marks ws kl (after-reached m pf marks ws kl ks) (after-reached m pf marks′ ws′ kl′ js) same
+  same-runs = reached-ran-same m pf kl (after-reached m pf kl ks) (after-reached m pf kl′ js) same
 
 -- a refused request changes nothing, whatever the model and its tables
 pub refused-same : (m : Model) (marks : List (List Bool)) (ws ks : List ℕ) (k : ℕ) → (numberOf (requestNext m marks ws ks k .answer) ≡ 0 → ⊥)
