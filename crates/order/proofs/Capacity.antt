@@ -36,7 +36,8 @@ roomy-short (At f) l h = let k = later-≤ f l in omega arith
 
 -- After a grant at c and a drop at g: if c is later than the floor f, at most 96 pairs stand in the log; if not, c is the
 -- floor, and what is new is not later than g.
-pub roomy-granted : (f g : Bound) (l : List Notification) (c : Cycle) (es : List ℕ) → f ≼ At c → f ≼ g → (T (isBoundBefore f (At c)) → length (withPairs l c es) ≤ earlyPlaces) → Roomy f l → Roomy g (dropBefore g (withPairs l c es))
+pub roomy-granted : (f g : Bound) (l : List Notification) (c : Cycle) (es : List ℕ) → f ≼ At c → f ≼ g
+    → (T (isBoundBefore f (At c)) → length (withPairs l c es) ≤ earlyPlaces) → Roomy f l → Roomy g (dropBefore g (withPairs l c es))
 roomy-granted f Never l c es fc fg early room = tt
 roomy-granted Never (At g) l c es fc fg early room = absurd fg
 roomy-granted (At f) (At g) l c es fc fg early room = go (T-case (isBoundBefore (At f) (At c)))

@@ -47,7 +47,8 @@ history-begins m pf k i below = go (decLe i end)
         subst (λ (j : ℕ). Begins (historyAt m k i) (historyAt m k j)) e (history-grows m k i (end - i))
     go (no h) = ([], sym (history-past m pf k i below (omega arith)) ∙ sym (append-nil (historyAt m k i)))
 
-pub reached-begins : (m : Model) (pf : PlainFacts m) {site : Site} {ts : List Thread} {h : ℕ → List Item} → Reached m site ts h → (k : ℕ) → k < m .t → Begins (h k) (historyAt m k (pf .ending .place))
+pub reached-begins : (m : Model) (pf : PlainFacts m) {site : Site} {ts : List Thread} {h : ℕ → List Item} → Reached m site ts h → (k : ℕ)
+    → k < m .t → Begins (h k) (historyAt m k (pf .ending .place))
 reached-begins m pf r k below =
     subst (λ (a : List Item). Begins a (historyAt m k (pf .ending .place))) (sym (r .is-cut .history k below)) (history-begins m pf k (r .cut k) below)
 
@@ -69,7 +70,8 @@ unfolding total
 total-more zero h g k below some = absurd (omega arith)
 total-more (suc n) h g k below some = go (λ b. total-more n h g k b some) (ℕ-discrete k n)
   where
-    go : (k < n → total n h < total n (λ j. h j ++ g j)) → Dec (k ≡ n) → total n h + length (h n) < total n (λ j. h j ++ g j) + length (h n ++ g n)
+    go : (k < n → total n h < total n (λ j. h j ++ g j)) → Dec (k ≡ n)
+        → total n h + length (h n) < total n (λ j. h j ++ g j) + length (h n ++ g n)
     go ih (no other) = let a = ih (omega arith) in let b = longer (h n) (g n) in omega arith
     go ih (yes e) =
         let a = total-≤ n h (λ j. h j ++ g j) (λ j b. longer (h j) (g j)) in
@@ -78,14 +80,16 @@ total-more (suc n) h g k below some = go (λ b. total-more n h g k b some) (ℕ-
         omega arith
 
 -- no reached histories are longer than the plain run's
-reached-total : (m : Model) (pf : PlainFacts m) {site : Site} {ts : List Thread} {h : ℕ → List Item} → Reached m site ts h → total (m .t) h ≤ total (m .t) (λ k. historyAt m k (pf .ending .place))
+reached-total : (m : Model) (pf : PlainFacts m) {site : Site} {ts : List Thread} {h : ℕ → List Item} → Reached m site ts h
+    → total (m .t) h ≤ total (m .t) (λ k. historyAt m k (pf .ending .place))
 reached-total m pf {site} {ts} {h} r = total-≤ (m .t) h (λ k. historyAt m k (pf .ending .place)) (λ k b. within k (reached-begins m pf r k b))
   where
     within : (k : ℕ) → Begins (h k) (historyAt m k (pf .ending .place)) → length (h k) ≤ length (historyAt m k (pf .ending .place))
     within k (rest, p) = let e = ap length p in let l = longer (h k) rest in omega arith
 
 -- a granted request has an item for its thread
-granted-item : (m : Model) (ws : List ℕ) (site : Site) (ts : List Thread) (k : ℕ) (c : Cycle) → 0 < length (grantedTo m ws site ts k c .items k)
+granted-item : (m : Model) (ws : List ℕ) (site : Site) (ts : List Thread) (k : ℕ) (c : Cycle)
+    → 0 < length (grantedTo m ws site ts k c .items k)
 unfolding grantedTo
 granted-item m ws site ts k c = rw (itemsAfter-self m site ts k c ws) (omega arith)
 
@@ -94,14 +98,16 @@ module _ (m : Model) (pf : PlainFacts m) {marks : List (List Bool)} {ws : List �
   whole = total (m .t) (λ k. historyAt m k (pf .ending .place))
 
   -- a granted request makes the histories longer
-  longer-by-grant : (site : Site) (ts : List Thread) (h : ℕ → List Item) → Reached m site ts h → someReady m ts ≡ true → (k : ℕ) × (total (m .t) h < total (m .t) (λ j. h j ++ requestOf m marks ws site ts k .items j))
+  longer-by-grant : (site : Site) (ts : List Thread) (h : ℕ → List Item) → Reached m site ts h → someReady m ts ≡ true
+      → (k : ℕ) × (total (m .t) h < total (m .t) (λ j. h j ++ requestOf m marks ws site ts k .items j))
   longer-by-grant site ts h r e =
       let (k, c, below, p) = some-granted m pf kl site ts h r e in
       let some = subst (λ (a : Requested). 0 < length (a .items k)) (sym p) (granted-item m ws site ts k c) in
       (k, total-more (m .t) h (requestOf m marks ws site ts k .items) k below some)
 
   -- from a reached state whose histories can grow by at most n
-  carried : (n : ℕ) (site : Site) (ts : List Thread) (h : ℕ → List Item) → Reached m site ts h → whole ≤ total (m .t) h + n → (more : List ℕ) × (someReady m (requestsOf m marks ws site ts more .threads) ≡ false)
+  carried : (n : ℕ) (site : Site) (ts : List Thread) (h : ℕ → List Item) → Reached m site ts h → whole ≤ total (m .t) h + n
+      → (more : List ℕ) × (someReady m (requestsOf m marks ws site ts more .threads) ≡ false)
   unfolding requestsOf
   carried zero site ts h r enough = go (someReady m ts) refl
     where
@@ -119,7 +125,8 @@ module _ (m : Model) (pf : PlainFacts m) {marks : List (List Bool)} {ws : List �
       go false e ih = ([], e)
       go true e ih = on (longer-by-grant site ts h r e)
         where
-          on : (k : ℕ) × (total (m .t) h < total (m .t) (λ j. h j ++ requestOf m marks ws site ts k .items j)) → (more : List ℕ) × (someReady m (requestsOf m marks ws site ts more .threads) ≡ false)
+          on : (k : ℕ) × (total (m .t) h < total (m .t) (λ j. h j ++ requestOf m marks ws site ts k .items j))
+              → (more : List ℕ) × (someReady m (requestsOf m marks ws site ts more .threads) ≡ false)
           on (k, grown) =
               let (more, p) = ih (a .site) (a .threads) (λ j. h j ++ a .items j) (request-reached m pf kl site ts h r k) (omega arith) in
               (k ∷ more, p)
@@ -128,5 +135,6 @@ module _ (m : Model) (pf : PlainFacts m) {marks : List (List Bool)} {ws : List �
               a = requestOf m marks ws site ts k
 
   -- any reached state can be carried on to an end
-  pub reached-carried : (site : Site) (ts : List Thread) (h : ℕ → List Item) → Reached m site ts h → (more : List ℕ) × (someReady m (requestsOf m marks ws site ts more .threads) ≡ false)
+  pub reached-carried : (site : Site) (ts : List Thread) (h : ℕ → List Item) → Reached m site ts h
+      → (more : List ℕ) × (someReady m (requestsOf m marks ws site ts more .threads) ≡ false)
   reached-carried site ts h r = carried whole site ts h r (omega arith)

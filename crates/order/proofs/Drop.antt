@@ -42,7 +42,8 @@ abbrev hearable : List Notification → Awaited → Bound
 hearable l nothing = Never
 hearable l (awaits e since) = leastHeard l e since
 
-hearable-waits : (l : List Notification) (v : View) (c : Cycle) → hearable l (awaitedOf v) ≡ At c → (e : ℕ) × (since : Cycle) × (v ≡ view.waits e since) × (leastHeard l e since ≡ At c)
+hearable-waits : (l : List Notification) (v : View) (c : Cycle) → hearable l (awaitedOf v) ≡ At c
+    → (e : ℕ) × (since : Cycle) × (v ≡ view.waits e since) × (leastHeard l e since ≡ At c)
 hearable-waits l view.idle c e = absurd (At-not-Never (sym e))
 hearable-waits l (view.ready d) c e = absurd (At-not-Never (sym e))
 hearable-waits l (view.waits a d) c e = (a, d, refl, e)
@@ -70,7 +71,8 @@ kept-or-dropped (At f) c = go (⊑-total f c)
     go (inr h) = inr (λ k. Before→not-⊑ h k)
 
 -- a thread with a finite bound has a finite earliest, not after it
-pub bound-finite : (m : Model) (ws : List ℕ) (ts : List Thread) (earliest : ℕ → Bound) (j s : ℕ) (b : Cycle) → boundIn m ws ts earliest j s ≡ At b
+pub bound-finite : (m : Model) (ws : List ℕ) (ts : List Thread) (earliest : ℕ → Bound) (j s : ℕ) (b : Cycle)
+    → boundIn m ws ts earliest j s ≡ At b
     → (a : Cycle) × (earliest j ≡ At a) × (a ⊑ b)
 bound-finite m ws ts earliest j s b e =
     finite-below (earliest j) b (subst (λ (z : Bound). earliest j ≼ z) e (⊕-inflate (earliest j) (distanceIn m ws (threadAt ts j .segment) s)))
@@ -89,7 +91,8 @@ module _ (m : Model) {marks : List (List Bool)} {ws : List ℕ} (kl : KitLaws m 
 
   -- If the least that anybody could hear is at c and nobody hears, the floor is not after c: some forecast is before c,
   -- so some earliest; that comes from a ready thread, or from something smaller that somebody could hear.
-  floor-below-least : Rest m ws l ts → (k e : ℕ) (since c : Cycle) → k < m .t → viewOf (threadAt ts k .state) ≡ view.waits e since → leastHeard l e since ≡ At c → leastHearable ≡ At c → floorOf m ts ≼ At c
+  floor-below-least : Rest m ws l ts → (k e : ℕ) (since c : Cycle) → k < m .t → viewOf (threadAt ts k .state) ≡ view.waits e since
+      → leastHeard l e since ≡ At c → leastHearable ≡ At c → floorOf m ts ≼ At c
   floor-below-least rest k e since c below w p q =
       forecast (before-or-not (forecastOf m ws l ts e) c (heardNow-none m ws l ts e since c none p))
     where
@@ -108,7 +111,8 @@ module _ (m : Model) {marks : List (List Bool)} {ws : List ℕ} (kl : KitLaws m 
       forecast : (b : Cycle) × (forecastOf m ws l ts e ≡ At b) × Before b c → floorOf m ts ≼ At c
       forecast (b, fb, bc) = attained (kl .forecasts l ts .forecast-attained e b fb)
         where
-          attained : (j : ℕ) × (s : ℕ) × (j < m .t) × T (isLive (threadAt ts j .state)) × (boundIn m ws ts earliest j s ≡ At b) → floorOf m ts ≼ At c
+          attained : (j : ℕ) × (s : ℕ) × (j < m .t) × T (isLive (threadAt ts j .state)) × (boundIn m ws ts earliest j s ≡ At b)
+              → floorOf m ts ≼ At c
           attained (j, s, j-below, live, eb) = source (bound-finite m ws ts earliest j s b eb)
             where
               source : (a : Cycle) × (earliest j ≡ At a) × (a ⊑ b) → floorOf m ts ≼ At c
@@ -121,7 +125,8 @@ module _ (m : Model) {marks : List (List Bool)} {ws : List ℕ} (kl : KitLaws m 
       found : (c : Cycle) × (leastHearable ≡ At c) × (c ⊑ y .cycle) → floorOf m ts ≼ At (y .cycle)
       found (c, p, cy) = go (leastBelow-one (m .t) (λ k. hearable l (awaitedBy (threadAt ts k .state))))
         where
-          go : (leastHearable ≡ Never) ⊎ ((i : ℕ) × (i < m .t) × (leastHearable ≡ hearable l (awaitedBy (threadAt ts i .state)))) → floorOf m ts ≼ At (y .cycle)
+          go : (leastHearable ≡ Never) ⊎ ((i : ℕ) × (i < m .t) × (leastHearable ≡ hearable l (awaitedBy (threadAt ts i .state))))
+              → floorOf m ts ≼ At (y .cycle)
           go (inl n) = absurd (At-not-Never (sym p ∙ n))
           go (inr (i, below, q)) =
               let (e, since, w, r) = hearable-waits l (viewOf (threadAt ts i .state)) c (sym q ∙ p) in
@@ -132,7 +137,8 @@ module _ (m : Model) {marks : List (List Bool)} {ws : List ℕ} (kl : KitLaws m 
       → (d : Cycle) × (floorOf m ts ≼ At d) × (d ⊑ b) × ((e : ℕ) (since : Cycle) → viewOf (threadAt ts k .state) ≡ view.waits e since → Before d b)
   earliest-source quiet k b below e = from (kl .forecasts l ts .attained k b below e)
     where
-      from : Source m l ts k b → (d : Cycle) × (floorOf m ts ≼ At d) × (d ⊑ b) × ((e : ℕ) (since : Cycle) → viewOf (threadAt ts k .state) ≡ view.waits e since → Before d b)
+      from : Source m l ts k b
+          → (d : Cycle) × (floorOf m ts ≼ At d) × (d ⊑ b) × ((e : ℕ) (since : Cycle) → viewOf (threadAt ts k .state) ≡ view.waits e since → Before d b)
       from (from-ready i d i-below ready db strict) = (d, floor-below m ts i d i-below ready, db, strict)
       from (from-logged i y h yb) = (y .cycle, quiet i y h, Before→⊑ yb, λ f u w. yb)
 
@@ -145,7 +151,8 @@ module _ (m : Model) {marks : List (List Bool)} {ws : List ℕ} (kl : KitLaws m 
       go (At b) e = let (d, fd, db, _) = earliest-source quiet k b below e in ≼-trans (floorOf m ts) (At d) (At b) fd db
 
   -- a waiting thread's is later
-  pub waiting-after-floor : Quiet m l ts → (k e : ℕ) (since f b : Cycle) → k < m .t → viewOf (threadAt ts k .state) ≡ view.waits e since → floorOf m ts ≡ At f → kl .forecasts l ts .earliest k ≡ At b → Before f b
+  pub waiting-after-floor : Quiet m l ts → (k e : ℕ) (since f b : Cycle) → k < m .t → viewOf (threadAt ts k .state) ≡ view.waits e since
+      → floorOf m ts ≡ At f → kl .forecasts l ts .earliest k ≡ At b → Before f b
   waiting-after-floor quiet k e since f b below w fl eb =
       let (d, fd, _, strict) = earliest-source quiet k b below eb in
       ⊑-Before-trans (subst (λ (z : Bound). z ≼ At d) fl fd) (strict e since w)
@@ -182,7 +189,8 @@ module _ {m : Model} {x : List ℕ} {l : List Notification} {ts : List Thread} {
                 not-⊑→Before (λ begun. before (quiet k (pairOf e c) (record { below = below; since = since; waits = w; logged = logged; begun = begun })));
           }
 
-      still : (e : ℕ) (c : Cycle) → List·Memᴰ (pairOf e c) l ⊎ Gone m ts low e c → List·Memᴰ (pairOf e c) (dropBefore floor l) ⊎ Gone m ts floor e c
+      still : (e : ℕ) (c : Cycle) → List·Memᴰ (pairOf e c) l ⊎ Gone m ts low e c
+          → List·Memᴰ (pairOf e c) (dropBefore floor l) ⊎ Gone m ts floor e c
       still e c (inr g) = inr (record { dropped = λ b. g .dropped (≼-trans low floor (At c) floor-rises b); unheard = g .unheard })
       still e c (inl logged) = go (kept-or-dropped floor c)
         where
@@ -191,5 +199,6 @@ module _ {m : Model} {x : List ℕ} {l : List Notification} {ts : List Thread} {
           go (inr b) = inr (dropped e c logged b)
 
 -- a cut at its floor is quiet
-pub cut-quiet : {m : Model} {x : List ℕ} {l : List Notification} {ts : List Thread} {h : ℕ → List Item} {cut : ℕ → ℕ} → IsCut m x l ts h cut (floorOf m ts) → Quiet m l ts
+pub cut-quiet : {m : Model} {x : List ℕ} {l : List Notification} {ts : List Thread} {h : ℕ → List Item} {cut : ℕ → ℕ}
+    → IsCut m x l ts h cut (floorOf m ts) → Quiet m l ts
 cut-quiet ic k y h = ic .low-logged y (h .logged)

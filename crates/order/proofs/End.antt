@@ -42,7 +42,8 @@ use Rattle.order.proofs.Drop.{cut-quiet, floor-below-earliest}
 use Rattle.order.proofs.LeastReady.{someReady-none}
 
 -- from where the run is done, histories stand still
-pub history-ended : (m : Model) (pf : PlainFacts m) (k : ℕ) → k < m .t → (d : ℕ) → historyAt m k (pf .ending .place + d) ≡ historyAt m k (pf .ending .place)
+pub history-ended : (m : Model) (pf : PlainFacts m) (k : ℕ) → k < m .t → (d : ℕ)
+    → historyAt m k (pf .ending .place + d) ≡ historyAt m k (pf .ending .place)
 history-ended m pf k below zero = let e : pf .ending .place + 0 ≡ pf .ending .place = omega arith in ap (historyAt m k) e
 history-ended m pf k below (suc d) =
     let e : pf .ending .place + suc d ≡ suc (pf .ending .place + d) = omega arith in
@@ -59,7 +60,8 @@ history-ended m pf k below (suc d) =
     quiet (runs r new items) = absurd (pf .ending .no-run i k past r)
     quiet (hears e since h new items) = absurd (pf .ending .no-hearing i k e since past h)
 
-pub history-past : (m : Model) (pf : PlainFacts m) (k i : ℕ) → k < m .t → pf .ending .place ≤ i → historyAt m k i ≡ historyAt m k (pf .ending .place)
+pub history-past : (m : Model) (pf : PlainFacts m) (k i : ℕ) → k < m .t → pf .ending .place ≤ i
+    → historyAt m k i ≡ historyAt m k (pf .ending .place)
 history-past m pf k i below past =
     let e : i ≡ pf .ending .place + (i - pf .ending .place) = omega arith in
     ap (historyAt m k) e ∙ history-ended m pf k below (i - pf .ending .place)
@@ -110,7 +112,8 @@ module _ (m : Model) (pf : PlainFacts m) {marks : List (List Bool)} {ws : List �
             go (inr gone) = Before→not-⊑ (gone .unheard k since (heard .below) waits) begun
 
     -- from its cut on, a thread's record and history stand still
-    stands : (k : ℕ) → k < m .t → (d : ℕ) → (recordAt m (cut k + d) k ≡ recordAt m (cut k) k) × (historyAt m k (cut k + d) ≡ historyAt m k (cut k))
+    stands : (k : ℕ) → k < m .t → (d : ℕ)
+        → (recordAt m (cut k + d) k ≡ recordAt m (cut k) k) × (historyAt m k (cut k + d) ≡ historyAt m k (cut k))
     stands k below zero = let e : cut k + 0 ≡ cut k = omega arith in (ap (λ (i : ℕ). recordAt m i k) e, ap (historyAt m k) e)
     stands k below (suc d) =
         let e : cut k + suc d ≡ suc (cut k + d) = omega arith in
@@ -120,7 +123,8 @@ module _ (m : Model) (pf : PlainFacts m) {marks : List (List Bool)} {ws : List �
         i : ℕ
         i = cut k + d
 
-        next : (recordAt m i k ≡ recordAt m (cut k) k) × (historyAt m k i ≡ historyAt m k (cut k)) → Happens m i k → (recordAt m (suc i) k ≡ recordAt m (cut k) k) × (historyAt m k i ++ itemsAt m (placeAt m i) k ≡ historyAt m k (cut k))
+        next : (recordAt m i k ≡ recordAt m (cut k) k) × (historyAt m k i ≡ historyAt m k (cut k)) → Happens m i k
+            → (recordAt m (suc i) k ≡ recordAt m (cut k) k) × (historyAt m k i ++ itemsAt m (placeAt m i) k ≡ historyAt m k (cut k))
         next (a, b) (idle stays none not-runs not-hears) = (stays ∙ a, ap (λ (u : List Item). historyAt m k i ++ u) none ∙ append-nil (historyAt m k i) ∙ b)
         next (a, b) (runs r new items) = absurd (let late = all-done i k r in omega arith)
         next (a, b) (hears e since heard new items) = absurd (no-wake i k e since a heard)

@@ -39,11 +39,13 @@ finite-below Never c h = absurd h
 finite-below (At d) c h = (d, refl, h)
 
 -- no ready thread is before the floor
-pub floor-below : (m : Model) (ts : List Thread) (k : ℕ) (c : Cycle) → k < m .t → viewOf (threadAt ts k .state) ≡ view.ready c → floorOf m ts ≼ At c
+pub floor-below : (m : Model) (ts : List Thread) (k : ℕ) (c : Cycle) → k < m .t → viewOf (threadAt ts k .state) ≡ view.ready c
+    → floorOf m ts ≼ At c
 floor-below m ts k c below r = subst (λ (b : Bound). floorOf m ts ≼ b) (ap readyCycleOf r) (floorOf-≼ m ts k below)
 
 -- a bound that is not after any ready thread is not after the floor
-pub floor-glb : (m : Model) (ts : List Thread) (low : Bound) → ((k : ℕ) (c : Cycle) → k < m .t → viewOf (threadAt ts k .state) ≡ view.ready c → low ≼ At c) → low ≼ floorOf m ts
+pub floor-glb : (m : Model) (ts : List Thread) (low : Bound)
+    → ((k : ℕ) (c : Cycle) → k < m .t → viewOf (threadAt ts k .state) ≡ view.ready c → low ≼ At c) → low ≼ floorOf m ts
 unfolding floorOf
 floor-glb m ts low h = leastBelow-glb low (m .t) (λ k. readyCycle (threadAt ts k .state)) (λ k below. go k below (viewOf (threadAt ts k .state)) refl)
   where

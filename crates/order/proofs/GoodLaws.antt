@@ -39,7 +39,8 @@ touch-swap m p a q b t = record { variable = t .variable; shared = crossed (t .s
 
 module _ (m : Model) (pf : PlainFacts m) {marks : List (List Bool)} {ws : List ℕ} (kl : KitLaws m marks ws) where
   -- a place that does not write v keeps it
-  pub value-stays : (v p : ℕ) → ((a : ℕ) → Runs m p a → Writes m p a v → ⊥) → getD (placeAt m (suc p) .variables) v 0 ≡ getD (placeAt m p .variables) v 0
+  pub value-stays : (v p : ℕ) → ((a : ℕ) → Runs m p a → Writes m p a v → ⊥)
+      → getD (placeAt m (suc p) .variables) v 0 ≡ getD (placeAt m p .variables) v 0
   value-stays v p none = go (pf .runs-one p)
     where
       skips : (a : ℕ) → (Writes m p a v → ⊥) → writesIn m a (recordAt m p a .segment) v ≡ false
@@ -52,11 +53,13 @@ module _ (m : Model) (pf : PlainFacts m) {marks : List (List Bool)} {ws : List �
           ∙ kl .footprints .frame a (recordAt m p a .segment) (nowAt m p) (placeAt m p .variables) v (skips a (none a runs))
 
   -- between places with no writer of v, v keeps its value
-  pub value-kept : (v p q : ℕ) → p ≤ q → ((w a : ℕ) → p ≤ w → w < q → Runs m w a → Writes m w a v → ⊥) → getD (placeAt m q .variables) v 0 ≡ getD (placeAt m p .variables) v 0
+  pub value-kept : (v p q : ℕ) → p ≤ q → ((w a : ℕ) → p ≤ w → w < q → Runs m w a → Writes m w a v → ⊥)
+      → getD (placeAt m q .variables) v 0 ≡ getD (placeAt m p .variables) v 0
   value-kept v p zero h none = let e : p ≡ 0 = omega arith in rw e refl
   value-kept v p (suc q) h none = go (λ l. value-kept v p q l (λ w a f t. none w a f (omega arith))) (ℕ-discrete p (suc q))
     where
-      go : (p ≤ q → getD (placeAt m q .variables) v 0 ≡ getD (placeAt m p .variables) v 0) → Dec (p ≡ suc q) → getD (placeAt m (suc q) .variables) v 0 ≡ getD (placeAt m p .variables) v 0
+      go : (p ≤ q → getD (placeAt m q .variables) v 0 ≡ getD (placeAt m p .variables) v 0) → Dec (p ≡ suc q)
+          → getD (placeAt m (suc q) .variables) v 0 ≡ getD (placeAt m p .variables) v 0
       go ih (yes e) = rw e refl
       go ih (no e) = value-stays v q (λ a runs w. none q a (omega arith) (omega arith) runs w) ∙ ih (omega arith)
 
@@ -71,7 +74,8 @@ module _ (m : Model) (pf : PlainFacts m) {marks : List (List Bool)} {ws : List �
       }
 
   -- a cut moved over places that do not run its thread
-  pub good-moved : (cut : ℕ → ℕ) (x : List ℕ) (k n : ℕ) → cut k ≤ n → ((q : ℕ) → cut k ≤ q → q < n → Runs m q k → ⊥) → Good m cut x → Good m (moved cut k n) x
+  pub good-moved : (cut : ℕ → ℕ) (x : List ℕ) (k n : ℕ) → cut k ≤ n → ((q : ℕ) → cut k ≤ q → q < n → Runs m q k → ⊥) → Good m cut x
+      → Good m (moved cut k n) x
   good-moved cut x k n on quiet g =
       record {
         size = g .size;
@@ -112,7 +116,8 @@ module _ (m : Model) (pf : PlainFacts m) {marks : List (List Bool)} {ws : List �
       pub agree : Agree (λ v. T (usesIn m k seg v)) x (placeAt m r .variables)
       agree = record { same-length = g .size ∙ sym (pf .variables-length r); same = values }
 
-      ordered-after : (p a q b : ℕ) → p < q → Runs m p a → (Done m (moved cut k (suc r)) p a → ⊥) → Done m (moved cut k (suc r)) q b → Touch m p a q b → ⊥
+      ordered-after : (p a q b : ℕ) → p < q → Runs m p a → (Done m (moved cut k (suc r)) p a → ⊥) → Done m (moved cut k (suc r)) q b
+          → Touch m p a q b → ⊥
       ordered-after p a q b h runs undone d t = go (done-after q b d)
         where
           go : Done m cut q b ⊎ ((q ≡ r) × (b ≡ k)) → ⊥
@@ -128,7 +133,8 @@ module _ (m : Model) (pf : PlainFacts m) {marks : List (List Bool)} {ws : List �
           → getD (effectOf m k seg (nowAt m r) x .variables) v 0 ≡ getD (placeAt m q .variables) v 0
       value-after v q before after = go (T-case (writesIn m k seg v)) (decLt r q)
         where
-          go : T (writesIn m k seg v) ⊎ T (not (writesIn m k seg v)) → Dec (r < q) → getD (effectOf m k seg (nowAt m r) x .variables) v 0 ≡ getD (placeAt m q .variables) v 0
+          go : T (writesIn m k seg v) ⊎ T (not (writesIn m k seg v)) → Dec (r < q)
+              → getD (effectOf m k seg (nowAt m r) x .variables) v 0 ≡ getD (placeAt m q .variables) v 0
           go (inr skips) _ =
               kl .footprints .frame k seg (nowAt m r) x v (T→false (writesIn m k seg v) skips)
               ∙ g .value v q (λ p a h runs w. old p a runs w (done-after p a (before p a h runs w))) (λ p a h runs w d. after p a h runs w (done-still p a d))

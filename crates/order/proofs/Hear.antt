@@ -51,7 +51,8 @@ module _ (m : Model) (pf : PlainFacts m) {marks : List (List Bool)} {ws : List �
   module _ {x : List ℕ} {l : List Notification} {ts : List Thread} {h : ℕ → List Item} {cut : ℕ → ℕ} {low : Bound}
       (ic : IsCut m x l ts h cut low) (bd : Bounded m ws ts cut (kl .forecasts l ts .earliest)) where
     -- whoever notifies what k hears, does so no sooner than what is heard now
-    pub no-sooner : (k e : ℕ) (since c : Cycle) → k < m .t → viewOf (threadAt ts k .state) ≡ view.waits e since → heardNow m ws l ts (awaits e since) ≡ At c
+    pub no-sooner : (k e : ℕ) (since c : Cycle) → k < m .t → viewOf (threadAt ts k .state) ≡ view.waits e since
+        → heardNow m ws l ts (awaits e since) ≡ At c
         → (q j : ℕ) → Says m q j e → since ⊑ nowAt m q → c ⊑ nowAt m q
     no-sooner k e since c below w now q j says begun = go (decLt q (cut j))
       where
@@ -79,7 +80,8 @@ module _ (m : Model) (pf : PlainFacts m) {marks : List (List Bool)} {ws : List �
         go (no late) = undone late
 
     -- what is heard now, the plain run hears next
-    pub next-heard : (k e : ℕ) (since c : Cycle) → k < m .t → viewOf (threadAt ts k .state) ≡ view.waits e since → heardNow m ws l ts (awaits e since) ≡ At c → HearingAt m (cut k) k e since c
+    pub next-heard : (k e : ℕ) (since c : Cycle) → k < m .t → viewOf (threadAt ts k .state) ≡ view.waits e since
+        → heardNow m ws l ts (awaits e since) ≡ At c → HearingAt m (cut k) k e since c
     next-heard k e since c below w now = found (ic .notified (pairOf e c) logged)
       where
         logged : List·Memᴰ (pairOf e c) l

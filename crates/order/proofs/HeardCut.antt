@@ -37,7 +37,8 @@ use Rattle.order.proofs.GoodLaws.{good-moved}
 use Rattle.order.proofs.Hear.{HearingAt, next-heard}
 
 -- a cut of the same records and histories
-pub cut-same : {m : Model} {x : List ℕ} {l : List Notification} {ts ts′ : List Thread} {h h′ : ℕ → List Item} {cut : ℕ → ℕ} {low : Bound} → IsCut m x l ts h cut low → ts ≡ ts′ → ((j : ℕ) → h j ≡ h′ j) → IsCut m x l ts′ h′ cut low
+pub cut-same : {m : Model} {x : List ℕ} {l : List Notification} {ts ts′ : List Thread} {h h′ : ℕ → List Item} {cut : ℕ → ℕ} {low : Bound}
+    → IsCut m x l ts h cut low → ts ≡ ts′ → ((j : ℕ) → h j ≡ h′ j) → IsCut m x l ts′ h′ cut low
 cut-same {m} {x} {l} {ts} {ts′} {h} {h′} {cut} {low} ic e f = subst₂ (λ (a : List Thread) (b : ℕ → List Item). IsCut m x l a b cut low) e (fun-ext f) ic
 
 module _ (m : Model) (pf : PlainFacts m) {marks : List (List Bool)} {ws : List ℕ} (kl : KitLaws m marks ws) where
@@ -104,15 +105,18 @@ module _ (m : Model) (pf : PlainFacts m) {marks : List (List Bool)} {ws : List �
             heard-is : h k ++ (heard e c ∷ []) ≡ historyAt m k (suc (ha .place))
             heard-is = ap (λ (a : List Item). a ++ (heard e c ∷ [])) (ic .history k below) ∙ sym (ha .history-after)
 
-            logged-after : (f : ℕ) (d : Cycle) → List·Memᴰ (pairOf f d) l ⊎ Gone m ts low f d → List·Memᴰ (pairOf f d) l ⊎ Gone m (set ts k woken) low f d
+            logged-after : (f : ℕ) (d : Cycle) → List·Memᴰ (pairOf f d) l ⊎ Gone m ts low f d
+                → List·Memᴰ (pairOf f d) l ⊎ Gone m (set ts k woken) low f d
             logged-after f d (inl i) = inl i
             logged-after f d (inr g) = inr (gone-after f d g)
 
-            notified-after : (y : Notification) → (q : ℕ) × (j : ℕ) × Done m cut q j × Says m q j (y .event) × (nowAt m q ≡ y .cycle) → (q : ℕ) × (j : ℕ) × Done m later q j × Says m q j (y .event) × (nowAt m q ≡ y .cycle)
+            notified-after : (y : Notification) → (q : ℕ) × (j : ℕ) × Done m cut q j × Says m q j (y .event) × (nowAt m q ≡ y .cycle)
+                → (q : ℕ) × (j : ℕ) × Done m later q j × Says m q j (y .event) × (nowAt m q ≡ y .cycle)
             notified-after y (q, j, d, s, f) = (q, j, forth q j d, s, f)
 
       -- One look keeps a cut. A thread that hears moves on as the plain run moves it; any other stays as it is.
-      pub looked-cut : (k : ℕ) → k < m .t → (cut′ : ℕ → ℕ) × IsCut m x l (lookedAt m ws l ts k) (λ j. h j ++ lookItems m ws l ts k j) cut′ low
+      pub looked-cut : (k : ℕ) → k < m .t
+          → (cut′ : ℕ → ℕ) × IsCut m x l (lookedAt m ws l ts k) (λ j. h j ++ lookItems m ws l ts k j) cut′ low
       looked-cut k below = go (looked m ws l ts k)
         where
           go : Looked m ws l ts k → (cut′ : ℕ → ℕ) × IsCut m x l (lookedAt m ws l ts k) (λ j. h j ++ lookItems m ws l ts k j) cut′ low
@@ -124,7 +128,8 @@ module _ (m : Model) (pf : PlainFacts m) {marks : List (List Bool)} {ws : List �
           )
           go (hears c at-c) = moves (heardAt-waits m ws l ts k c at-c)
             where
-              moves : (e : ℕ) × (since : Cycle) × (viewOf (threadAt ts k .state) ≡ view.waits e since) × (heardNow m ws l ts (awaits e since) ≡ At c) → (cut′ : ℕ → ℕ) × IsCut m x l (lookedAt m ws l ts k) (λ j. h j ++ lookItems m ws l ts k j) cut′ low
+              moves : (e : ℕ) × (since : Cycle) × (viewOf (threadAt ts k .state) ≡ view.waits e since) × (heardNow m ws l ts (awaits e since) ≡ At c)
+                  → (cut′ : ℕ → ℕ) × IsCut m x l (lookedAt m ws l ts k) (λ j. h j ++ lookItems m ws l ts k j) cut′ low
               moves (e, since, w, now) = (
                 moved cut k (suc (ha .place)),
                 cut-same

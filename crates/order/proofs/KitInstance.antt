@@ -56,14 +56,16 @@ use Rattle.order.proofs.KitLaws.{Source, from-ready, from-logged, Begin
 use Rattle.order.proofs.PlainInstance.{plain-facts}
 
 -- a segment that closes ready at d has taken a step of the segment graph, whose advance leads from c to d
-closed-ready : (s : ℕ) (g : Closer) (c d : Cycle) (v : List ℕ) → viewOf (closedAt s g c v .state) ≡ view.ready d → At c ⊕ stepOf g (closedAt s g c v .segment) ≡ At d
+closed-ready : (s : ℕ) (g : Closer) (c d : Cycle) (v : List ℕ) → viewOf (closedAt s g c v .state) ≡ view.ready d
+    → At c ⊕ stepOf g (closedAt s g c v .segment) ≡ At d
 unfolding closedAt stepOf
 closed-ready s End c d v e = let z : _≡_ {A = ℕ} 0 1 = cc in absurd (omega arith)
 closed-ready s (Time k x) c d v e = rw (T→true (goesTo x (nextOf x v)) (goesTo-next x v)) (waitEnds-advance (wait.Time k) c (stateAfter-ready _ d e))
 closed-ready s (Event w x) c d v e = let z : _≡_ {A = ℕ} 0 1 = cc in absurd (omega arith)
 
 -- one that waits on an event has taken a step of one delta
-closed-waits : (s : ℕ) (g : Closer) (c since : Cycle) (v : List ℕ) (e : ℕ) → viewOf (closedAt s g c v .state) ≡ view.waits e since → stepOf g (closedAt s g c v .segment) ≡ oneDelta
+closed-waits : (s : ℕ) (g : Closer) (c since : Cycle) (v : List ℕ) (e : ℕ) → viewOf (closedAt s g c v .state) ≡ view.waits e since
+    → stepOf g (closedAt s g c v .segment) ≡ oneDelta
 unfolding closedAt stepOf
 closed-waits s End c since v e f = let z : _≡_ {A = ℕ} 0 1 = cc in absurd (omega arith)
 closed-waits s (Time k x) c since v e f = absurd (stateAfter-not-waits (waitEnds (wait.Time k) c) e since f)
@@ -120,19 +122,22 @@ module _ (m : Model) (fit : modelFault m ≡ 0) (ws : List ℕ) (begins : Begins
   next-below : (k a : ℕ) (c : Cycle) (x : List ℕ) → a < m .n → effectOf m k a c x .thread .segment < m .n
   next-below k a c x h = modelFault-keeps m fit .next k a c x h
 
-  edge-ready : (k a : ℕ) (c d : Cycle) (x : List ℕ) → viewOf (effectOf m k a c x .thread .state) ≡ view.ready d → At c ⊕ edge m a (effectOf m k a c x .thread .segment) ≡ At d
+  edge-ready : (k a : ℕ) (c d : Cycle) (x : List ℕ) → viewOf (effectOf m k a c x .thread .state) ≡ view.ready d
+      → At c ⊕ edge m a (effectOf m k a c x .thread .segment) ≡ At d
   unfolding edge segmentFor
   edge-ready k a c d x e =
       subst (λ (t : Thread). viewOf (t .state) ≡ view.ready d → At c ⊕ stepOf (segmentAt m a .closer) (t .segment) ≡ At d) (sym (effectOf-thread m k a c x))
       (closed-ready a (segmentAt m a .closer) c d (effectOf m k a c x .variables)) e
 
-  edge-waits : (k a e : ℕ) (c since : Cycle) (x : List ℕ) → viewOf (effectOf m k a c x .thread .state) ≡ view.waits e since → edge m a (effectOf m k a c x .thread .segment) ≡ oneDelta
+  edge-waits : (k a e : ℕ) (c since : Cycle) (x : List ℕ) → viewOf (effectOf m k a c x .thread .state) ≡ view.waits e since
+      → edge m a (effectOf m k a c x .thread .segment) ≡ oneDelta
   unfolding edge segmentFor
   edge-waits k a e c since x f =
       subst (λ (t : Thread). viewOf (t .state) ≡ view.waits e since → stepOf (segmentAt m a .closer) (t .segment) ≡ oneDelta) (sym (effectOf-thread m k a c x))
       (closed-waits a (segmentAt m a .closer) c since (effectOf m k a c x .variables) e) f
 
-  over-event : (k r a e : ℕ) (c since h : Cycle) (x : List ℕ) (y : Bound) → k < m .t → r < m .n → a < m .n → viewOf (effectOf m k a c x .thread .state) ≡ view.waits e since → since ⊑ h → T (isBeforeHorizon m h)
+  over-event : (k r a e : ℕ) (c since h : Cycle) (x : List ℕ) (y : Bound) → k < m .t → r < m .n → a < m .n
+      → viewOf (effectOf m k a c x .thread .state) ≡ view.waits e since → since ⊑ h → T (isBeforeHorizon m h)
       → y ⊕ distanceIn m ws r a ≼ At c → y ⊕ distanceIn m ws r (effectOf m k a c x .thread .segment) ≼ At h ⊕ oneDelta
   over-event k r a e c since h x y kt rn an f b t l =
       let start : c ⊑ h = subst (λ (z : Cycle). z ⊑ h) (effectOf-waits m k a c x e since f) b in

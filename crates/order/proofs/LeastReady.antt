@@ -27,7 +27,8 @@ use Rattle.plain_laws.proofs.WakeLaws.{floorOf-attained, someReady-some, someRe
 use Rattle.order.proofs.Floor.{not-Before→⊑, floor-below, floor-glb, finite-below}
 
 -- where none is ready before the horizon, a ready thread is not before it
-pub someReady-none : (m : Model) (ts : List Thread) → someReady m ts ≡ false → (k : ℕ) (c : Cycle) → k < m .t → viewOf (threadAt ts k .state) ≡ view.ready c → T (isBeforeHorizon m c) → ⊥
+pub someReady-none : (m : Model) (ts : List Thread) → someReady m ts ≡ false → (k : ℕ) (c : Cycle) → k < m .t
+    → viewOf (threadAt ts k .state) ≡ view.ready c → T (isBeforeHorizon m c) → ⊥
 someReady-none m ts e k c below r b =
     T-not (someReady m ts) (false→T (someReady m ts) e) (true→T (someReady m ts) (someReady-found m ts k c below r b))
 
@@ -52,7 +53,8 @@ decReady f (view.waits a c) = no (λ e. let z : _≡_ {A = ℕ} 0 1 = cc in omeg
 pub record LeastReady (m : Model) (ts : List Thread) (i : ℕ) (c : Cycle) : Type 0 where
   pub below : i < m .t
   pub ready : viewOf (threadAt ts i .state) ≡ view.ready c
-  pub least : (j : ℕ) (d : Cycle) → j < m .t → viewOf (threadAt ts j .state) ≡ view.ready d → T (isStampBefore (stampAt d j) (stampAt c i)) → ⊥
+  pub least : (j : ℕ) (d : Cycle) → j < m .t → viewOf (threadAt ts j .state) ≡ view.ready d
+      → T (isStampBefore (stampAt d j) (stampAt c i)) → ⊥
 
 -- its cycle is the floor
 pub least-floor : (m : Model) (ts : List Thread) (i : ℕ) (c : Cycle) → LeastReady m ts i c → floorOf m ts ≡ At c
@@ -61,21 +63,27 @@ least-floor m ts i c lr =
     (floor-glb m ts (At c) (λ k d below r. not-Before→⊑ (λ h. lr .least k d below r (→isStampBefore (stampAt d k) (stampAt c i) (inl h)))))
 
 -- where one is ready before the horizon, there is a least
-pub some-least : (m : Model) (ts : List Thread) → someReady m ts ≡ true → (i : ℕ) × (c : Cycle) × LeastReady m ts i c × T (isBeforeHorizon m c)
+pub some-least : (m : Model) (ts : List Thread) → someReady m ts ≡ true
+    → (i : ℕ) × (c : Cycle) × LeastReady m ts i c × T (isBeforeHorizon m c)
 some-least m ts e = found (someReady-some m ts e)
   where
-    least-at : (f : Cycle) → floorOf m ts ≡ At f → T (isBeforeHorizon m f) → (i : ℕ) × (c : Cycle) × LeastReady m ts i c × T (isBeforeHorizon m c)
+    least-at : (f : Cycle) → floorOf m ts ≡ At f → T (isBeforeHorizon m f)
+        → (i : ℕ) × (c : Cycle) × LeastReady m ts i c × T (isBeforeHorizon m c)
     least-at f fl early = go (find-first (m .t) (λ i. viewOf (threadAt ts i .state) ≡ view.ready f) (λ i. decReady f (viewOf (threadAt ts i .state)))) (floorOf-attained m ts f fl)
       where
-        go : FirstOf (m .t) (λ i. viewOf (threadAt ts i .state) ≡ view.ready f) ⊎ ((i : ℕ) → i < m .t → viewOf (threadAt ts i .state) ≡ view.ready f → ⊥) → (k : ℕ) × (k < m .t) × (viewOf (threadAt ts k .state) ≡ view.ready f) → (i : ℕ) × (c : Cycle) × LeastReady m ts i c × T (isBeforeHorizon m c)
+        go : FirstOf (m .t) (λ i. viewOf (threadAt ts i .state) ≡ view.ready f) ⊎ ((i : ℕ) → i < m .t → viewOf (threadAt ts i .state) ≡ view.ready f → ⊥)
+            → (k : ℕ) × (k < m .t) × (viewOf (threadAt ts k .state) ≡ view.ready f)
+            → (i : ℕ) × (c : Cycle) × LeastReady m ts i c × T (isBeforeHorizon m c)
         go (inr none) (k, below, r) = absurd (none k below r)
         go (inl first) _ = (first .index, f, record { below = first .below; ready = first .holds; least = λ j d below r t. smaller j d below r (isStampBefore→ (stampAt d j) (stampAt f (first .index)) t) }, early)
           where
-            smaller : (j : ℕ) (d : Cycle) → j < m .t → viewOf (threadAt ts j .state) ≡ view.ready d → StampBefore (stampAt d j) (stampAt f (first .index)) → ⊥
+            smaller : (j : ℕ) (d : Cycle) → j < m .t → viewOf (threadAt ts j .state) ≡ view.ready d
+                → StampBefore (stampAt d j) (stampAt f (first .index)) → ⊥
             smaller j d below r (inl h) = Before→not-⊑ h (subst (λ (b : Bound). b ≼ At d) fl (floor-below m ts j d below r))
             smaller j d below r (inr (p, h)) = first .first j h (subst (λ (x : Cycle). viewOf (threadAt ts j .state) ≡ view.ready x) p r)
 
-    found : (k : ℕ) × (c : Cycle) × (k < m .t) × (viewOf (threadAt ts k .state) ≡ view.ready c) × T (isBeforeHorizon m c) → (i : ℕ) × (c : Cycle) × LeastReady m ts i c × T (isBeforeHorizon m c)
+    found : (k : ℕ) × (c : Cycle) × (k < m .t) × (viewOf (threadAt ts k .state) ≡ view.ready c) × T (isBeforeHorizon m c)
+        → (i : ℕ) × (c : Cycle) × LeastReady m ts i c × T (isBeforeHorizon m c)
     found (k, c, below, r, early) =
         let (f, fl, fc) = finite-below (floorOf m ts) c (floor-below m ts k c below r) in
         least-at f fl (horizon-mono m fc early)

@@ -46,7 +46,8 @@ use Rattle.order.proofs.Drop.{rest-quiet, floor-rises, dropped-cut}
 use Rattle.order.proofs.Capacity.{Roomy, roomy-short, roomy-granted}
 use Rattle.order.proofs.Reached.{Reached, reached-log, reached-variables}
 
-pub reached-same : {m : Model} {site : Site} {ts : List Thread} {h h′ : ℕ → List Item} → ((j : ℕ) → h j ≡ h′ j) → Reached m site ts h → Reached m site ts h′
+pub reached-same : {m : Model} {site : Site} {ts : List Thread} {h h′ : ℕ → List Item} → ((j : ℕ) → h j ≡ h′ j) → Reached m site ts h
+    → Reached m site ts h′
 reached-same {m} {site} {ts} e r = subst (λ (a : ℕ → List Item). Reached m site ts a) (fun-ext e) r
 
 module _ (m : Model) (pf : PlainFacts m) {marks : List (List Bool)} {ws : List ℕ} (kl : KitLaws m marks ws) where

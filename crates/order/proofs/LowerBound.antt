@@ -83,7 +83,8 @@ module _ (m : Model) (pf : PlainFacts m) {marks : List (List Bool)} {ws : List �
     at-place k n here kt v e = subst (λ (i : ℕ). viewOf (recordAt m i k .state) ≡ v → BoundAt k i v) here (bound-at-cut k kt v) e
 
     -- a thread that still waits as at its cut, and hears at place n: earliest is not after the delta that follows
-    heard-next : (n : ℕ) → UpTo n → (k e : ℕ) (since : Cycle) → Hears m n k e since → recordAt m n k ≡ threadAt ts k → f .earliest k ≼ At (nowAt m n) ⊕ oneDelta
+    heard-next : (n : ℕ) → UpTo n → (k e : ℕ) (since : Cycle) → Hears m n k e since → recordAt m n k ≡ threadAt ts k
+        → f .earliest k ≼ At (nowAt m n) ⊕ oneDelta
     heard-next n ih k e since hear same = let (q, j, sooner, says, now) = pf .source n k e since hear in subst (λ (c : Cycle). f .earliest k ≼ At c ⊕ oneDelta) now (by q j sooner says now (decLt q (cut j)))
       where
         waits : viewOf (threadAt ts k .state) ≡ view.waits e since
@@ -107,7 +108,8 @@ module _ (m : Model) (pf : PlainFacts m) {marks : List (List Bool)} {ws : List �
     bound-idle n k same (view.waits e since) (inr p) = inr (λ c a b. subst (λ (t : Thread). boundTo k t ≼ At c ⊕ oneDelta) (sym same) (p c a b))
     bound-idle n k same view.idle p = tt
 
-    bound-run : (n k : ℕ) → k < m .t → recordAt m (suc n) k ≡ effectThere m n k .thread → far k n ≼ At (nowAt m n) → (v : View) → viewOf (recordAt m (suc n) k .state) ≡ v → BoundAt k (suc n) v
+    bound-run : (n k : ℕ) → k < m .t → recordAt m (suc n) k ≡ effectThere m n k .thread → far k n ≼ At (nowAt m n) → (v : View)
+        → viewOf (recordAt m (suc n) k .state) ≡ v → BoundAt k (suc n) v
     bound-run n k kt next p (view.ready d) e = λ b. subst (λ (t : Thread). boundTo k t ≼ At d) (sym next)
         (kl .distances .over-wait k (threadAt ts k .segment) (recordAt m n k .segment) (nowAt m n) d (placeAt m n .variables) (f .earliest k) kt (segment-cut k kt) (pf .segment-below n k kt) (ap (λ (t : Thread). viewOf (t .state)) (sym next) ∙ e) b p)
     bound-run n k kt next p (view.waits v since) e = inr (λ c a b. subst (λ (t : Thread). boundTo k t ≼ At c ⊕ oneDelta) (sym next)
@@ -119,12 +121,14 @@ module _ (m : Model) (pf : PlainFacts m) {marks : List (List Bool)} {ws : List �
     bound-heard n k next p (view.waits v since) e = absurd (stateAfter-not-waits (waitEnds wait.Event (nowAt m n)) v since (ap (λ (t : Thread). viewOf (t .state)) (sym next) ∙ e))
     bound-heard n k next p view.idle e = tt
 
-    bound-next : (n : ℕ) → UpTo n → (k : ℕ) → k < m .t → cut k ≤ n → Happens m n k → (v : View) → viewOf (recordAt m (suc n) k .state) ≡ v → BoundAt k (suc n) v
+    bound-next : (n : ℕ) → UpTo n → (k : ℕ) → k < m .t → cut k ≤ n → Happens m n k → (v : View) → viewOf (recordAt m (suc n) k .state) ≡ v
+        → BoundAt k (suc n) v
     bound-next n ih k kt from (idle same _ _ _) v e = bound-idle n k same v (ih k n (omega arith) kt from v (ap (λ (t : Thread). viewOf (t .state)) (sym same) ∙ e))
     bound-next n ih k kt from (runs r next _) v e = bound-run n k kt next (ih k n (omega arith) kt from (view.ready (nowAt m n)) (r .ready) (pf .now-before n)) v e
     bound-next n ih k kt from (hears u since hear next _) v e = bound-heard n k next (go (ih k n (omega arith) kt from (view.waits u since) (hear .waits))) v e
       where
-        go : (recordAt m n k ≡ threadAt ts k) ⊎ ((c : Cycle) → since ⊑ c → T (isBeforeHorizon m c) → far k n ≼ At c ⊕ oneDelta) → far k n ≼ At (nowAt m n) ⊕ oneDelta
+        go : (recordAt m n k ≡ threadAt ts k) ⊎ ((c : Cycle) → since ⊑ c → T (isBeforeHorizon m c) → far k n ≼ At c ⊕ oneDelta)
+            → far k n ≼ At (nowAt m n) ⊕ oneDelta
         go (inl same) = rw (far-still k n kt same) (heard-next n ih k u since hear same)
         go (inr p) = p (nowAt m n) (hear .begun) (pf .now-before n)
 

@@ -17,7 +17,8 @@ use Rattle.order.proofs.PlainInstance.{plain-facts}
 use Rattle.order.proofs.KitInstance.{marksOf-needed, kit-laws}
 use Rattle.order.proofs.Theorem.{claim}
 
-pub claim-with : (m : Model) → modelFault m ≡ 0 → (marks : List (List Bool)) → Needed m marks → (ws : List ℕ) → Begins (wordsOf m) ws → (ks : List ℕ) → Claim m marks ws ks
+pub claim-with : (m : Model) → modelFault m ≡ 0 → (marks : List (List Bool)) → Needed m marks → (ws : List ℕ) → Begins (wordsOf m) ws
+    → (ks : List ℕ) → Claim m marks ws ks
 claim-with m fit marks needed ws begins ks = claim m (plain-facts m fit) (kit-laws m fit ws begins marks needed) ks
 
 pub order-independence : OrderIndependence

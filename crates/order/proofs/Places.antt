@@ -49,6 +49,8 @@ pub record Hears (m : Model) (i k e : ℕ) (since : Cycle) : Type 0 where
 
 -- what place i does to thread k, and to its history
 pub data Happens (m : Model) (i k : ℕ) : Type 0 where
-  idle : recordAt m (suc i) k ≡ recordAt m i k → itemsAt m (placeAt m i) k ≡ [] → (Runs m i k → ⊥) → ((e : ℕ) (since : Cycle) → Hears m i k e since → ⊥) → Happens m i k
-  runs : Runs m i k → recordAt m (suc i) k ≡ effectThere m i k .thread → itemsAt m (placeAt m i) k ≡ ran (recordAt m i k .segment) (nowAt m i) ∷ [] → Happens m i k
+  idle : recordAt m (suc i) k ≡ recordAt m i k → itemsAt m (placeAt m i) k ≡ [] → (Runs m i k → ⊥)
+      → ((e : ℕ) (since : Cycle) → Hears m i k e since → ⊥) → Happens m i k
+  runs : Runs m i k → recordAt m (suc i) k ≡ effectThere m i k .thread
+      → itemsAt m (placeAt m i) k ≡ ran (recordAt m i k .segment) (nowAt m i) ∷ [] → Happens m i k
   hears : (e : ℕ) (since : Cycle) → Hears m i k e since → recordAt m (suc i) k ≡ record { segment = recordAt m i k .segment; state = stateAfter (waitEnds wait.Event (nowAt m i)) } → itemsAt m (placeAt m i) k ≡ heard e (nowAt m i) ∷ [] → Happens m i k

@@ -61,7 +61,9 @@ pub record PlainFacts (m : Model) : Type 0 where
   pub begun : (i k e : ℕ) (since : Cycle) → k < m .t → viewOf (recordAt m i k .state) ≡ view.waits e since → since ⊑ nowAt m i
   -- whoever hears, somebody notified in that cycle
   pub source : (i k e : ℕ) (since : Cycle) → Hears m i k e since → (q : ℕ) × (j : ℕ) × (q < i) × Says m q j e × (nowAt m q ≡ nowAt m i)
-  pub next-run : (n k : ℕ) (c : Cycle) → k < m .t → viewOf (recordAt m n k .state) ≡ view.ready c → T (isBeforeHorizon m c) → NextRun m n k c
+  pub next-run : (n k : ℕ) (c : Cycle) → k < m .t → viewOf (recordAt m n k .state) ≡ view.ready c → T (isBeforeHorizon m c)
+      → NextRun m n k c
   -- a thread that waits at n hears, at the latest in the cycle of any notification of its event that is not before its wait
-  pub next-hearing : (n k e q j : ℕ) (since : Cycle) → k < m .t → viewOf (recordAt m n k .state) ≡ view.waits e since → Says m q j e → since ⊑ nowAt m q → NextHearing m n k e since (nowAt m q)
+  pub next-hearing : (n k e q j : ℕ) (since : Cycle) → k < m .t → viewOf (recordAt m n k .state) ≡ view.waits e since → Says m q j e
+      → since ⊑ nowAt m q → NextHearing m n k e since (nowAt m q)
   pub ending : Ending m

@@ -112,7 +112,8 @@ module _ (m : Model) where
           quiet = λ q a d x. r .quiet .not-run q a d (runs-back q k x);
         }
 
-    hearing-there : (n k e q j : ℕ) (since : Cycle) → k < m .t → viewOf (recordAt m n k .state) ≡ view.waits e since → Says m q j e → since ⊑ nowAt m q → NextHearing m n k e since (nowAt m q)
+    hearing-there : (n k e q j : ℕ) (since : Cycle) → k < m .t → viewOf (recordAt m n k .state) ≡ view.waits e since → Says m q j e
+        → since ⊑ nowAt m q → NextHearing m n k e since (nowAt m q)
     hearing-there n k e q j since l w s b =
         let h = hear.will-hear m k n e since w q (says-back q j e s) b in
         let same : recordAt m (h .place) k ≡ recordAt m n k = h .quiet .still (h .place) (h .quiet .forth) (omega arith) in

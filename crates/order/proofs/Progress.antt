@@ -46,7 +46,8 @@ use Rattle.order.proofs.LeastReady.{LeastReady, least-floor, some-least
 module _ (m : Model) (pf : PlainFacts m) {marks : List (List Bool)} {ws : List ℕ} (kl : KitLaws m marks ws) where
   module _ {x : List ℕ} {l : List Notification} {ts : List Thread} {h : ℕ → List Item} {cut : ℕ → ℕ} (ic : IsCut m x l ts h cut (floorOf m ts)) (i : ℕ) (c : Cycle) (lr : LeastReady m ts i c) where
     -- a thread whose earliest is not after the floor is ready there, with no smaller number
-    floor-thread : (j : ℕ) (a : Cycle) → j < m .t → T (isLive (threadAt ts j .state)) → kl .forecasts l ts .earliest j ≡ At a → a ⊑ c → j < i → ⊥
+    floor-thread : (j : ℕ) (a : Cycle) → j < m .t → T (isLive (threadAt ts j .state)) → kl .forecasts l ts .earliest j ≡ At a → a ⊑ c
+        → j < i → ⊥
     floor-thread j a below live ea ac ji = go (viewOf (threadAt ts j .state)) refl live
       where
         fl : floorOf m ts ≡ At c
@@ -75,7 +76,8 @@ module _ (m : Model) (pf : PlainFacts m) {marks : List (List Bool)} {ws : List �
             earliest : ℕ → Bound
             earliest = kl .forecasts l ts .earliest
 
-            found : (j : ℕ) × (s : ℕ) × (j < m .t) × (j ≡ i → ⊥) × T (isLive (threadAt ts j .state)) × T (isSooner (boundIn m ws ts earliest j s) j (stampAt c i)) → ⊥
+            found : (j : ℕ) × (s : ℕ) × (j < m .t) × (j ≡ i → ⊥) × T (isLive (threadAt ts j .state)) × T (isSooner (boundIn m ws ts earliest j s) j (stampAt c i))
+                → ⊥
             found (j, s, below, other, live, sooner-than) = at-cycle (isSooner→ (boundIn m ws ts earliest j s) j c i sooner-than)
               where
                 at-cycle : (b : Cycle) × (boundIn m ws ts earliest j s ≡ At b) × StampBefore (stampAt b j) (stampAt c i) → ⊥
@@ -110,7 +112,8 @@ module _ (m : Model) (pf : PlainFacts m) {marks : List (List Bool)} {ws : List �
     least-room room = isFull-floor m (siteOf x l) ts i c (subst (λ (b : Bound). At c ≼ b) (sym (least-floor m ts i c lr)) ⊑-refl) (least-counted room)
 
     -- it is granted
-    pub cut-granted : Roomy (floorOf m ts) l → length l ≤ places → T (isBeforeHorizon m c) → requestOf m marks ws (siteOf x l) ts i ≡ grantedTo m ws (siteOf x l) ts i c
+    pub cut-granted : Roomy (floorOf m ts) l → length l ≤ places → T (isBeforeHorizon m c)
+        → requestOf m marks ws (siteOf x l) ts i ≡ grantedTo m ws (siteOf x l) ts i c
     cut-granted room short early =
         requestOf-granted m marks ws (siteOf x l) ts i c (record {
           fit = cut-fit m pf kl ic short;
@@ -122,13 +125,15 @@ module _ (m : Model) (pf : PlainFacts m) {marks : List (List Bool)} {ws : List �
         })
 
   -- the least ready stamp before the horizon is always granted
-  pub least-granted : (site : Site) (ts : List Thread) (h : ℕ → List Item) → Reached m site ts h → (i : ℕ) (c : Cycle) → LeastReady m ts i c → T (isBeforeHorizon m c) → requestOf m marks ws site ts i ≡ grantedTo m ws site ts i c
+  pub least-granted : (site : Site) (ts : List Thread) (h : ℕ → List Item) → Reached m site ts h → (i : ℕ) (c : Cycle)
+      → LeastReady m ts i c → T (isBeforeHorizon m c) → requestOf m marks ws site ts i ≡ grantedTo m ws site ts i c
   least-granted site ts h r i c lr early =
       subst (λ (s : Site). requestOf m marks ws s ts i ≡ grantedTo m ws s ts i c) (sym (r .site-is))
       (cut-granted (r .is-cut) i c lr (r .roomy) (r .short) early)
 
   -- where one is ready before the horizon, some thread's request is granted
-  pub some-granted : (site : Site) (ts : List Thread) (h : ℕ → List Item) → Reached m site ts h → someReady m ts ≡ true → (k : ℕ) × (c : Cycle) × (k < m .t) × (requestOf m marks ws site ts k ≡ grantedTo m ws site ts k c)
+  pub some-granted : (site : Site) (ts : List Thread) (h : ℕ → List Item) → Reached m site ts h → someReady m ts ≡ true
+      → (k : ℕ) × (c : Cycle) × (k < m .t) × (requestOf m marks ws site ts k ≡ grantedTo m ws site ts k c)
   some-granted site ts h r e =
       let (i, c, lr, early) = some-least m ts e in
       (i, c, lr .below, least-granted site ts h r i c lr early)

@@ -40,7 +40,8 @@ pub record Reached (m : Model) (site : Site) (ts : List Thread) (h : ℕ → Lis
 pub reached-log : {m : Model} {site : Site} {ts : List Thread} {h : ℕ → List Item} (r : Reached m site ts h) → logOf site ≡ r .log
 reached-log r = ap logOf (r .site-is) ∙ logOf-siteOf (r .variables) (r .log)
 
-pub reached-variables : {m : Model} {site : Site} {ts : List Thread} {h : ℕ → List Item} (r : Reached m site ts h) → site .variables .at ≡ r .variables
+pub reached-variables : {m : Model} {site : Site} {ts : List Thread} {h : ℕ → List Item} (r : Reached m site ts h)
+    → site .variables .at ≡ r .variables
 reached-variables r = ap (λ (s : Site). s .variables .at) (r .site-is) ∙ siteOf-variables (r .variables) (r .log)
 
 module _ (m : Model) (pf : PlainFacts m) {marks : List (List Bool)} {ws : List ℕ} (kl : KitLaws m marks ws) where

@@ -110,7 +110,8 @@ module _ (m : Model) (pf : PlainFacts m) (k : ℕ) (below : k < m .t) where
 
 module _ (m : Model) (pf : PlainFacts m) {marks : List (List Bool)} {ws : List ℕ} (kl : KitLaws m marks ws) where
   -- two cuts after which the threads have run equally often have the same places done
-  pub same-done : (cut cut′ : ℕ → ℕ) → ((k : ℕ) → k < m .t → runCount (historyAt m k (cut k)) ≡ runCount (historyAt m k (cut′ k))) → (q k : ℕ) → Done m cut q k → Done m cut′ q k
+  pub same-done : (cut cut′ : ℕ → ℕ) → ((k : ℕ) → k < m .t → runCount (historyAt m k (cut k)) ≡ runCount (historyAt m k (cut′ k)))
+      → (q k : ℕ) → Done m cut q k → Done m cut′ q k
   same-done cut cut′ same q k d = record { runs = d .runs; passed = go (decLt q (cut′ k)) }
     where
       go : Dec (q < cut′ k) → q < cut′ k
@@ -137,7 +138,8 @@ module _ (m : Model) (pf : PlainFacts m) {marks : List (List Bool)} {ws : List �
           same-thread : (u : Undone cut v q) → u .thread ≡ a
           same-thread u = same-runner m q (u .thread) a (u .runs-it) r
 
-          case : T (writesIn m a (recordAt m q a .segment) v) ⊎ T (not (writesIn m a (recordAt m q a .segment) v)) → Dec (q < cut a) → Dec (Undone cut v q)
+          case : T (writesIn m a (recordAt m q a .segment) v) ⊎ T (not (writesIn m a (recordAt m q a .segment) v)) → Dec (q < cut a)
+              → Dec (Undone cut v q)
           case (inl w) (no h) = yes (record { thread = a; runs-it = r; writes = w; late = h })
           case (inl w) (yes h) = no (λ u. u .late (subst (λ (b : ℕ). q < cut b) (sym (same-thread u)) h))
           case (inr w) _ = no (λ u. T-not (writesIn m a (recordAt m q a .segment) v) w (subst (λ (b : ℕ). T (writesIn m b (recordAt m q b .segment) v)) (same-thread u) (u .writes)))
@@ -177,7 +179,8 @@ module _ (m : Model) (pf : PlainFacts m) {marks : List (List Bool)} {ws : List �
           u : Undone cut v (first .index)
           u = first .holds
 
-          later : (p a : ℕ) → first .index ≤ p → Runs m p a → T (writesIn m a (recordAt m p a .segment) v) → Done m cut p a → Dec (first .index ≡ p) → ⊥
+          later : (p a : ℕ) → first .index ≤ p → Runs m p a → T (writesIn m a (recordAt m p a .segment) v) → Done m cut p a
+              → Dec (first .index ≡ p) → ⊥
           later p a h r w d (yes e) =
               let s : u .thread ≡ a = same-runner m p (u .thread) a (subst (λ (i : ℕ). Runs m i (u .thread)) e (u .runs-it)) r in
               u .late (subst₂ (λ (i b : ℕ). i < cut b) (sym e) (sym s) (d .passed))
@@ -186,7 +189,8 @@ module _ (m : Model) (pf : PlainFacts m) {marks : List (List Bool)} {ws : List �
               (record { variable = v; shared = inl (u .writes, kl .footprints .writes-uses a (recordAt m p a .segment) v w) })
 
   -- the same places done: the same variables
-  pub same-done-variables : (cut cut′ : ℕ → ℕ) (x x′ : List ℕ) → ((q k : ℕ) → Done m cut q k → Done m cut′ q k) → ((q k : ℕ) → Done m cut′ q k → Done m cut q k) → Good m cut x → Good m cut′ x′ → x ≡ x′
+  pub same-done-variables : (cut cut′ : ℕ → ℕ) (x x′ : List ℕ) → ((q k : ℕ) → Done m cut q k → Done m cut′ q k)
+      → ((q k : ℕ) → Done m cut′ q k → Done m cut q k) → Good m cut x → Good m cut′ x′ → x ≡ x′
   same-done-variables cut cut′ x x′ there back g g′ = ext-getD 0 x x′ (g .size ∙ sym (g′ .size)) (λ v h. at v (parted cut x g v))
     where
       at : (v : ℕ) → (q : ℕ) × Parts cut v q → getD x v 0 ≡ getD x′ v 0

@@ -23,10 +23,12 @@ module _ (m : Model) (pf : PlainFacts m) {marks : List (List Bool)} {ws : List �
   Cut ts is = (cut : ℕ → ℕ) × IsCut m x l ts (λ j. h j ++ is j) cut low
 
   -- one look more
-  looked-on : (ts : List Thread) (is : ℕ → List Item) (k : ℕ) → k < m .t → Cut ts is → Cut (lookedAt m ws l ts k) (λ j. is j ++ lookItems m ws l ts k j)
+  looked-on : (ts : List Thread) (is : ℕ → List Item) (k : ℕ) → k < m .t → Cut ts is
+      → Cut (lookedAt m ws l ts k) (λ j. is j ++ lookItems m ws l ts k j)
   looked-on ts is k below (cut, ic) =
       let (cut′, ic′) = looked-cut m pf kl ic (bounded m pf kl ic (kl .forecasts l ts)) k below in
       (cut′, cut-same ic′ refl (λ j. append-assoc (h j) (is j) (lookItems m ws l ts k j)))
 
-  pub settled-cut : (ts : List Thread) → (cut : ℕ → ℕ) × IsCut m x l ts h cut low → (cut : ℕ → ℕ) × IsCut m x l (settled m ws l ts) (λ j. h j ++ settledItems m ws l ts j) cut low
+  pub settled-cut : (ts : List Thread) → (cut : ℕ → ℕ) × IsCut m x l ts h cut low
+      → (cut : ℕ → ℕ) × IsCut m x l (settled m ws l ts) (λ j. h j ++ settledItems m ws l ts j) cut low
   settled-cut ts (cut, ic) = settled-carries m ws l Cut looked-on ts (cut, cut-same ic refl (λ j. sym (append-nil (h j))))

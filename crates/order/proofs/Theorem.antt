@@ -107,7 +107,8 @@ module _ (m : Model) (pf : PlainFacts m) {marks : List (List Bool)} {ws : List �
       b : Requested
       b = requestOf m marks ws site ts k
 
-      go : (a ≡ b .answer) ⊎ List·Memᴰ a (requestsOf m marks ws (b .site) (b .threads) ks .answers) → (List·Memᴰ a (requestsOf m marks ws (b .site) (b .threads) ks .answers) → ⊥) → ⊥
+      go : (a ≡ b .answer) ⊎ List·Memᴰ a (requestsOf m marks ws (b .site) (b .threads) ks .answers)
+          → (List·Memᴰ a (requestsOf m marks ws (b .site) (b .threads) ks .answers) → ⊥) → ⊥
       go (inl p) ih = requestOf-fit m marks ws site ts k (reached-fit m pf kl r) (sym p ∙ e)
       go (inr j) ih = ih j
 
@@ -134,11 +135,13 @@ module _ (m : Model) (pf : PlainFacts m) {marks marks′ : List (List Bool)} {ws
   same-variables = reached-variables-same m pf kl (after-reached m pf kl ks) (after-reached m pf kl′ js) same
 
   -- and have run the same
-  pub same-runs : (k : ℕ) → k < m .t → ranItems (afterListWith m marks ws ks .history k) ≡ ranItems (afterListWith m marks′ ws′ js .history k)
+  pub same-runs : (k : ℕ) → k < m .t
+      → ranItems (afterListWith m marks ws ks .history k) ≡ ranItems (afterListWith m marks′ ws′ js .history k)
   same-runs = reached-ran-same m pf kl (after-reached m pf kl ks) (after-reached m pf kl′ js) same
 
 -- a refused request changes nothing, whatever the model and its tables
-pub refused-same : (m : Model) (marks : List (List Bool)) (ws ks : List ℕ) (k : ℕ) → (numberOf (requestNext m marks ws ks k .answer) ≡ 0 → ⊥)
+pub refused-same : (m : Model) (marks : List (List Bool)) (ws ks : List ℕ) (k : ℕ)
+    → (numberOf (requestNext m marks ws ks k .answer) ≡ 0 → ⊥)
     → (requestNext m marks ws ks k .site ≡ afterListWith m marks ws ks .site)
     × (requestNext m marks ws ks k .threads ≡ afterListWith m marks ws ks .threads)
     × ((j : ℕ) → requestNext m marks ws ks k .items j ≡ [])
