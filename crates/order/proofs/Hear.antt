@@ -10,16 +10,14 @@ use mathlib.Core.List.{List, [], _∷_, _++_, List·Memᴰ}
 use native.Mathlib.Omega.{arith}
 use native.Mathlib.Decide.{decLt}
 use Rattle.clock.specs.declared.Cycle.{Cycle}
-use Rattle.clock.specs.declared.Wait.the-variants as wait
 use Rattle.clock.specs.declared.Bound.{Bound}
 use Rattle.clock.specs.declared.Bound.the-variants.{At}
 use Rattle.clock.specs.Order.{_⊑_, _≼_}
-use Rattle.clock.specs.Wait.{waitEnds}
 use Rattle.clock.proofs.OrderLaws.{Before→not-⊑, ⊑-antisym, ≼-trans}
 use Rattle.model.specs.declared.Model.{Model}
 use Rattle.model.specs.declared.Thread.{Thread}
 use Rattle.model.specs.Record as view
-use Rattle.model.specs.Record.{threadAt, awaits, stateAfter, viewOf}
+use Rattle.model.specs.Record.{threadAt, awaits, viewOf}
 use Rattle.plain.specs.Step.{placeAt}
 use Rattle.plain.specs.History.{Item, heard, historyAt}
 use Rattle.plain_laws.proofs.RecordLaws.{ready-not-waits, waits-event}
@@ -30,7 +28,7 @@ use Rattle.early.specs.Forecast.{forecastOf}
 use Rattle.early.specs.Deliver.{heardNow}
 use Rattle.early_laws.proofs.LogLaws.{leastHeard-≼, leastHeard-at}
 use Rattle.early_laws.proofs.LookLaws.{heardNow-at}
-use Rattle.order.proofs.Places.{nowAt, recordAt, Runs, Says, Hears, Happens, idle, runs, hears}
+use Rattle.order.proofs.Places.{nowAt, recordAt, wokenIn, Runs, Says, Hears, Happens, idle, runs, hears}
 use Rattle.order.proofs.PlainFacts.{PlainFacts, NextHearing}
 use Rattle.order.proofs.KitLaws.{boundIn, KitLaws}
 use Rattle.order.proofs.Invariant.{Done, Gone, IsCut, Bounded}
@@ -44,7 +42,7 @@ pub record HearingAt (m : Model) (n k e : ℕ) (since c : Cycle) : Type 0 where
   pub still : recordAt m place k ≡ recordAt m n k
   pub history : historyAt m k place ≡ historyAt m k n
   pub quiet : (q : ℕ) → n ≤ q → q < suc place → Runs m q k → ⊥
-  pub after : recordAt m (suc place) k ≡ record { segment = recordAt m n k .segment; state = stateAfter (waitEnds wait.Event c) }
+  pub after : recordAt m (suc place) k ≡ wokenIn (recordAt m n k .segment) c
   pub history-after : historyAt m k (suc place) ≡ historyAt m k n ++ (heard e c ∷ [])
 
 module _ (m : Model) (pf : PlainFacts m) {marks : List (List Bool)} {ws : List ℕ} (kl : KitLaws m marks ws) where
@@ -134,8 +132,8 @@ module _ (m : Model) (pf : PlainFacts m) {marks : List (List Bool)} {ws : List �
                 same-event : e′ ≡ e
                 same-event = waits-event (u .waits) (n .hears .waits)
 
-                record-after : _≡_ {A = Thread} (record { segment = recordAt m r k .segment; state = stateAfter (waitEnds wait.Event (nowAt m r)) }) (record { segment = recordAt m (cut k) k .segment; state = stateAfter (waitEnds wait.Event c) })
-                record-after = λ i. record { segment = n .still i .segment; state = stateAfter (waitEnds wait.Event (at-c i)) }
+                record-after : wokenIn (recordAt m r k .segment) (nowAt m r) ≡ wokenIn (recordAt m (cut k) k .segment) c
+                record-after = λ i. wokenIn (n .still i .segment) (at-c i)
 
                 item : historyAt m k (suc r) ≡ historyAt m k (cut k) ++ (heard e c ∷ [])
                 item = rw (historyAt-more m k r, n .history, items, same-event, at-c) refl

@@ -20,7 +20,7 @@ use Rattle.clock.proofs.WaitLaws.{waitEnds-later}
 use Rattle.model.specs.declared.Model.{Model}
 use Rattle.model.specs.declared.Thread.{Thread}
 use Rattle.model.specs.Record as view
-use Rattle.model.specs.Record.{threadAt, awaits, stateAfter, viewOf}
+use Rattle.model.specs.Record.{threadAt, awaits, viewOf}
 use Rattle.plain.specs.History.{Item, heard, historyAt}
 use Rattle.plain_laws.proofs.RecordLaws.{stateAfter-ready, stateAfter-not-waits}
 use Rattle.early.specs.declared.Notification.{Notification}
@@ -28,7 +28,7 @@ use Rattle.early.specs.Log.{pairOf}
 use Rattle.early.specs.Deliver.{heardNow, lookedAt, lookItems}
 use Rattle.early_laws.proofs.LogLaws.{leastHeard-at}
 use Rattle.early_laws.proofs.LookLaws.{Looked, unheard, hears, looked, heardNow-at, heardAt-waits, lookedAt-none, lookedAt-heard, lookItems-none, lookItems-other, lookItems-heard}
-use Rattle.order.proofs.Places.{nowAt, recordAt, Says}
+use Rattle.order.proofs.Places.{nowAt, recordAt, wokenIn, Says}
 use Rattle.order.proofs.PlainFacts.{PlainFacts}
 use Rattle.order.proofs.KitLaws.{KitLaws}
 use Rattle.order.proofs.Invariant.{Done, Gone, IsCut, Bounded, moved, adding}
@@ -51,7 +51,7 @@ module _ (m : Model) (pf : PlainFacts m) {marks : List (List Bool)} {ws : List �
       module _ (k e : ℕ) (since c : Cycle) (below : k < m .t) (w : viewOf (threadAt ts k .state) ≡ view.waits e since) (heard-now : low ≼ At c) (ha : HearingAt m (cut k) k e since c) where
         -- the record that it gets
         abbrev woken : Thread
-        woken = record { segment = threadAt ts k .segment; state = stateAfter (waitEnds wait.Event c) }
+        woken = wokenIn (threadAt ts k .segment) c
 
         abbrev later : ℕ → ℕ
         later = moved cut k (suc (ha .place))
@@ -99,8 +99,7 @@ module _ (m : Model) (pf : PlainFacts m) {marks : List (List Bool)} {ws : List �
             }
           where
             woken-is : woken ≡ recordAt m (suc (ha .place)) k
-            woken-is =
-                (λ i. record { segment = ic .records k below i .segment; state = stateAfter (waitEnds wait.Event c) }) ∙ sym (ha .after)
+            woken-is = ap (λ (t : Thread). wokenIn (t .segment) c) (ic .records k below) ∙ sym (ha .after)
 
             heard-is : h k ++ (heard e c ∷ []) ≡ historyAt m k (suc (ha .place))
             heard-is = ap (λ (a : List Item). a ++ (heard e c ∷ [])) (ic .history k below) ∙ sym (ha .history-after)

@@ -39,6 +39,10 @@ pub record Says (m : Model) (i k e : ℕ) : Type 0 where
   pub runs : Runs m i k
   pub notifies : T (has (effectThere m i k .notified) e)
 
+-- a record in segment s that hears at c
+abbrev pub wokenIn : ℕ → Cycle → Thread
+wokenIn s c = record { segment = s; state = stateAfter (waitEnds wait.Event c) }
+
 -- place i closes its cycle, and thread k, waiting on e since a cycle, hears
 pub record Hears (m : Model) (i k e : ℕ) (since : Cycle) : Type 0 where
   pub below : k < m .t
@@ -53,4 +57,5 @@ pub data Happens (m : Model) (i k : ℕ) : Type 0 where
       → ((e : ℕ) (since : Cycle) → Hears m i k e since → ⊥) → Happens m i k
   runs : Runs m i k → recordAt m (suc i) k ≡ effectThere m i k .thread
       → itemsAt m (placeAt m i) k ≡ ran (recordAt m i k .segment) (nowAt m i) ∷ [] → Happens m i k
-  hears : (e : ℕ) (since : Cycle) → Hears m i k e since → recordAt m (suc i) k ≡ record { segment = recordAt m i k .segment; state = stateAfter (waitEnds wait.Event (nowAt m i)) } → itemsAt m (placeAt m i) k ≡ heard e (nowAt m i) ∷ [] → Happens m i k
+  hears : (e : ℕ) (since : Cycle) → Hears m i k e since → recordAt m (suc i) k ≡ wokenIn (recordAt m i k .segment) (nowAt m i)
+      → itemsAt m (placeAt m i) k ≡ heard e (nowAt m i) ∷ [] → Happens m i k
