@@ -66,17 +66,22 @@ waitEnds-more k c other = go (k .0) other
 
 -- for the code: the same in words
 module _ (c : Cycle) where
-  pub heldStep-ready : c .delta .0 < lastDelta → c .time .0 < 2 ^ 64 → Ready (cycleAt (c .time .0) (c .delta .0 + 1)) ≡ heldStep (waitEnds Event c)
-  heldStep-ready h small =
-      sym
-      (ap heldStep (waitEnds-Event c ∙ nextDelta-ready c h) ∙
-      heldStep-small (Ready (cycleAt (c .time .0) (c .delta .0 + 1))) small)
+  pub event-ready : c .delta .0 < lastDelta → Ready (cycleAt (c .time .0) (c .delta .0 + 1)) ≡ waitEnds Event c
+  event-ready h = sym (waitEnds-Event c ∙ nextDelta-ready c h)
 
-  pub heldStep-overrun : lastDelta ≤ c .delta .0 → Overrun c ≡ heldStep (waitEnds Event c)
-  heldStep-overrun h = sym (ap heldStep (waitEnds-Event c ∙ nextDelta-overrun c h) ∙ heldStep-small (Overrun c) tt)
+  pub event-overrun : lastDelta ≤ c .delta .0 → Overrun c ≡ waitEnds Event c
+  event-overrun h = sym (waitEnds-Event c ∙ nextDelta-overrun c h)
 
-  pub heldStep-none : (k : Delay) → k .0 ≡ 0 → heldStep (waitEnds Event c) ≡ heldStep (waitEnds (Time k) c)
-  heldStep-none k e = ap heldStep (waitEnds-Event c ∙ sym (waitEnds-none k c e))
+  -- the next delta is in the same time
+  pub heldStep-event : c .time .0 < 2 ^ 64 → waitEnds Event c ≡ heldStep (waitEnds Event c)
+  heldStep-event small = sym (heldStep-small (waitEnds Event c) (go (decLt (c .delta .0) lastDelta)))
+    where
+      go : Dec (c .delta .0 < lastDelta) → SmallStep (waitEnds Event c)
+      go (yes h) = rw (← event-ready h) small
+      go (no h) = rw (← event-overrun (omega arith)) tt
+
+  pub heldStep-none : (k : Delay) → k .0 ≡ 0 → c .time .0 < 2 ^ 64 → waitEnds Event c ≡ heldStep (waitEnds (Time k) c)
+  heldStep-none k e small = heldStep-event small ∙ ap heldStep (waitEnds-Event c ∙ sym (waitEnds-none k c e))
 
   pub heldStep-more : (k : Delay) → (k .0 ≡ 0 → ⊥) → Ready (cycleAt ((c .time .0 + k .0) % 2 ^ 64) 0) ≡ heldStep (waitEnds (Time k) c)
   unfolding heldStep

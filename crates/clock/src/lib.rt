@@ -82,8 +82,9 @@ pub fn wait_ends(w: Wait, c: Cycle) -> Step
     }
 }
 
-fn next_delta(c: Cycle) -> Step
-    ensures { λ r. ⌜ r ≡ heldStep (waitEnds Wait.Event c) ⌝ }
+// Where a wait for an event that is notified at c leads: it adds nothing to a time.
+pub fn next_delta(c: Cycle) -> Step
+    ensures { λ r. ⌜ r ≡ waitEnds Wait.Event c ⌝ }
 {
     if c.delta.0 < 1023 {
         let t = c.time;

@@ -11,7 +11,7 @@ next-delta-requires c κs = search needs
 
 -- no units
 returns : tie.Need-returns
-returns c = c .next-delta .ensures ∙ heldStep-none _ _ (omega arith)
+returns c = c .next-delta .ensures ∙ heldStep-none _ _ (omega arith) (omega arith)
 
 cast-wrapping-add-u64 : tie.Need-cast-wrapping-add-u64
 cast-wrapping-add-u64 c = search needs

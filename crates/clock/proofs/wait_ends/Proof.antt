@@ -1,5 +1,8 @@
 -- `clock::wait_ends` meets its contract: each kind of wait by the function for it.
+use mathlib.Core.Path.{_∙_}
+use native.Mathlib.Omega.{arith}
 use borrow.Author.Needs.{needs}
+use Rattle.clock.proofs.WaitLaws.{heldStep-event}
 use Rattle.clock.proofs.wait_ends.Statement.{statement}
 use Rattle.clock.proofs.wait_ends.Tie as tie
 
@@ -17,7 +20,7 @@ after-units-requires c κs = search needs
 
 -- an event
 returns : tie.Need-returns
-returns c = rw (c .before .enum-told .given .1) (c .next-delta .ensures)
+returns c = rw (c .before .enum-told .given .1) (c .next-delta .ensures ∙ heldStep-event _ (omega arith))
 
 -- a time
 returns-2 : tie.Need-returns-2
