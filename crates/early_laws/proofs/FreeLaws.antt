@@ -1,6 +1,6 @@
 -- What document 01 leaves free of a request, and what holds of it: which marks are read, what lies past the counts, equal pairs that are handed in. That threads are
 -- looked at in any order is `settled-any` of AnyOrderLaws.
-use Prim.Native.Nat.{ℕ, zero, suc, _<_, _≤_}
+use Prim.Native.Nat.{ℕ, _<_, _≤_}
 use mathlib.Core.Path.{_≡_, refl, ap, ap₂, sym, _∙_}
 use mathlib.Core.Bool.{Bool, true, false, cond, not, _&&_, _||_}
 use mathlib.Core.List.{List, [], _∷_, _++_, append-assoc, append-nil}
@@ -29,14 +29,13 @@ use Rattle.early.specs.declared.Notification.{Notification}
 use Rattle.early.specs.Log.{places, pairOf, logOf, holds, withPair, withPairs, countedPlaces, dropBefore, isDropped}
 use Rattle.early.specs.Earliest.{earliestOf}
 use Rattle.early.specs.Hazard.{threadsConflict, isSooner, threatens, hazard}
-use Rattle.early.specs.Deliver.{swept, settledIn, settled}
 use Rattle.early.specs.Fit.{isFitPair, isUnfitThreads, isUnfitLog, isUnfitWords, isUnfit, isUnfitState}
 use Rattle.early.specs.Grant.{effectAt, logAfter, closedThreads, threadsAfter, siteAfter}
 use Rattle.early.specs.Answer.{numberOf}
 use Rattle.early.specs.Request.{Requested, isFull, refusedWith, grantedTo, requestAt, requestFit, requestOf}
 use Rattle.plain_laws.proofs.RecordLaws.{threadAt-other}
 use Rattle.early_laws.proofs.LogLaws.{logOf-siteOf}
-use Rattle.early_laws.proofs.LookLaws.{lookedAt-other}
+use Rattle.early_laws.proofs.SettleLaws.{settled-past}
 
 -- marks that are not symmetric: those in the row of the asking thread's segment are read, and no others
 module _ (m : Model) (ws : List ℕ) (ts : List Thread) (k : ℕ) (marks others : List (List Bool))
@@ -129,22 +128,11 @@ module _ (m : Model) (marks : List (List Bool)) (ws : List ℕ) (ts : List Threa
       (cond-alike (not (ltb k (m .t))) (refused-alike wrongThread (λ e. omega arith)) (requestAt-held (readyCycle (threadAt ts k .state)))))
 
 -- records past the threads stay as they are
-module _ (m : Model) (ws : List ℕ) (l : List Notification) (j : ℕ) (past : m .t ≤ j) where
-  swept-past : (ts : List Thread) (n : ℕ) → n ≤ m .t → threadAt (swept m ws l ts n) j ≡ threadAt ts j
-  unfolding swept
-  swept-past ts zero h = refl
-  swept-past ts (suc n) h = lookedAt-other m ws l (swept m ws l ts n) n j (λ e. omega arith) ∙ swept-past ts n (omega arith)
-
-  settledIn-past : (n : ℕ) (ts : List Thread) → threadAt (settledIn m ws l n ts) j ≡ threadAt ts j
-  unfolding settledIn
-  settledIn-past zero ts = refl
-  settledIn-past (suc n) ts = settledIn-past n (swept m ws l ts (m .t)) ∙ swept-past ts (m .t) (omega arith)
-
 pub threadsAfter-past : (m : Model) (ws : List ℕ) (site : Site) (ts : List Thread) (k : ℕ) (c : Cycle) (j : ℕ) → k < m .t → m .t ≤ j
     → threadAt (threadsAfter m ws site ts k c) j ≡ threadAt ts j
-unfolding threadsAfter settled closedThreads
+unfolding threadsAfter closedThreads
 threadsAfter-past m ws site ts k c j h past =
-    settledIn-past m ws (logAfter m site ts k c) j past (m .t) (closedThreads m site ts k c)
+    settled-past m ws (logAfter m site ts k c) (closedThreads m site ts k c) j past
     ∙ threadAt-other ts k j (effectAt m site ts k c .thread) (λ e. omega arith)
 
 -- pairs that are handed in, equal ones too, keep their order and their number, but for those before the floor; the new ones stand behind them

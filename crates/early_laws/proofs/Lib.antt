@@ -9,8 +9,8 @@ pub mod HazardLaws
 pub mod LookLaws
 pub mod HearLaws
 pub mod KeptLaws
-pub mod RestLaws
 pub mod SettleLaws
+pub mod RestLaws
 pub mod AnyOrderLaws
 pub mod FitLaws
 pub mod RangeLaws

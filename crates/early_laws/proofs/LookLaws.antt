@@ -29,7 +29,7 @@ use Rattle.plain_laws.proofs.RecordLaws.{threadAt-set, threadAt-other, threadAt
 use Rattle.early.specs.declared.Notification.{Notification}
 use Rattle.early.specs.Log.{leastHeard}
 use Rattle.early.specs.Forecast.{forecastOf}
-use Rattle.early.specs.Deliver.{heardNow, afterHearing, heardItems, lookedAt, lookItems}
+use Rattle.early.specs.Deliver.{Sooner, forecastSooner, heardBy, afterHearing, heardItems, lookedBy, lookItemsBy, heardNow, lookedAt, lookItems}
 
 -- what thread k hears now, or never
 abbrev pub heardAt : Model → List ℕ → List Notification → List Thread → ℕ → Bound
@@ -44,11 +44,21 @@ pub stateAfter-unawaited : (s : Step) → awaitedBy (stateAfter s) ≡ nothing
 stateAfter-unawaited (step.Ready c) = refl
 stateAfter-unawaited (step.Overrun c) = refl
 
+-- by any test: a look that hears nothing changes nothing, and one that hears changes one record
+module _ (sooner : Sooner) (l : List Notification) (ts : List Thread) (k : ℕ) where
+  pub lookedBy-none : heardBy (sooner ts) l (awaitedBy (threadAt ts k .state)) ≡ Never → lookedBy sooner l ts k ≡ ts
+  unfolding lookedBy afterHearing threadAt
+  lookedBy-none e = rw e (set-getD ts k noThread)
+
+  pub lookedBy-heard : (x : Cycle) → heardBy (sooner ts) l (awaitedBy (threadAt ts k .state)) ≡ At x → lookedBy sooner l ts k ≡ set ts k (heardThread x (threadAt ts k))
+  unfolding lookedBy afterHearing
+  lookedBy-heard x e = rw e refl
+
 module _ (m : Model) (ws : List ℕ) (l : List Notification) (ts : List Thread) where
   -- "it hears the least logged notification not before its wait, if the forecast of the event is not smaller"
 
   pub heardNow-at : (e : ℕ) (since x : Cycle) → heardNow m ws l ts (awaits e since) ≡ At x → (leastHeard l e since ≡ At x) × (At x ≼ forecastOf m ws l ts e)
-  unfolding heardNow
+  unfolding heardBy forecastSooner
   heardNow-at e since x =
       cond-case
       (λ (b : Bound). b ≡ At x → (leastHeard l e since ≡ At x) × (At x ≼ forecastOf m ws l ts e))
@@ -57,7 +67,7 @@ module _ (m : Model) (ws : List ℕ) (l : List Notification) (ts : List Thread) 
       (λ t p. (p, subst (λ (b : Bound). b ≼ forecastOf m ws l ts e) p (not-isBoundBefore→≼ (forecastOf m ws l ts e) (leastHeard l e since) t)))
 
   pub heardNow-some : (e : ℕ) (since x : Cycle) → leastHeard l e since ≡ At x → At x ≼ forecastOf m ws l ts e → heardNow m ws l ts (awaits e since) ≡ At x
-  unfolding heardNow
+  unfolding heardBy forecastSooner
   heardNow-some e since x p h =
       let t = ≼→not-isBoundBefore (forecastOf m ws l ts e) (leastHeard l e since) (subst (λ (b : Bound). b ≼ forecastOf m ws l ts e) (sym p) h) in
       rw (T→false (isBoundBefore (forecastOf m ws l ts e) (leastHeard l e since)) t) p
@@ -68,7 +78,7 @@ module _ (m : Model) (ws : List ℕ) (l : List Notification) (ts : List Thread) 
 
   -- who hears, waits, and its record stands among those lent
   pub heardAt-waits : (k : ℕ) (x : Cycle) → heardAt m ws l ts k ≡ At x → (e : ℕ) × (since : Cycle) × (viewOf (threadAt ts k .state) ≡ view.waits e since) × (heardNow m ws l ts (awaits e since) ≡ At x)
-  unfolding heardNow
+  unfolding heardBy
   heardAt-waits k x p = go (awaitedBy (threadAt ts k .state)) refl p
     where
       go : (a : Awaited) → awaitedBy (threadAt ts k .state) ≡ a → heardNow m ws l ts a ≡ At x → (e : ℕ) × (since : Cycle) × (viewOf (threadAt ts k .state) ≡ view.waits e since) × (heardNow m ws l ts (awaits e since) ≡ At x)
@@ -76,7 +86,7 @@ module _ (m : Model) (ws : List ℕ) (l : List Notification) (ts : List Thread) 
       go (awaits e since) w q = (e, since, awaits→waits (viewOf (threadAt ts k .state)) e since w, q)
 
   pub heardAt-lent : (k : ℕ) (x : Cycle) → heardAt m ws l ts k ≡ At x → k < length ts
-  unfolding heardNow
+  unfolding heardBy
   heardAt-lent k x p = go (decLt k (length ts))
     where
       go : Dec (k < length ts) → k < length ts
@@ -88,25 +98,23 @@ module _ (m : Model) (ws : List ℕ) (l : List Notification) (ts : List Thread) 
 
   -- "A delivery is looked for only if the thread waits"
   pub heardAt-other : (k : ℕ) → awaitedBy (threadAt ts k .state) ≡ nothing → heardAt m ws l ts k ≡ Never
-  unfolding heardNow
+  unfolding heardBy
   heardAt-other k e = rw e refl
 
   -- what the look makes of the records
 
   pub lookedAt-none : (k : ℕ) → heardAt m ws l ts k ≡ Never → lookedAt m ws l ts k ≡ ts
-  unfolding lookedAt afterHearing threadAt
-  lookedAt-none k e = rw e (set-getD ts k noThread)
+  lookedAt-none k e = lookedBy-none (forecastSooner m ws l) l ts k e
 
   pub lookedAt-heard : (k : ℕ) (x : Cycle) → heardAt m ws l ts k ≡ At x → lookedAt m ws l ts k ≡ set ts k (heardThread x (threadAt ts k))
-  unfolding lookedAt afterHearing
-  lookedAt-heard k x e = rw e refl
+  lookedAt-heard k x e = lookedBy-heard (forecastSooner m ws l) l ts k x e
 
   pub lookedAt-length : (k : ℕ) → length (lookedAt m ws l ts k) ≡ length ts
-  unfolding lookedAt
+  unfolding lookedBy
   lookedAt-length k = simp length-set
 
   pub lookedAt-other : (k j : ℕ) → (j ≡ k → ⊥) → threadAt (lookedAt m ws l ts k) j ≡ threadAt ts j
-  unfolding lookedAt
+  unfolding lookedBy
   lookedAt-other k j other =
       threadAt-other ts k j (record { segment = threadAt ts k .segment; state = afterHearing (heardAt m ws l ts k) (threadAt ts k .state) }) other
 
@@ -162,13 +170,13 @@ module _ (m : Model) (ws : List ℕ) (l : List Notification) (ts : List Thread) 
   -- "and the event counts as heard"
 
   pub lookItems-other : (k j : ℕ) → (j ≡ k → ⊥) → lookItems m ws l ts k j ≡ []
-  unfolding lookItems
+  unfolding lookItemsBy
   lookItems-other k j other = rw (ne-eqb j k other) refl
 
   pub lookItems-none : (k j : ℕ) → heardAt m ws l ts k ≡ Never → lookItems m ws l ts k j ≡ []
-  unfolding lookItems heardItems
+  unfolding lookItemsBy heardItems
   lookItems-none k j e = rw e (cond-case (λ (is : List Item). is ≡ []) (eqb j k) (λ t. refl) (λ t. refl))
 
   pub lookItems-heard : (k e : ℕ) (since x : Cycle) → viewOf (threadAt ts k .state) ≡ view.waits e since → heardAt m ws l ts k ≡ At x → lookItems m ws l ts k k ≡ heard e x ∷ []
-  unfolding lookItems heardItems heardItem
+  unfolding lookItemsBy heardItems heardItem
   lookItems-heard k e since x w p = rw (eq-eqb k k refl, p, w) refl

@@ -13,8 +13,9 @@ use Rattle.model.specs.declared.Thread.{Thread}
 use Rattle.model.specs.Record as view
 use Rattle.model.specs.Record.{threadAt, Awaited, nothing, awaits, awaitedBy, viewOf, awaitedOf}
 use Rattle.early.specs.declared.Notification.{Notification}
-use Rattle.early.specs.Deliver.{lookedAt, swept, settledIn, settled}
+use Rattle.early.specs.Deliver.{Sooner, forecastSooner, sweptBy, sweepsBy, lookedAt, swept, settled}
 use Rattle.early_laws.proofs.LookLaws.{heardAt, heardAt-waits, lookedAt-none, lookedAt-other, lookedAt-deaf, Looked, unheard, hears, looked}
+use Rattle.early_laws.proofs.SettleLaws.{sweepsBy-still}
 
 -- how many of the threads below n wait
 abbrev pub waitsOf : Awaited → ℕ
@@ -38,6 +39,9 @@ waitingBelow-≤ (suc n) ts =
     omega arith
 
 module _ (m : Model) (ws : List ℕ) (l : List Notification) where
+  abbrev sooner : Sooner
+  sooner = forecastSooner m ws l
+
   -- nobody hears anything
   abbrev pub Rest : List Thread → Type 0
   Rest ts = (k : ℕ) → k < m .t → heardAt m ws l ts k ≡ Never
@@ -73,7 +77,7 @@ module _ (m : Model) (ws : List ℕ) (l : List Notification) where
   -- a sweep finds nobody that hears, or leaves fewer waiting
   sweep-either : (ts : List Thread) (n : ℕ) → n ≤ m .t
       → (((k : ℕ) → k < n → heardAt m ws l ts k ≡ Never) × (swept m ws l ts n ≡ ts)) ⊎ (waitingBelow (m .t) (swept m ws l ts n) < waitingBelow (m .t) ts)
-  unfolding swept
+  unfolding sweptBy
   sweep-either ts zero h = inl ((λ k p. absurd (omega arith)), refl)
   sweep-either ts (suc n) h = go (sweep-either ts n (omega arith)) (looked m ws l us n)
     where
@@ -96,34 +100,22 @@ module _ (m : Model) (ws : List ℕ) (l : List Notification) where
       go (inr less) (unheard e) = inr (let f = ap (waitingBelow (m .t)) (lookedAt-none m ws l us n e) in omega arith)
       go (inr less) (hears x e) = inr (let fewer = waiting-fewer us n (m .t) x e (omega arith) in omega arith)
 
-  rest-swept : (ts : List Thread) (n : ℕ) → Rest ts → n ≤ m .t → swept m ws l ts n ≡ ts
-  unfolding swept
-  rest-swept ts zero rest h = refl
-  rest-swept ts (suc n) rest h = rw (rest-swept ts n rest (omega arith)) (lookedAt-none m ws l ts n (rest n h))
-
-  -- where nobody hears anything, nothing changes
-  pub rest-settledIn : (ts : List Thread) (n : ℕ) → Rest ts → settledIn m ws l n ts ≡ ts
-  unfolding settledIn
-  rest-settledIn ts zero rest = refl
-  rest-settledIn ts (suc n) rest = rw (rest-swept ts (m .t) rest (omega arith)) (rest-settledIn ts n rest)
-
-  settledIn-rest : (ts : List Thread) (n : ℕ) → waitingBelow (m .t) ts ≤ n → Rest (settledIn m ws l n ts)
-  unfolding settledIn
-  settledIn-rest ts zero h = go (sweep-either ts (m .t) (omega arith))
+  sweeps-rest : (ts : List Thread) (n : ℕ) → waitingBelow (m .t) ts ≤ n → Rest (sweepsBy sooner l (m .t) n ts)
+  unfolding sweepsBy
+  sweeps-rest ts zero h = go (sweep-either ts (m .t) (omega arith))
     where
       go : (Rest ts × (swept m ws l ts (m .t) ≡ ts)) ⊎ (waitingBelow (m .t) (swept m ws l ts (m .t)) < waitingBelow (m .t) ts) → Rest ts
       go (inl (rest, same)) = rest
       go (inr less) = absurd (omega arith)
-  settledIn-rest ts (suc n) h = go (sweep-either ts (m .t) (omega arith)) (λ p. settledIn-rest us n p)
+  sweeps-rest ts (suc n) h = go (sweep-either ts (m .t) (omega arith)) (λ p. sweeps-rest us n p)
     where
       us : List Thread
       us = swept m ws l ts (m .t)
 
-      go : (Rest ts × (us ≡ ts)) ⊎ (waitingBelow (m .t) us < waitingBelow (m .t) ts) → (waitingBelow (m .t) us ≤ n → Rest (settledIn m ws l n us)) → Rest (settledIn m ws l n us)
-      go (inl (rest, same)) ih = subst Rest (sym (ap (settledIn m ws l n) same ∙ rest-settledIn ts n rest)) rest
+      go : (Rest ts × (us ≡ ts)) ⊎ (waitingBelow (m .t) us < waitingBelow (m .t) ts) → (waitingBelow (m .t) us ≤ n → Rest (sweepsBy sooner l (m .t) n us)) → Rest (sweepsBy sooner l (m .t) n us)
+      go (inl (rest, same)) ih = subst Rest (sym (ap (sweepsBy sooner l (m .t) n) same ∙ sweepsBy-still sooner l ts (m .t) n same)) rest
       go (inr less) ih = ih (omega arith)
 
   -- "until none hears anything"
   pub settled-rest : (ts : List Thread) → Rest (settled m ws l ts)
-  unfolding settled
-  settled-rest ts = settledIn-rest ts (m .t) (waitingBelow-≤ (m .t) ts)
+  settled-rest ts = sweeps-rest ts (m .t) (waitingBelow-≤ (m .t) ts)

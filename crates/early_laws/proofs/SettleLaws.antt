@@ -1,48 +1,112 @@
--- The sweeps are looks, one after the other: what holds of the records and of what was heard so far, and is kept by every look, holds after them.
--- So they keep every segment and every record that does not wait.
-use Prim.Native.Nat.{ℕ, zero, suc, _<_, _≤_}
+-- The sweeps are looks, one after the other: what is kept by every look holds after them.
+--     sweptBy-none, sweptBy-more, sweepsBy-next, sweepsBy-done, sweepsBy-still     one look and one sweep more; the last that counts
+--     settledBy-both, settledBy-same     by two tests: what holds of both; the same, where the tests agree
+--     settled-carries, settled-length, settled-segment, settled-kept, settled-past     of the records and of what was heard so far
+use Prim.Native.Nat.{ℕ, zero, suc, _+_, _<_, _≤_, _-_}
 use mathlib.Core.Path.{_≡_, refl, ap, sym, _∙_, subst, fun-ext}
+use mathlib.Core.Bool.{Bool, cond}
 use mathlib.Core.List.{List, [], _++_, append-assoc, append-nil}
 use native.Mathlib.Omega.{arith}
+use native.Mathlib.Numerals.{add-one}
 use lib.ListN.{length}
+use Rattle.clock.specs.declared.Cycle.{Cycle}
+use Rattle.clock.specs.declared.Bound.the-variants.{Never}
 use Rattle.model.specs.declared.Model.{Model}
 use Rattle.model.specs.declared.Thread.{Thread}
-use Rattle.model.specs.Record.{threadAt, nothing, awaitedBy}
+use Rattle.model.specs.Record.{threadAt, Awaited, nothing, awaits, awaitedBy}
 use Rattle.plain.specs.History.{Item}
 use Rattle.early.specs.declared.Notification.{Notification}
-use Rattle.early.specs.Deliver.{lookedAt, lookItems, swept, sweptItems, settledIn, settledItemsIn, settled, settledItems}
-use Rattle.early_laws.proofs.LookLaws.{lookedAt-length, lookedAt-segment, lookedAt-kept}
+use Rattle.early.specs.Log.{leastHeard}
+use Rattle.early.specs.Deliver.{Sooner, forecastSooner, heardBy, lookedBy, lookItemsBy, sweptBy, sweptItemsBy, sweepsBy, sweepItemsBy, settledBy, settledItemsBy, lookedAt, lookItems, settled, settledItems}
+use Rattle.early_laws.proofs.LookLaws.{lookedAt-length, lookedAt-other, lookedAt-segment, lookedAt-kept}
+
+-- The sweeps, as the code makes them.
+module _ (sooner : Sooner) (l : List Notification) (ts : List Thread) where
+  pub sweptBy-none : sweptBy sooner l ts 0 ≡ ts
+  unfolding sweptBy
+  sweptBy-none = refl
+
+  pub sweptBy-more : (k : ℕ) → lookedBy sooner l (sweptBy sooner l ts k) k ≡ sweptBy sooner l ts (k + 1)
+  unfolding sweptBy
+  sweptBy-more k = rw add-one refl
+
+  -- the sweeps that are left
+  pub sweepsBy-next : (t n i : ℕ) → i < n → sweepsBy sooner l t (n - (i + 1)) (sweptBy sooner l ts t) ≡ sweepsBy sooner l t (n - i) ts
+  unfolding sweepsBy
+  sweepsBy-next t n i h = let e : n - i ≡ suc (n - (i + 1)) = omega arith in rw e refl
+
+  pub sweepsBy-done : (t n i : ℕ) → n ≤ i → sweepsBy sooner l t (n - i) ts ≡ ts
+  unfolding sweepsBy
+  sweepsBy-done t n i h = let e : n - i ≡ 0 = omega arith in rw e refl
+
+  -- a sweep in which nobody hears is the last
+  pub sweepsBy-still : (t n : ℕ) → sweptBy sooner l ts t ≡ ts → sweepsBy sooner l t n ts ≡ ts
+  unfolding sweepsBy
+  sweepsBy-still t zero h = refl
+  sweepsBy-still t (suc n) h = rw h (sweepsBy-still t n h)
+
+-- What holds of two lists of records and of nothing heard, and is kept by a look at both, each by its own test, holds after the sweeps of both.
+module _ (p q : Sooner) (l : List Notification) (t : ℕ) (R : List Thread → List Thread → (ℕ → List Item) → Type 0)
+    (each : (us vs : List Thread) (is : ℕ → List Item) (k : ℕ) → k < t → R us vs is → R (lookedBy p l us k) (lookedBy q l vs k) (λ j. is j ++ lookItemsBy p l us k j))
+  where
+    swept-both : (us vs : List Thread) (is : ℕ → List Item) (n : ℕ) → n ≤ t → R us vs is → R (sweptBy p l us n) (sweptBy q l vs n) (λ j. is j ++ sweptItemsBy p l us n j)
+    unfolding sweptBy sweptItemsBy
+    swept-both us vs is zero h r = subst (R us vs) (fun-ext (λ j. sym (append-nil (is j)))) r
+    swept-both us vs is (suc n) h r =
+        subst
+        (R (lookedBy p l (sweptBy p l us n) n) (lookedBy q l (sweptBy q l vs n) n))
+        (fun-ext (λ j. append-assoc (is j) (sweptItemsBy p l us n j) (lookItemsBy p l (sweptBy p l us n) n j)))
+        (each (sweptBy p l us n) (sweptBy q l vs n) (λ j. is j ++ sweptItemsBy p l us n j) n h (swept-both us vs is n (omega arith) r))
+
+    sweeps-both : (n : ℕ) (us vs : List Thread) (is : ℕ → List Item) → R us vs is → R (sweepsBy p l t n us) (sweepsBy q l t n vs) (λ j. is j ++ sweepItemsBy p l t n us j)
+    unfolding sweepsBy sweepItemsBy
+    sweeps-both zero us vs is r = subst (R us vs) (fun-ext (λ j. sym (append-nil (is j)))) r
+    sweeps-both (suc n) us vs is r =
+        let us₁ = sweptBy p l us t in
+        let vs₁ = sweptBy q l vs t in
+        subst
+        (R (sweepsBy p l t n us₁) (sweepsBy q l t n vs₁))
+        (fun-ext (λ j. append-assoc (is j) (sweptItemsBy p l us t j) (sweepItemsBy p l t n us₁ j)))
+        (sweeps-both n us₁ vs₁ (λ j. is j ++ sweptItemsBy p l us t j) (swept-both us vs is t (omega arith) r))
+
+    pub settledBy-both : (us vs : List Thread) → R us vs (λ j. []) → R (settledBy p l t us) (settledBy q l t vs) (settledItemsBy p l t us)
+    settledBy-both us vs r = sweeps-both t us vs (λ j. []) r
+
+-- Two tests that agree on what threads wait for, wherever the looks lead, settle alike.
+module _ (p q : Sooner) (l : List Notification) (t : ℕ) (Inv : List Thread → Type 0) (kept : (us : List Thread) (k : ℕ) → Inv us → Inv (lookedBy q l us k))
+    (agree : (us : List Thread) (k e : ℕ) (since : Cycle) → k < t → Inv us → awaitedBy (threadAt us k .state) ≡ awaits e since
+    → p us e (leastHeard l e since) ≡ q us e (leastHeard l e since))
+  where
+    heard-same : (us : List Thread) (k : ℕ) → k < t → Inv us → (a : Awaited) → awaitedBy (threadAt us k .state) ≡ a → heardBy (p us) l a ≡ heardBy (q us) l a
+    unfolding heardBy
+    heard-same us k h i nothing w = refl
+    heard-same us k h i (awaits e since) w = ap (λ (b : Bool). cond b Never (leastHeard l e since)) (agree us k e since h i w)
+
+    looked-same : (us : List Thread) (k : ℕ) → k < t → Inv us → lookedBy p l us k ≡ lookedBy q l us k
+    unfolding lookedBy
+    looked-same us k h i = rw (heard-same us k h i (awaitedBy (threadAt us k .state)) refl) refl
+
+    pub settledBy-same : (ts : List Thread) → Inv ts → settledBy p l t ts ≡ settledBy q l t ts
+    settledBy-same ts inv =
+        settledBy-both
+        p
+        q
+        l
+        t
+        (λ us vs is. (us ≡ vs) × Inv vs)
+        (λ us vs is k h r. (ap (λ (x : List Thread). lookedBy p l x k) (r .0) ∙ looked-same vs k h (r .1), kept vs k (r .1)))
+        ts
+        ts
+        (refl, inv) .0
 
 module _ (m : Model) (ws : List ℕ) (l : List Notification) where
   -- What holds of the records and of nothing heard, and is kept by every look, holds after the sweeps.
-  module _ (P : List Thread → (ℕ → List Item) → Type 0)
-      (each : (us : List Thread) (is : ℕ → List Item) (k : ℕ) → k < m .t → P us is → P (lookedAt m ws l us k) (λ j. is j ++ lookItems m ws l us k j))
-    where
-      swept-carries : (ts : List Thread) (is : ℕ → List Item) (n : ℕ) → n ≤ m .t → P ts is → P (swept m ws l ts n) (λ j. is j ++ sweptItems m ws l ts n j)
-      unfolding swept sweptItems
-      swept-carries ts is zero h p = subst (P ts) (fun-ext (λ j. sym (append-nil (is j)))) p
-      swept-carries ts is (suc n) h p =
-          subst
-          (P (lookedAt m ws l (swept m ws l ts n) n))
-          (fun-ext (λ j. append-assoc (is j) (sweptItems m ws l ts n j) (lookItems m ws l (swept m ws l ts n) n j)))
-          (each (swept m ws l ts n) (λ j. is j ++ sweptItems m ws l ts n j) n h (swept-carries ts is n (omega arith) p))
-
-      settledIn-carries : (n : ℕ) (ts : List Thread) (is : ℕ → List Item) → P ts is → P (settledIn m ws l n ts) (λ j. is j ++ settledItemsIn m ws l n ts j)
-      unfolding settledIn settledItemsIn
-      settledIn-carries zero ts is p = subst (P ts) (fun-ext (λ j. sym (append-nil (is j)))) p
-      settledIn-carries (suc n) ts is p =
-          subst
-          (P (settledIn m ws l n (swept m ws l ts (m .t))))
-          (fun-ext (λ j. append-assoc (is j) (sweptItems m ws l ts (m .t) j) (settledItemsIn m ws l n (swept m ws l ts (m .t)) j)))
-          (settledIn-carries
-          n
-          (swept m ws l ts (m .t))
-          (λ j. is j ++ sweptItems m ws l ts (m .t) j)
-          (swept-carries ts is (m .t) (omega arith) p))
-
-      pub settled-carries : (ts : List Thread) → P ts (λ j. []) → P (settled m ws l ts) (settledItems m ws l ts)
-      unfolding settled settledItems
-      settled-carries ts p = settledIn-carries (m .t) ts (λ j. []) p
+  pub settled-carries : (P : List Thread → (ℕ → List Item) → Type 0)
+      → ((us : List Thread) (is : ℕ → List Item) (k : ℕ) → k < m .t → P us is → P (lookedAt m ws l us k) (λ j. is j ++ lookItems m ws l us k j))
+      → (ts : List Thread) → P ts (λ j. []) → P (settled m ws l ts) (settledItems m ws l ts)
+  settled-carries P each ts h =
+      let sooner = forecastSooner m ws l in
+      settledBy-both sooner sooner l (m .t) (λ us vs is. P us is) (λ us vs is. each us is) ts ts h
 
   -- segments, the number of records, and every record that does not wait are kept
 
@@ -62,5 +126,14 @@ module _ (m : Model) (ws : List ℕ) (l : List Notification) where
       settled-carries
       (λ us is. threadAt us j ≡ threadAt ts j)
       (λ us is k h e. lookedAt-kept m ws l us k j (ap (λ (t : Thread). awaitedBy (t .state)) e ∙ w) ∙ e)
+      ts
+      refl
+
+  -- "records past those are neither read nor written"
+  pub settled-past : (ts : List Thread) (j : ℕ) → m .t ≤ j → threadAt (settled m ws l ts) j ≡ threadAt ts j
+  settled-past ts j past =
+      settled-carries
+      (λ us is. threadAt us j ≡ threadAt ts j)
+      (λ us is k h e. lookedAt-other m ws l us k j (λ same. omega arith) ∙ e)
       ts
       refl
