@@ -1,5 +1,5 @@
 -- Closed examples: the forecast below, at and above a notification; the threads below, at and past the count.
--- The other comparisons are those of `early`, which `SettledLaws` proves them to be, and of `early_limits`.
+-- The other comparisons are those of `early` and of `early_limits`.
 use mathlib.Core.Path.{_≡_, refl}
 use mathlib.Core.List.{[], _∷_}
 use lib.ListN.{getD}
@@ -7,18 +7,19 @@ use Rattle.clock.specs.declared.Bound.the-variants.{Never}
 use Rattle.clock.specs.Cycle.{cycleAt}
 use Rattle.model.specs.Record.{nothing, awaits}
 use Rattle.tables.specs.Word.{allOnes}
+use Rattle.early.specs.Deliver.{heardBy}
 use Rattle.early.proofs.EdgeModels.{boundAt, note, readyIn, waitingIn, endedIn}
 use Rattle.early_limits.proofs.Computed.{computed}
-use Rattle.early_deliver.specs.Awake.{floorBelow, firstLimits, heardBy}
+use Rattle.early_deliver.specs.Awake.{floorBelow, firstLimits, soonerAt}
 
 -- one thread, whose limit is the forecast; a notification at (2, 0)
-pub heardBy-edges :
-    (heardBy (0 ∷ []) 1 (note 0 2 0 ∷ []) (0 ∷ []) (131071 ∷ []) (awaits 0 (cycleAt 0 0)) ≡ Never) ×
-    (heardBy (0 ∷ []) 1 (note 0 2 0 ∷ []) (0 ∷ []) (131072 ∷ []) (awaits 0 (cycleAt 0 0)) ≡ boundAt 2 0) ×
-    (heardBy (0 ∷ []) 1 (note 0 2 0 ∷ []) (0 ∷ []) (131073 ∷ []) (awaits 0 (cycleAt 0 0)) ≡ boundAt 2 0) ×
-    (heardBy (0 ∷ []) 1 (note 0 2 0 ∷ []) (0 ∷ []) (131073 ∷ []) nothing ≡ Never)
-unfolding computed heardBy
-heardBy-edges = (refl, refl, refl, refl)
+pub soonerAt-edges :
+    (heardBy (soonerAt (0 ∷ []) 1 (0 ∷ []) (131071 ∷ [])) (note 0 2 0 ∷ []) (awaits 0 (cycleAt 0 0)) ≡ Never) ×
+    (heardBy (soonerAt (0 ∷ []) 1 (0 ∷ []) (131072 ∷ [])) (note 0 2 0 ∷ []) (awaits 0 (cycleAt 0 0)) ≡ boundAt 2 0) ×
+    (heardBy (soonerAt (0 ∷ []) 1 (0 ∷ []) (131073 ∷ [])) (note 0 2 0 ∷ []) (awaits 0 (cycleAt 0 0)) ≡ boundAt 2 0) ×
+    (heardBy (soonerAt (0 ∷ []) 1 (0 ∷ []) (131073 ∷ [])) (note 0 2 0 ∷ []) nothing ≡ Never)
+unfolding computed soonerAt
+soonerAt-edges = (refl, refl, refl, refl)
 
 -- ready at (1, 0); waiting, with a notification at (2, 0); ready, but past the count
 pub firstLimits-edges :

@@ -1,22 +1,20 @@
 -- Deliveries as the code makes them, exit by exit.
 --     heardBy-..     what a state hears
---     lookedOn-none, lookedOn-heard     one look
---     swept-.., settled-..     the loops
-use Prim.Native.Nat.{ℕ, zero, suc, _+_, _<_, _≤_, _-_}
+--     outlook-..     what the code holds of records
+--     look-.., sweep-more, settle-..     one look, and the loops
+use Prim.Native.Nat.{ℕ, _+_, _<_, _≤_, _-_}
 use mathlib.Core.Path.{_≡_, refl, ap, sym, _∙_}
 use mathlib.Core.Bool.{Bool, true, false, cond}
 use mathlib.Core.List.{List}
 use native.Mathlib.Omega.{arith}
-use native.Mathlib.Numerals.{add-one}
 use lib.Dec.{ltb}
 use lib.ListN.{set, getD}
-use lib.Seq.{set-getD}
 use borrow.Author.Tests.{lt-ltb, le-ltb}
 use Rattle.clock.specs.declared.Cycle.{Cycle}
 use Rattle.clock.specs.declared.Wait.the-variants as wait
 use Rattle.clock.specs.declared.Bound.{Bound}
 use Rattle.clock.specs.declared.Bound.the-variants.{Never, At}
-use Rattle.clock.specs.Wait.{waitEnds, heldStep}
+use Rattle.clock.specs.Wait.{waitEnds}
 use Rattle.model.specs.declared.State.{State}
 use Rattle.model.specs.declared.Thread.{Thread}
 use Rattle.model.specs.declared.Threads.{Threads}
@@ -24,37 +22,40 @@ use Rattle.model.specs.Record as view
 use Rattle.model.specs.Record.{noThread, threadAt, nothing, awaitedBy, stateAfter, viewOf}
 use Rattle.early.specs.declared.Notification.{Notification}
 use Rattle.early.specs.Log.{leastHeard}
+use Rattle.early.specs.Deliver.{heardBy, lookedBy, sweptBy, sweepsBy}
+use Rattle.early_laws.proofs.LookLaws.{lookedBy-none, lookedBy-heard}
+use Rattle.early_laws.proofs.SettleLaws.{sweptBy-more, sweepsBy-next, sweepsBy-still}
 use Rattle.early_limits.specs.declared.Crew.{Crew}
 use Rattle.early_limits.specs.declared.Limits.{Limits}
 use Rattle.early_limits.specs.Limit.{limitOfCycle}
 use Rattle.early_limits.specs.Ahead.{forecastAt, earliestLimits, segmentsOf, eventsOf}
 use Rattle.early_deliver.specs.declared.Outlook.{Outlook}
-use Rattle.early_deliver.specs.Awake.{crewOf, firstLimits, aheadOf, outlookOf, heardBy, lookedOn, sweptOn, settledOn}
+use Rattle.early_deliver.specs.Awake.{crewOf, firstLimits, aheadOf, soonerAt, soonerOn, outlookOf}
 
 true-not-false : true ≡ false → ⊥
 true-not-false e = let z : _≡_ {A = ℕ} 0 1 = cc in omega arith
 
 module _ (reach : List ℕ) (t : ℕ) (l : List Notification) where
   module _ (segments xs : List ℕ) (s : State) where
-    pub heardBy-other : awaitedBy s ≡ nothing → Never ≡ heardBy reach t l segments xs (awaitedBy s)
+    pub heardBy-other : awaitedBy s ≡ nothing → Never ≡ heardBy (soonerAt reach t segments xs) l (awaitedBy s)
     unfolding heardBy
     heardBy-other h = rw h refl
 
     module _ (e : ℕ) (since : Cycle) (waits : viewOf s ≡ view.waits e since) where
-      pub heardBy-none : leastHeard l e since ≡ Never → Never ≡ heardBy reach t l segments xs (awaitedBy s)
-      unfolding heardBy
+      pub heardBy-none : leastHeard l e since ≡ Never → Never ≡ heardBy (soonerAt reach t segments xs) l (awaitedBy s)
+      unfolding heardBy soonerAt
       heardBy-none h = rw (waits, h) (go (ltb (forecastAt reach segments xs t e) 18446744073709551615))
         where
           go : (b : Bool) → Never ≡ cond b Never Never
           go true = refl
           go false = refl
 
-      pub heardBy-sooner : (c : Cycle) → leastHeard l e since ≡ At c → forecastAt reach segments xs t e < limitOfCycle c → Never ≡ heardBy reach t l segments xs (awaitedBy s)
-      unfolding heardBy
+      pub heardBy-sooner : (c : Cycle) → leastHeard l e since ≡ At c → forecastAt reach segments xs t e < limitOfCycle c → Never ≡ heardBy (soonerAt reach t segments xs) l (awaitedBy s)
+      unfolding heardBy soonerAt
       heardBy-sooner c h k = rw (waits, h, lt-ltb (forecastAt reach segments xs t e) (limitOfCycle c) k) refl
 
-      pub heardBy-now : (c : Cycle) → leastHeard l e since ≡ At c → limitOfCycle c ≤ forecastAt reach segments xs t e → At c ≡ heardBy reach t l segments xs (awaitedBy s)
-      unfolding heardBy
+      pub heardBy-now : (c : Cycle) → leastHeard l e since ≡ At c → limitOfCycle c ≤ forecastAt reach segments xs t e → At c ≡ heardBy (soonerAt reach t segments xs) l (awaitedBy s)
+      unfolding heardBy soonerAt
       heardBy-now c h k = rw (waits, h, le-ltb (forecastAt reach segments xs t e) (limitOfCycle c) k) refl
 
   -- what the code holds of records
@@ -68,54 +69,24 @@ module _ (reach : List ℕ) (t : ℕ) (l : List Notification) where
       rw (p, e) refl
 
   -- one look, by what is heard on the limits that are held
-  module _ (o : Outlook) (kept : o ≡ outlookOf reach t l (o .threads .at) (o .heard)) where
-    held-segments : o .crew .segments ≡ segmentsOf t (o .threads .at)
-    unfolding outlookOf crewOf
-    held-segments = ap (λ (p : Outlook). p .crew .segments) kept
+  module _ (o : Outlook) (kept : o ≡ outlookOf reach t l (o .threads .at) (o .heard)) (k : ℕ) (b : Bound)
+      (hears : b ≡ heardBy (soonerAt reach t (o .crew .segments) (o .limits .at)) l (awaitedBy (getD (o .threads .at) k noThread .state)))
+    where
+      held-sooner : soonerAt reach t (o .crew .segments) (o .limits .at) ≡ soonerOn reach t l (o .threads .at)
+      unfolding outlookOf crewOf soonerOn
+      held-sooner = ap (λ (p : Outlook). soonerAt reach t (p .crew .segments) (p .limits .at)) kept
 
-    held-limits : o .limits .at ≡ aheadOf reach t l (o .threads .at)
-    unfolding outlookOf
-    held-limits = ap (λ (p : Outlook). p .limits .at) kept
+      heard-now : heardBy (soonerOn reach t l (o .threads .at)) l (awaitedBy (threadAt (o .threads .at) k .state)) ≡ b
+      unfolding threadAt
+      heard-now = rw (← held-sooner) (sym hears)
 
-    module _ (k : ℕ) (b : Bound) (hears : b ≡ heardBy reach t l (o .crew .segments) (o .limits .at) (awaitedBy (getD (o .threads .at) k noThread .state))) where
-      pub lookedOn-none : b ≡ Never → o ≡ outlookOf reach t l (lookedOn reach t l (o .threads .at) k) (o .heard)
-      unfolding lookedOn threadAt
-      lookedOn-none h =
-          let e : heardBy reach t l (segmentsOf t (o .threads .at)) (aheadOf reach t l (o .threads .at)) (awaitedBy (getD (o .threads .at) k noThread .state)) ≡ Never =
-          rw (← held-segments, ← held-limits) (sym hears ∙ h) in
-          rw (e, set-getD (o .threads .at) k noThread) kept
+      pub look-none : b ≡ Never → o ≡ outlookOf reach t l (lookedBy (soonerOn reach t l) l (o .threads .at) k) (o .heard)
+      look-none h = rw (lookedBy-none (soonerOn reach t l) l (o .threads .at) k (heard-now ∙ h)) kept
 
-      pub lookedOn-heard : (c : Cycle) (s : State) → b ≡ At c → s ≡ stateAfter (heldStep (waitEnds wait.Event c))
-          → set (o .threads .at) k (record { segment = getD (o .threads .at) k noThread .segment; state = s }) ≡ lookedOn reach t l (o .threads .at) k
-      unfolding lookedOn threadAt
-      lookedOn-heard c s h f =
-          let e : heardBy reach t l (segmentsOf t (o .threads .at)) (aheadOf reach t l (o .threads .at)) (awaitedBy (getD (o .threads .at) k noThread .state)) ≡ At c =
-          rw (← held-segments, ← held-limits) (sym hears ∙ h) in
-          rw (e, f) refl
-
-  -- a sweep
-  pub sweptOn-none : (ts : List Thread) → sweptOn reach t l ts 0 ≡ ts
-  unfolding sweptOn
-  sweptOn-none ts = refl
-
-  pub sweptOn-more : (ts : List Thread) (k : ℕ) → lookedOn reach t l (sweptOn reach t l ts k) k ≡ sweptOn reach t l ts (k + 1)
-  unfolding sweptOn
-  sweptOn-more ts k = rw add-one refl
-
-  -- the sweeps that are left
-  pub settledOn-next : (ts : List Thread) (n i : ℕ) → i < n → settledOn reach t l (n - (i + 1)) (sweptOn reach t l ts t) ≡ settledOn reach t l (n - i) ts
-  unfolding settledOn
-  settledOn-next ts n i h = let e : n - i ≡ suc (n - (i + 1)) = omega arith in rw e refl
-
-  pub settledOn-done : (ts : List Thread) (n i : ℕ) → n ≤ i → settledOn reach t l (n - i) ts ≡ ts
-  unfolding settledOn
-  settledOn-done ts n i h = let e : n - i ≡ 0 = omega arith in rw e refl
-
-  -- a sweep in which nobody hears is the last
-  pub settledOn-still : (ts : List Thread) (n : ℕ) → sweptOn reach t l ts t ≡ ts → settledOn reach t l n ts ≡ ts
-  unfolding settledOn
-  settledOn-still ts zero h = refl
-  settledOn-still ts (suc n) h = rw h (settledOn-still ts n h)
+      pub look-set : (c : Cycle) (s : State) → b ≡ At c → s ≡ stateAfter (waitEnds wait.Event c)
+          → set (o .threads .at) k (record { segment = getD (o .threads .at) k noThread .segment; state = s }) ≡ lookedBy (soonerOn reach t l) l (o .threads .at) k
+      unfolding threadAt
+      look-set c s h f = rw (f, lookedBy-heard (soonerOn reach t l) l (o .threads .at) k c (heard-now ∙ h)) refl
 
   -- an outlook says what its records are
   module _ (o : Outlook) (ts : List Thread) (heard : Bool) (e : o ≡ outlookOf reach t l ts heard) where
@@ -147,20 +118,24 @@ module _ (reach : List ℕ) (t : ℕ) (l : List Notification) where
       let h = outlook-heard r us true e in
       (e ∙ (ap (outlookOf reach t l us) (sym h) ∙ ap (λ (ws : List Thread). outlookOf reach t l ws (r .heard)) f), λ g. let z : true ≡ false = sym h ∙ g in absurd (true-not-false z))
 
-  pub sweep-more : (o w : Outlook) (ts : List Thread) (k : ℕ) → o ≡ outlookOf reach t l (sweptOn reach t l ts k) (o .heard)
-      → w ≡ outlookOf reach t l (lookedOn reach t l (o .threads .at) k) (w .heard) → w ≡ outlookOf reach t l (sweptOn reach t l ts (k + 1)) (w .heard)
-  sweep-more o w ts k e f = f ∙ ap (λ (us : List Thread). outlookOf reach t l us (w .heard)) (ap (λ (us : List Thread). lookedOn reach t l us k) (outlook-threads o (sweptOn reach t l ts k) (o .heard) e) ∙ sweptOn-more ts k)
+  pub sweep-more : (o w : Outlook) (ts : List Thread) (k : ℕ) → o ≡ outlookOf reach t l (sweptBy (soonerOn reach t l) l ts k) (o .heard)
+      → w ≡ outlookOf reach t l (lookedBy (soonerOn reach t l) l (o .threads .at) k) (w .heard) → w ≡ outlookOf reach t l (sweptBy (soonerOn reach t l) l ts (k + 1)) (w .heard)
+  sweep-more o w ts k e f =
+      f
+      ∙ ap
+      (λ (us : List Thread). outlookOf reach t l us (w .heard))
+      (ap (λ (us : List Thread). lookedBy (soonerOn reach t l) l us k) (outlook-threads o (sweptBy (soonerOn reach t l) l ts k) (o .heard) e)
+      ∙ sweptBy-more (soonerOn reach t l) l ts k)
 
   -- for the code: a turn of the sweeps, and the last
-  module _ (o w : Outlook) (swept : w ≡ outlookOf reach t l (sweptOn reach t l (o .threads .at) t) (w .heard)) (us : List Thread) (i : ℕ)
-      (left : settledOn reach t l (t - i) (o .threads .at) ≡ us)
+  module _ (o w : Outlook) (swept : w ≡ outlookOf reach t l (sweptBy (soonerOn reach t l) l (o .threads .at) t) (w .heard)) (us : List Thread) (i : ℕ)
+      (left : sweepsBy (soonerOn reach t l) l t (t - i) (o .threads .at) ≡ us)
     where
-      pub settle-more : i < t → settledOn reach t l (t - (i + 1)) (w .threads .at) ≡ us
-      settle-more h =
-          ap (settledOn reach t l (t - (i + 1))) (outlook-threads w (sweptOn reach t l (o .threads .at) t) (w .heard) swept)
-          ∙ (settledOn-next (o .threads .at) t i h ∙ left)
+      after : w .threads .at ≡ sweptBy (soonerOn reach t l) l (o .threads .at) t
+      after = outlook-threads w (sweptBy (soonerOn reach t l) l (o .threads .at) t) (w .heard) swept
+
+      pub settle-more : i < t → sweepsBy (soonerOn reach t l) l t (t - (i + 1)) (w .threads .at) ≡ us
+      settle-more h = ap (sweepsBy (soonerOn reach t l) l t (t - (i + 1))) after ∙ (sweepsBy-next (soonerOn reach t l) l (o .threads .at) t t i h ∙ left)
 
       pub settle-still : w .threads .at ≡ o .threads .at → w .threads .at ≡ us
-      settle-still h =
-          let e = sym (outlook-threads w (sweptOn reach t l (o .threads .at) t) (w .heard) swept) ∙ h in
-          h ∙ (sym (settledOn-still (o .threads .at) (t - i) e) ∙ left)
+      settle-still h = h ∙ (sym (sweepsBy-still (soonerOn reach t l) l (o .threads .at) t (t - i) (sym after ∙ h)) ∙ left)

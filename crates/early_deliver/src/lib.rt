@@ -12,12 +12,13 @@ use model::Threads;
 ghost use Prim.Native.Nat.{_<_, _≤_};
 ghost use mathlib.Core.Path.{_≡_};
 ghost use mathlib.Core.Bool.{false};
-ghost use Rattle.clock.specs.Wait.{waitEnds, heldStep};
+ghost use Rattle.clock.specs.Wait.{waitEnds};
 ghost use Rattle.model.specs.Record.{awaitedBy, stateAfter};
 ghost use Rattle.early.specs.Log.{logOf};
+ghost use Rattle.early.specs.Deliver.{heardBy, lookedBy, sweptBy, settledBy};
 ghost use Rattle.early_limits.specs.Limit.{sumOf, atMost};
 ghost use Rattle.early_limits.specs.Ahead.{eventAwaited};
-ghost use Rattle.early_deliver.specs.Awake.{floorBelow, crewOf, boundLimit, firstLimit, firstLimits, outlookOf, heardBy, lookedOn, sweptOn, settledOn};
+ghost use Rattle.early_deliver.specs.Awake.{floorBelow, crewOf, boundLimit, firstLimit, firstLimits, soonerAt, soonerOn, outlookOf};
 
 // A limit that stands for never, and the least that does so in a sum.
 const NEVER: u64 = 18446744073709551615;
@@ -140,7 +141,7 @@ fn outlook_with(reach: &[u64], site: Site, threads: Threads, t: u8, heard: bool)
 
 // Document 01: "A delivery is looked for only if the thread waits".
 fn heard_by(reach: &[u64], site: Site, crew: Crew, xs: Limits, t: u8, s: State) -> Bound
-    ensures { λ r. ⌜ r ≡ heardBy (now (reach .entry)) t (logOf site) (crew .segments) (xs .at) (awaitedBy s) ⌝ }
+    ensures { λ r. ⌜ r ≡ heardBy (soonerAt (now (reach .entry)) t (crew .segments) (xs .at)) (logOf site) (awaitedBy s) ⌝ }
 {
     let State::Waiting(e, since) = s else {
         return Bound::Never;
@@ -156,9 +157,9 @@ fn heard_by(reach: &[u64], site: Site, crew: Crew, xs: Limits, t: u8, s: State) 
 
 // Document 01: "It then becomes ready or overrun as in the plain run".
 fn woken_at(c: Cycle) -> State
-    ensures { λ r. ⌜ r ≡ stateAfter (heldStep (waitEnds Wait.Event c)) ⌝ }
+    ensures { λ r. ⌜ r ≡ stateAfter (waitEnds Wait.Event c) ⌝ }
 {
-    match clock::wait_ends(Wait::Event, c) {
+    match clock::next_delta(c) {
         Step::Ready(d) => State::Ready(d),
         Step::Overrun(d) => State::Overrun(d),
     }
@@ -169,7 +170,7 @@ fn look(reach: &[u64], site: Site, o: Outlook, t: u8, k: usize) -> Outlook
     requires { ⌜ t ≤ 32 ⌝ }
     requires { ⌜ k < t ⌝ }
     requires { ⌜ o ≡ outlookOf (now reach) t (logOf site) (o .threads .at) (o .heard) ⌝ }
-    ensures seen { λ r. ⌜ r ≡ outlookOf (now (reach .entry)) t (logOf site) (lookedOn (now (reach .entry)) t (logOf site) (o .threads .at) k) (r .heard) ⌝ }
+    ensures seen { λ r. ⌜ r ≡ outlookOf (now (reach .entry)) t (logOf site) (lookedBy (soonerOn (now (reach .entry)) t (logOf site)) (logOf site) (o .threads .at) k) (r .heard) ⌝ }
     ensures still { λ r. ⌜ (r .heard ≡ false → (o .heard ≡ false) × (r .threads .at ≡ o .threads .at)) ⌝ }
 {
     let mut threads = o.threads;
@@ -192,7 +193,7 @@ fn look(reach: &[u64], site: Site, o: Outlook, t: u8, k: usize) -> Outlook
 fn sweep(reach: &[u64], site: Site, o: Outlook, t: u8) -> Outlook
     requires { ⌜ t ≤ 32 ⌝ }
     requires { ⌜ o ≡ outlookOf (now reach) t (logOf site) (o .threads .at) (o .heard) ⌝ }
-    ensures seen { λ r. ⌜ r ≡ outlookOf (now (reach .entry)) t (logOf site) (sweptOn (now (reach .entry)) t (logOf site) (o .threads .at) t) (r .heard) ⌝ }
+    ensures seen { λ r. ⌜ r ≡ outlookOf (now (reach .entry)) t (logOf site) (sweptBy (soonerOn (now (reach .entry)) t (logOf site)) (logOf site) (o .threads .at) t) (r .heard) ⌝ }
     ensures still { λ r. ⌜ (r .heard ≡ false → r .threads .at ≡ o .threads .at) ⌝ }
 {
     let n = wide(t);
@@ -216,7 +217,7 @@ fn sweep(reach: &[u64], site: Site, o: Outlook, t: u8) -> Outlook
 // Document 01: "again and again until none hears anything".
 fn settle_below(reach: &[u64], site: Site, threads: Threads, t: u8) -> Threads
     requires { ⌜ t ≤ 32 ⌝ }
-    ensures { λ r. ⌜ r .at ≡ settledOn (now (reach .entry)) t (logOf site) t (threads .at) ⌝ }
+    ensures { λ r. ⌜ r .at ≡ settledBy (soonerOn (now (reach .entry)) t (logOf site)) (logOf site) t (threads .at) ⌝ }
 {
     let n = wide(t);
     let mut o = outlook_with(reach, site, threads, t, false);
@@ -256,7 +257,7 @@ pub fn outlook_of(reach: &[u64], site: Site, threads: Threads, t: u8) -> Outlook
 
 // The records after all deliveries.
 pub fn settle(reach: &[u64], site: Site, threads: Threads, t: u8) -> Threads
-    ensures { λ r. ⌜ r .at ≡ settledOn (now (reach .entry)) (atMost 32 t) (logOf site) (atMost 32 t) (threads .at) ⌝ }
+    ensures { λ r. ⌜ r .at ≡ settledBy (soonerOn (now (reach .entry)) (atMost 32 t) (logOf site)) (logOf site) (atMost 32 t) (threads .at) ⌝ }
 {
     settle_below(reach, site, threads, few(t))
 }

@@ -13,7 +13,8 @@ use Rattle.clock.specs.declared.Cycle.{Cycle}
 use Rattle.clock.specs.declared.Bound.the-variants.{Never}
 use Rattle.model.specs.declared.Model.{Model}
 use Rattle.model.specs.declared.Thread.{Thread}
-use Rattle.model.specs.Record.{threadAt, Awaited, nothing, awaits, awaitedBy}
+use Rattle.model.specs.Record as view
+use Rattle.model.specs.Record.{threadAt, View, viewOf, nothing, awaitedOf, awaitedBy}
 use Rattle.plain.specs.History.{Item}
 use Rattle.early.specs.declared.Notification.{Notification}
 use Rattle.early.specs.Log.{leastHeard}
@@ -74,17 +75,18 @@ module _ (p q : Sooner) (l : List Notification) (t : ℕ) (R : List Thread → L
 
 -- Two tests that agree on what threads wait for, wherever the looks lead, settle alike.
 module _ (p q : Sooner) (l : List Notification) (t : ℕ) (Inv : List Thread → Type 0) (kept : (us : List Thread) (k : ℕ) → Inv us → Inv (lookedBy q l us k))
-    (agree : (us : List Thread) (k e : ℕ) (since : Cycle) → k < t → Inv us → awaitedBy (threadAt us k .state) ≡ awaits e since
+    (agree : (us : List Thread) (k e : ℕ) (since : Cycle) → k < t → Inv us → viewOf (threadAt us k .state) ≡ view.waits e since
     → p us e (leastHeard l e since) ≡ q us e (leastHeard l e since))
   where
-    heard-same : (us : List Thread) (k : ℕ) → k < t → Inv us → (a : Awaited) → awaitedBy (threadAt us k .state) ≡ a → heardBy (p us) l a ≡ heardBy (q us) l a
+    heard-same : (us : List Thread) (k : ℕ) → k < t → Inv us → (v : View) → viewOf (threadAt us k .state) ≡ v → heardBy (p us) l (awaitedOf v) ≡ heardBy (q us) l (awaitedOf v)
     unfolding heardBy
-    heard-same us k h i nothing w = refl
-    heard-same us k h i (awaits e since) w = ap (λ (b : Bool). cond b Never (leastHeard l e since)) (agree us k e since h i w)
+    heard-same us k h i view.idle w = refl
+    heard-same us k h i (view.ready c) w = refl
+    heard-same us k h i (view.waits e since) w = ap (λ (b : Bool). cond b Never (leastHeard l e since)) (agree us k e since h i w)
 
     looked-same : (us : List Thread) (k : ℕ) → k < t → Inv us → lookedBy p l us k ≡ lookedBy q l us k
     unfolding lookedBy
-    looked-same us k h i = rw (heard-same us k h i (awaitedBy (threadAt us k .state)) refl) refl
+    looked-same us k h i = rw (heard-same us k h i (viewOf (threadAt us k .state)) refl) refl
 
     pub settledBy-same : (ts : List Thread) → Inv ts → settledBy p l t ts ≡ settledBy q l t ts
     settledBy-same ts inv =

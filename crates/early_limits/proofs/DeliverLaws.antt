@@ -1,6 +1,6 @@
 -- A state stays fit through a grant, looks and sweeps.
 use Prim.Native.Nat.{ℕ, _<_}
-use mathlib.Core.Path.{_≡_, ap}
+use mathlib.Core.Path.{_≡_}
 use mathlib.Core.Logic.{_⊎_, inl, inr}
 use mathlib.Core.Bool.{true, false}
 use mathlib.Core.List.{List}
@@ -17,7 +17,7 @@ use Rattle.model.specs.declared.Model.{Model}
 use Rattle.model.specs.declared.Thread.{Thread}
 use Rattle.model.specs.Limits.{isBeforeHorizon}
 use Rattle.model.specs.Footprint.{has}
-use Rattle.model.specs.Record.{threadAt, viewOf, readyCycle}
+use Rattle.model.specs.Record.{threadAt, readyCycle}
 use Rattle.plain_laws.proofs.RecordLaws.{stateAfter-not-waits, horizon→<, heard-time, heard-delta}
 use Rattle.plain_laws.proofs.RangeLaws.{Keeps}
 use Rattle.plain_laws.proofs.KeepLaws.{modelFault-keeps}
@@ -61,7 +61,7 @@ module _ (m : Model) (ws : List ℕ) (l : List Notification) where
       (record {
         segment = fit-segment fit k h;
         cycle = record { time = omega (arith, heard-time x, pair .time); delta = heard-delta x (pair .delta) };
-        event = λ e c w. absurd (stateAfter-not-waits (waitEnds wait.Event x) e c (ap viewOf w));
+        event = λ e c w. absurd (stateAfter-not-waits (waitEnds wait.Event x) e c w);
       })
 
   pub lookedAt-fit : (ts : List Thread) (k : ℕ) → FitState m ws l ts → FitState m ws l (lookedAt m ws l ts k)
@@ -115,7 +115,7 @@ module _ (m : Model) (ws : List ℕ) (site : Site) (ts : List Thread) (fit : Fit
                 time = omega (arith, kept .time k s c v (fit-segment fit k thread), kept .horizon-most, now);
                 delta = kept .delta k s c v (ready-fit fit k c thread ready .delta);
               };
-          event = λ e d w. kept .event k s c v e d (fit-segment fit k thread) (ap viewOf w);
+          event = λ e d w. kept .event k s c v e d (fit-segment fit k thread) w;
         })
 
     logged-fit : (x : Notification) → In x (logAfter m site ts k c) → FitPair m x

@@ -1,7 +1,8 @@
 -- `early_deliver::heard_by` meets its contract. Not waiting, nothing logged, a smaller forecast, heard.
-use mathlib.Core.Path.{sym, _∙_}
+use mathlib.Core.Path.{ap, sym, _∙_}
 use native.Mathlib.Omega.{arith}
 use borrow.Author.Needs.{needs}
+use Rattle.model.specs.Record.{viewOf}
 use Rattle.early.specs.Log.{logOf}
 use Rattle.early_deliver.proofs.VariantLaws.{awaitedBy-other}
 use Rattle.early_deliver.proofs.SweepLaws.{heardBy-other, heardBy-none, heardBy-sooner, heardBy-now}
@@ -12,7 +13,9 @@ enum-known-s : tie.Need-enum-known-s
 enum-known-s c = search needs
 
 returns : tie.Need-returns
-returns c = heardBy-other (c .before .before .args .reach .now) (c .before .before .args .t) (logOf (c .before .before .args .site)) (c .before .before .args .crew .segments) (c .before .before .args .xs .at) (c .before .before .args .s) (awaitedBy-other (c .before .before .args .s) (c .match .keys2))
+returns c =
+    let x = c .before .before .args in
+    heardBy-other (x .reach .now) (x .t) (logOf (x .site)) (x .crew .segments) (x .xs .at) (x .s) (awaitedBy-other (x .s) (c .match .keys2))
 
 least-heard-requires : tie.Need-least-heard-requires
 least-heard-requires c κs = search needs
@@ -24,7 +27,9 @@ enum-told : tie.Need-enum-told
 enum-told c = search needs
 
 returns-2 : tie.Need-returns-2
-returns-2 c = heardBy-none (c .before .before .before .before .before .before .before .args .reach .now) (c .before .before .before .before .before .before .before .args .t) (logOf (c .before .before .before .before .before .before .before .args .site)) (c .before .before .before .before .before .before .before .args .crew .segments) (c .before .before .before .before .before .before .before .args .xs .at) (c .before .before .before .before .before .before .before .args .s) _ _ (c .before .before .before .before .s .given .1) (sym (c .before .before .least-heard .ensures) ∙ c .enum-told .given .1)
+returns-2 c =
+    let x = c .before .before .before .before .before .before .before .args in
+    heardBy-none (x .reach .now) (x .t) (logOf (x .site)) (x .crew .segments) (x .xs .at) (x .s) _ _ (ap viewOf (c .before .before .before .before .s .given .1)) (sym (c .before .before .least-heard .ensures) ∙ c .enum-told .given .1)
 
 forecast-requires : tie.Need-forecast-requires
 forecast-requires c κs = search needs
@@ -33,10 +38,14 @@ limit-of-requires : tie.Need-limit-of-requires
 limit-of-requires c κs = search needs
 
 returns-3 : tie.Need-returns-3
-returns-3 c = heardBy-sooner (c .before .before .before .before .before .before .before .before .before .before .before .args .reach .now) (c .before .before .before .before .before .before .before .before .before .before .before .args .t) (logOf (c .before .before .before .before .before .before .before .before .before .before .before .args .site)) (c .before .before .before .before .before .before .before .before .before .before .before .args .crew .segments) (c .before .before .before .before .before .before .before .before .before .before .before .args .xs .at) (c .before .before .before .before .before .before .before .before .before .before .before .args .s) _ _ (c .before .before .before .before .before .before .before .before .s .given .1) _ (sym (c .before .before .before .before .before .before .least-heard .ensures) ∙ c .before .before .before .before .c .given .1) (omega arith)
+returns-3 c =
+    let x = c .before .before .before .before .before .before .before .before .before .before .before .args in
+    heardBy-sooner (x .reach .now) (x .t) (logOf (x .site)) (x .crew .segments) (x .xs .at) (x .s) _ _ (ap viewOf (c .before .before .before .before .before .before .before .before .s .given .1)) _ (sym (c .before .before .before .before .before .before .least-heard .ensures) ∙ c .before .before .before .before .c .given .1) (omega arith)
 
 returns-4 : tie.Need-returns-4
-returns-4 c = heardBy-now (c .before .before .before .before .before .before .before .before .before .before .before .args .reach .now) (c .before .before .before .before .before .before .before .before .before .before .before .args .t) (logOf (c .before .before .before .before .before .before .before .before .before .before .before .args .site)) (c .before .before .before .before .before .before .before .before .before .before .before .args .crew .segments) (c .before .before .before .before .before .before .before .before .before .before .before .args .xs .at) (c .before .before .before .before .before .before .before .before .before .before .before .args .s) _ _ (c .before .before .before .before .before .before .before .before .s .given .1) _ (sym (c .before .before .before .before .before .before .least-heard .ensures) ∙ c .before .before .before .before .c .given .1) (omega arith)
+returns-4 c =
+    let x = c .before .before .before .before .before .before .before .before .before .before .before .args in
+    heardBy-now (x .reach .now) (x .t) (logOf (x .site)) (x .crew .segments) (x .xs .at) (x .s) _ _ (ap viewOf (c .before .before .before .before .before .before .before .before .s .given .1)) _ (sym (c .before .before .before .before .before .before .least-heard .ensures) ∙ c .before .before .before .before .c .given .1) (omega arith)
 
 pub heard-by-spec : {M : Type 1} → statement M
 heard-by-spec =

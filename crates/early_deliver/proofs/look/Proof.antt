@@ -2,7 +2,7 @@
 use mathlib.Core.Path.{refl}
 use borrow.Author.Needs.{needs}
 use Rattle.early.specs.Log.{logOf}
-use Rattle.early_deliver.proofs.SweepLaws.{lookedOn-none, lookedOn-heard, look-heard}
+use Rattle.early_deliver.proofs.SweepLaws.{look-none, look-set, look-heard}
 use Rattle.early_deliver.proofs.look.Statement.{statement}
 use Rattle.early_deliver.proofs.look.Tie as tie
 
@@ -24,7 +24,7 @@ enum-told c = search needs
 returns : tie.Need-returns
 returns c =
     let start = c .before .before .before .before .before .before .before .before in (
-      lookedOn-none (start .args .reach .now) (start .args .t) (logOf (start .args .site)) (start .args .o) (start .pre .1 .1) (start .args .k) _
+      look-none (start .args .reach .now) (start .args .t) (logOf (start .args .site)) (start .args .o) (start .pre .1 .1) (start .args .k) _
           (c .before .before .heard-by .ensures)
           (c .enum-told .given .1),
       λ h. (h, refl),
@@ -47,7 +47,7 @@ returns-2 c =
     let start = c .before .before .before .before .before .before .before .before .before .before .before in
     look-heard (start .args .reach .now) (start .args .t) (logOf (start .args .site)) _ _ _
     (c .outlook-with .ensures)
-    (lookedOn-heard (start .args .reach .now) (start .args .t) (logOf (start .args .site)) (start .args .o) (start .pre .1 .1) (start .args .k) _
+    (look-set (start .args .reach .now) (start .args .t) (logOf (start .args .site)) (start .args .o) (start .pre .1 .1) (start .args .k) _
     (c .before .before .before .before .before .heard-by .ensures) _ _
     (c .before .before .before .c .given .1)
     (c .before .woken-at .ensures))

@@ -2,7 +2,8 @@
 use mathlib.Core.Path.{ap, _∙_}
 use borrow.Author.Needs.{needs}
 use Rattle.early.specs.Log.{logOf}
-use Rattle.early_deliver.specs.Awake.{settledOn}
+use Rattle.early.specs.Deliver.{settledBy}
+use Rattle.early_deliver.specs.Awake.{soonerOn}
 use Rattle.early_deliver.proofs.settle.Statement.{statement}
 use Rattle.early_deliver.proofs.settle.Tie as tie
 
@@ -15,7 +16,7 @@ settle-below-requires c κs = search needs
 returns : tie.Need-returns
 returns c =
     let x = c .before .before .before .args in
-    c .settle-below .ensures ∙ ap (λ n. settledOn (x .reach .now) n (logOf (x .site)) n (x .threads .at)) (c .before .few .ensures .0)
+    c .settle-below .ensures ∙ ap (λ n. settledBy (soonerOn (x .reach .now) n (logOf (x .site))) (logOf (x .site)) n (x .threads .at)) (c .before .few .ensures .0)
 
 pub settle-spec : {M : Type 1} → statement M
 settle-spec = tie.close (tie.spec few-requires settle-below-requires returns)

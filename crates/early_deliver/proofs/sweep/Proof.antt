@@ -5,14 +5,16 @@ use mathlib.Core.Bool.{false}
 use native.Mathlib.Omega.{arith}
 use borrow.Author.Needs.{needs}
 use Rattle.early.specs.Log.{logOf}
-use Rattle.early_deliver.specs.Awake.{outlookOf, sweptOn}
-use Rattle.early_deliver.proofs.SweepLaws.{outlook-own, outlook-begun, sweptOn-none, sweep-more}
+use Rattle.early.specs.Deliver.{sweptBy}
+use Rattle.early_laws.proofs.SettleLaws.{sweptBy-none}
+use Rattle.early_deliver.specs.Awake.{soonerOn, outlookOf}
+use Rattle.early_deliver.proofs.SweepLaws.{outlook-own, outlook-begun, sweep-more}
 use Rattle.early_deliver.proofs.sweep.Statement.{statement}
 use Rattle.early_deliver.proofs.sweep.Tie as tie
 
 abbrev Inv-loop : tie.InvT-loop
 Inv-loop reach site t n w₀ k₀ w k =
-    (k ≤ n) × ((w ≡ outlookOf reach t (logOf site) (sweptOn reach t (logOf site) (w₀ .threads .at) k) (w .heard)) × (w .heard ≡ false → w .threads .at ≡ w₀ .threads .at))
+    (k ≤ n) × ((w ≡ outlookOf reach t (logOf site) (sweptBy (soonerOn reach t (logOf site)) (logOf site) (w₀ .threads .at) k) (w .heard)) × (w .heard ≡ false → w .threads .at ≡ w₀ .threads .at))
 
 abbrev μ-loop : tie.MeasureT-loop
 μ-loop reach site t n w₀ k₀ w k = n - k
@@ -22,11 +24,12 @@ wide-requires c κs = search needs
 
 loop-holds : tie.Need-loop-holds Inv-loop μ-loop
 loop-holds c =
-    let start = c .before .before .before .before .before in (
+    let x = c .before .before .before .before .before in
+    let l = logOf (x .args .site) in (
       omega arith,
       (
-        outlook-begun (start .args .reach .now) (start .args .t) (logOf (start .args .site)) (start .args .o) (start .pre .1)
-            ∙ ap (λ us. outlookOf (start .args .reach .now) (start .args .t) (logOf (start .args .site)) us false) (sym (sweptOn-none (start .args .reach .now) (start .args .t) (logOf (start .args .site)) (start .args .o .threads .at))),
+        outlook-begun (x .args .reach .now) (x .args .t) l (x .args .o) (x .pre .1)
+            ∙ ap (λ us. outlookOf (x .args .reach .now) (x .args .t) l us false) (sym (sweptBy-none (soonerOn (x .args .reach .now) (x .args .t) l) l (x .args .o .threads .at))),
         λ h. refl,
       ),
     )
@@ -55,10 +58,11 @@ loop-again c =
 
 returns : tie.Need-returns Inv-loop μ-loop
 returns c =
-    let start = c .before .before .before .before .before .before .before in
+    let x = c .before .before .before .before .before .before .before .args in
+    let l = logOf (x .site) in
     let here = c .before .loop in
-    let e : here .k ≡ start .args .t = omega arith in
-    (here .inv .1 .0 ∙ ap (λ n. outlookOf (start .args .reach .now) (start .args .t) (logOf (start .args .site)) (sweptOn (start .args .reach .now) (start .args .t) (logOf (start .args .site)) (start .args .o .threads .at) n) (here .w .heard)) e, here .inv .1 .1)
+    let e : here .k ≡ x .t = omega arith in
+    (here .inv .1 .0 ∙ ap (λ n. outlookOf (x .reach .now) (x .t) l (sweptBy (soonerOn (x .reach .now) (x .t) l) l (x .o .threads .at) n) (here .w .heard)) e, here .inv .1 .1)
 
 pub sweep-spec : {M : Type 1} → statement M
 sweep-spec =

@@ -4,8 +4,8 @@ use borrow.Author.Needs.{needs}
 use Rattle.early_deliver.proofs.woken_at.Statement.{statement}
 use Rattle.early_deliver.proofs.woken_at.Tie as tie
 
-wait-ends-requires : tie.Need-wait-ends-requires
-wait-ends-requires c κs = search needs
+next-delta-requires : tie.Need-next-delta-requires
+next-delta-requires c κs = search needs
 
 enum-known-d : tie.Need-enum-known-d
 enum-known-d c = search needs
@@ -14,11 +14,11 @@ enum-known-d-2 : tie.Need-enum-known-d-2
 enum-known-d-2 c = search needs
 
 returns : tie.Need-returns
-returns c = rw (← c .before .before .before .wait-ends .ensures, c .before .d .given .1) refl
+returns c = rw (← c .before .before .before .next-delta .ensures, c .before .d .given .1) refl
 
 returns-2 : tie.Need-returns-2
-returns-2 c = rw (← c .before .before .before .wait-ends .ensures, c .before .d2 .given .1) refl
+returns-2 c = rw (← c .before .before .before .next-delta .ensures, c .before .d2 .given .1) refl
 
 pub woken-at-spec : {M : Type 1} → statement M
 woken-at-spec =
-    tie.close (tie.spec wait-ends-requires enum-known-d enum-known-d-2 returns returns-2)
+    tie.close (tie.spec next-delta-requires enum-known-d enum-known-d-2 returns returns-2)
