@@ -26,7 +26,7 @@ use Rattle.early.specs.Log.{leastHeard}
 use Rattle.early.specs.Earliest.{sourceOf, soonestNotify, afterNotify, linkTo, sources, relaxed, withLinks, earliestOf}
 use Rattle.early.specs.Forecast.{forecastOf}
 use Rattle.early.specs.Hazard.{threatens, hazard}
-use Rattle.early.specs.Deliver.{heardNow}
+use Rattle.early.specs.Deliver.{forecastSooner, heardBy, heardNow}
 use Rattle.early.specs.Fit.{isFitThread, isUnfitThreads}
 use Rattle.early.specs.Grant.{effectAt, logAfter}
 use Rattle.early.specs.Request.{isFull}
@@ -105,7 +105,7 @@ module _ (m : Model) (ts us : List Thread) (agree : Agree m ts us) where
           (λ k h. soonestNotify-same k (getD (earliestOf m ws l ts) k Never) e h ∙ ap (λ (xs : List Bound). soonestNotify m ws us k (getD xs k Never) e) earliestOf-same)
 
       pub heardNow-same : (a : Awaited) → heardNow m ws l ts a ≡ heardNow m ws l us a
-      unfolding heardNow
+      unfolding heardBy forecastSooner
       heardNow-same nothing = refl
       heardNow-same (awaits e since) = ap (λ (b : Bound). cond (isBoundBefore b (leastHeard l e since)) Never (leastHeard l e since)) (forecastOf-same e)
 

@@ -1,10 +1,10 @@
 -- A request does the same on lists of records that agree on the first T, and leaves every record from T on: "records past those are neither
 -- read nor written". Where fewer than T are lent, and for a model against the file rules, it is refused with 11.
---     lookedAt-agree, swept-agree, settled-agree, closedThreads-agree, threadsAfter-agree, siteAfter-same     what stays the same
---     swept-length, swept-past, settled-past, closedThreads-past, threadsAfter-past     what is left as it was
+--     lookedAt-agree, settled-agree, closedThreads-agree, threadsAfter-agree, siteAfter-same     what stays the same
+--     closedThreads-past, threadsAfter-past     what is left as it was
 --     requestOf-alike     a request: the same answer and state, and records that agree again
 --     requestOf-past, requestOf-length, requestOf-short, requestOf-faulty
-use Prim.Native.Nat.{ℕ, zero, suc, _<_, _≤_}
+use Prim.Native.Nat.{ℕ, _<_, _≤_}
 use mathlib.Core.Path.{_≡_, refl, ap, sym, _∙_}
 use mathlib.Core.Bool.{Bool, true, false, cond, not, _||_}
 use mathlib.Core.List.{List}
@@ -29,12 +29,11 @@ use Rattle.early.specs.declared.Site.{Site}
 use Rattle.early.specs.declared.Answer.the-variants.{Granted}
 use Rattle.early.specs.Log.{logOf}
 use Rattle.early.specs.Hazard.{hazard}
-use Rattle.early.specs.Deliver.{heardNow, afterHearing, lookedAt, swept, settledIn, settled}
+use Rattle.early.specs.Deliver.{forecastSooner, lookedBy, afterHearing, heardNow, lookedAt, settled}
 use Rattle.early.specs.Fit.{isUnfitThreads, isUnfitLog, isUnfitWords, isUnfit}
 use Rattle.early.specs.Grant.{effectAt, logAfter, closedThreads, threadsAfter, siteAfter}
 use Rattle.early.specs.Request.{isFull, Requested, refusedWith, grantedTo, requestAt, requestFit, requestOf}
-use Rattle.early_laws.proofs.LookLaws.{lookedAt-length, lookedAt-other}
-use Rattle.early_laws.proofs.SettleLaws.{settled-carries}
+use Rattle.early_laws.proofs.SettleLaws.{settledBy-both, settled-past}
 use Rattle.early_laws.proofs.GrantLaws.{closedThreads-other, threadsAfter-length}
 use Rattle.early_laws.proofs.RequestLaws as asked
 use Rattle.early_lent.proofs.PlaceLaws.{Agree, isUnfitThreads-same, floorOf-same, heardNow-same, hazard-same, isFull-same, effectAt-same, logAfter-same}
@@ -54,7 +53,7 @@ set-agree m ts us k t u e agree =
 
 module _ (m : Model) (ws : List ℕ) (l : List Notification) where
   pub lookedAt-agree : (ts us : List Thread) (k : ℕ) → k < m .t → Agree m ts us → Agree m (lookedAt m ws l ts k) (lookedAt m ws l us k)
-  unfolding lookedAt
+  unfolding lookedBy
   lookedAt-agree ts us k h agree =
       set-agree
       m
@@ -66,40 +65,10 @@ module _ (m : Model) (ws : List ℕ) (l : List Notification) where
       (rw (agree .same k h, heardNow-same m ts us agree ws l (awaitedBy (threadAt us k .state))) refl)
       agree
 
-  pub swept-agree : (ts us : List Thread) (n : ℕ) → n ≤ m .t → Agree m ts us → Agree m (swept m ws l ts n) (swept m ws l us n)
-  unfolding swept
-  swept-agree ts us zero h agree = agree
-  swept-agree ts us (suc n) h agree = lookedAt-agree (swept m ws l ts n) (swept m ws l us n) n h (swept-agree ts us n (omega arith) agree)
-
-  pub swept-length : (ts : List Thread) (n : ℕ) → length (swept m ws l ts n) ≡ length ts
-  unfolding swept
-  swept-length ts zero = refl
-  swept-length ts (suc n) = lookedAt-length m ws l (swept m ws l ts n) n ∙ swept-length ts n
-
-  pub swept-past : (ts : List Thread) (n j : ℕ) → n ≤ j → threadAt (swept m ws l ts n) j ≡ threadAt ts j
-  unfolding swept
-  swept-past ts zero j past = refl
-  swept-past ts (suc n) j past = lookedAt-other m ws l (swept m ws l ts n) n j (λ same. omega arith) ∙ swept-past ts n j (omega arith)
-
-  settledIn-agree : (n : ℕ) (ts us : List Thread) → Agree m ts us → Agree m (settledIn m ws l n ts) (settledIn m ws l n us)
-  unfolding settledIn
-  settledIn-agree zero ts us agree = agree
-  settledIn-agree (suc n) ts us agree = settledIn-agree n (swept m ws l ts (m .t)) (swept m ws l us (m .t)) (swept-agree ts us (m .t) (omega arith) agree)
-
   pub settled-agree : (ts us : List Thread) → Agree m ts us → Agree m (settled m ws l ts) (settled m ws l us)
-  unfolding settled
-  settled-agree ts us agree = settledIn-agree (m .t) ts us agree
-
-  pub settled-past : (ts : List Thread) (j : ℕ) → m .t ≤ j → threadAt (settled m ws l ts) j ≡ threadAt ts j
-  settled-past ts j past =
-      settled-carries
-      m
-      ws
-      l
-      (λ us is. threadAt us j ≡ threadAt ts j)
-      (λ us is k h e. lookedAt-other m ws l us k j (λ same. omega arith) ∙ e)
-      ts
-      refl
+  settled-agree ts us agree =
+      let sooner = forecastSooner m ws l in
+      settledBy-both sooner sooner l (m .t) (λ vs xs is. Agree m vs xs) (λ vs xs is k h. lookedAt-agree vs xs k h) ts us agree
 
 module _ (m : Model) (site : Site) (k : ℕ) (c : Cycle) (h : k < m .t) where
   pub closedThreads-agree : (ts us : List Thread) → Agree m ts us → Agree m (closedThreads m site ts k c) (closedThreads m site us k c)

@@ -23,6 +23,7 @@ use Rattle.model.specs.Effect.{effectIn, heldEffect}
 use Rattle.early.specs.declared.Site.{Site}
 use Rattle.early.specs.declared.Answer.the-variants.{Granted}
 use Rattle.early.specs.Log.{logOf, siteOf, dropBefore}
+use Rattle.early.specs.Deliver.{settledBy}
 use Rattle.early.specs.Request.{earlyPlaces}
 use Rattle.early_limits.specs.Limit.{atMost}
 use Rattle.early_limits.specs.Ahead.{hazardAt, segmentsOf}
@@ -30,20 +31,20 @@ use Rattle.early_limits.proofs.PlaceLaws.{atMost-is}
 use Rattle.early_log.specs.declared.Noted.{Noted}
 use Rattle.early_log.specs.Noted.{notedOf}
 use Rattle.early_deliver.specs.declared.Outlook.{Outlook}
-use Rattle.early_deliver.specs.Awake.{floorBelow, crewOf, aheadOf, outlookOf, settledOn}
+use Rattle.early_deliver.specs.Awake.{floorBelow, crewOf, aheadOf, soonerOn, outlookOf}
 use Rattle.early_request.specs.Answered.{refusedOn, grantedOn, ranOn, notedOn, triedOn, clearOn, readyOn, answeredOn}
 
 module _ (reach : List ℕ) (t : ℕ) where
   pub granted-made : t ≤ 32 → (site kept : Site) (ts us : Threads) (s : ℕ) (c : Cycle) (floor : Bound)
-      → us .at ≡ settledOn reach (atMost 32 t) (logOf site) (atMost 32 t) (ts .at) → floor ≡ floorBelow (atMost 32 t) (us .at)
+      → us .at ≡ settledBy (soonerOn reach (atMost 32 t) (logOf site)) (logOf site) (atMost 32 t) (ts .at) → floor ≡ floorBelow (atMost 32 t) (us .at)
       → kept ≡ siteOf (site .variables .at) (dropBefore floor (logOf site))
       → record { answer = Granted s c; site = kept; threads = us } ≡ grantedOn reach t site (ts .at) s c
   unfolding grantedOn
   granted-made few site kept ts us s c floor p q r =
       let same = atMost-is 32 t few in
-      let there : us .at ≡ settledOn reach t (logOf site) t (ts .at) = p ∙ ap (λ (n : ℕ). settledOn reach n (logOf site) n (ts .at)) same in
-      let e : us ≡ record { at = settledOn reach t (logOf site) t (ts .at) } = ap (λ (xs : List Thread). record { at = xs }) there in
-      let f : kept ≡ siteOf (site .variables .at) (dropBefore (floorBelow t (settledOn reach t (logOf site) t (ts .at))) (logOf site)) =
+      let there : us .at ≡ settledBy (soonerOn reach t (logOf site)) (logOf site) t (ts .at) = p ∙ ap (λ (n : ℕ). settledBy (soonerOn reach n (logOf site)) (logOf site) n (ts .at)) same in
+      let e : us ≡ record { at = settledBy (soonerOn reach t (logOf site)) (logOf site) t (ts .at) } = ap (λ (xs : List Thread). record { at = xs }) there in
+      let f : kept ≡ siteOf (site .variables .at) (dropBefore (floorBelow t (settledBy (soonerOn reach t (logOf site)) (logOf site) t (ts .at))) (logOf site)) =
       r ∙ ap (λ (b : Bound). siteOf (site .variables .at) (dropBefore b (logOf site))) (q ∙ (ap (λ (n : ℕ). floorBelow n (us .at)) same ∙ ap (floorBelow t) there)) in
       rw (e, f) refl
 

@@ -31,7 +31,6 @@ use Rattle.plain.specs.Wake.{floorOf}
 use Rattle.early.specs.declared.Notification.{Notification}
 use Rattle.early.specs.declared.Site.{Site}
 use Rattle.early.specs.Log.{places, logOf, siteOf}
-use Rattle.early.specs.Deliver.{settled}
 use Rattle.early.specs.Hazard.{hazard}
 use Rattle.early.specs.Grant.{effectAt, logAfter, closedThreads, threadsAfter, siteAfter}
 use Rattle.early.specs.Request.{earlyPlaces, isFull, Requested, grantedTo, refusedWith, requestAt, requestFit, requestOf}
@@ -45,7 +44,7 @@ use Rattle.early_limits.proofs.AheadLaws.{hazard-limit}
 use Rattle.early_limits.proofs.DeliverLaws.{granted-fit}
 use Rattle.early_log.specs.Noted.{notedOf}
 use Rattle.early_deliver.specs.Awake.{floorBelow}
-use Rattle.early_deliver.proofs.SettledLaws.{aheadOf-is, settledOn-is}
+use Rattle.early_deliver.proofs.SettledLaws.{aheadOf-is, settledBy-is}
 use Rattle.early_request.specs.After.{afterOf}
 use Rattle.early_request.specs.Answered.{refusedOn, grantedOn, ranOn, notedOn, triedOn, clearOn, readyOn, answeredOn}
 
@@ -104,12 +103,12 @@ module _ (m : Model) (site : Site) (ts : List Thread) (k : ℕ) (c : Cycle) wher
   pub granted-is : (ws : List ℕ) → FitState m ws (logAfter m site ts k c) (closedThreads m site ts k c)
       → grantedOn (reachOf m ws) (m .t) (siteOf (effectAt m site ts k c .variables) (logAfter m site ts k c)) (closedThreads m site ts k c) (threadAt ts k .segment) c
       ≡ afterOf (grantedTo m ws site ts k c)
-  unfolding grantedOn afterOf grantedTo siteAfter threadsAfter settled
+  unfolding grantedOn afterOf grantedTo siteAfter threadsAfter
   granted-is ws fit =
       rw (
         logOf-siteOf (effectAt m site ts k c .variables) (logAfter m site ts k c),
         siteOf-variables (effectAt m site ts k c .variables) (logAfter m site ts k c),
-        settledOn-is m ws (logAfter m site ts k c) (closedThreads m site ts k c) fit (m .t),
+        settledBy-is m ws (logAfter m site ts k c) (closedThreads m site ts k c) fit,
         floor-is m (threadsAfter m ws site ts k c),
       )
       refl

@@ -21,11 +21,12 @@ use Rattle.early.specs.declared.Site.{Site}
 use Rattle.early.specs.declared.Answer.the-variants.{Granted, Refused}
 use Rattle.early.specs.declared.After.{After}
 use Rattle.early.specs.Log.{logOf, siteOf, dropBefore}
+use Rattle.early.specs.Deliver.{settledBy}
 use Rattle.early.specs.Request.{earlyPlaces}
 use Rattle.early_limits.specs.Ahead.{hazardAt, segmentsOf}
 use Rattle.early_log.specs.declared.Noted.{Noted}
 use Rattle.early_log.specs.Noted.{notedOf}
-use Rattle.early_deliver.specs.Awake.{floorBelow, aheadOf, settledOn}
+use Rattle.early_deliver.specs.Awake.{floorBelow, aheadOf, soonerOn}
 
 abbrev pub refusedOn : ℕ → Site → List Thread → After
 refusedOn n site ts = record { answer = Refused n; site = site; threads = record { at = ts } }
@@ -33,7 +34,7 @@ refusedOn n site ts = record { answer = Refused n; site = site; threads = record
 -- after the segment s has run and closed at c, on the log and the records that this left
 unfoldable pub grantedOn : List ℕ → ℕ → Site → List Thread → ℕ → Cycle → After
 grantedOn reach t site ts s c =
-    let us = settledOn reach t (logOf site) t ts in
+    let us = settledBy (soonerOn reach t (logOf site)) (logOf site) t ts in
     record {
       answer = Granted s c;
       site = siteOf (site .variables .at) (dropBefore (floorBelow t us) (logOf site));
