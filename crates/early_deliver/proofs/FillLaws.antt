@@ -2,10 +2,10 @@
 --     fill-none, fill-more     the places below k are filled, the rest is as it was
 --     fill-all     the filled places, and then the rest
 --     tabulate-same     two fillings that agree below a count
-use Prim.Native.Nat.{ℕ, _+_, _<_, _≤_, _-_}
-use mathlib.Core.Path.{_≡_, refl, ap, sym, _∙_}
+use Prim.Native.Nat.{ℕ, zero, suc, _+_, _<_, _≤_, _-_}
+use mathlib.Core.Path.{_≡_, refl, ap, ap₂, sym, _∙_}
 use mathlib.Core.Bool.{cond}
-use mathlib.Core.List.{List, _++_}
+use mathlib.Core.List.{List, _∷_, _++_}
 use native.Mathlib.Omega.{arith}
 use native.Mathlib.Decide.{ℕ-discrete, decLt}
 use lib.Dec.{ltb}
@@ -16,19 +16,10 @@ use Rattle.base.specs.Index.{tabulate}
 use Rattle.base.proofs.IndexLaws.{tabulate-length, tabulate-at}
 
 module _ {A : Type 0} where
-  pub tabulate-same : (n : ℕ) (f g : ℕ → A) (d : A) → ((i : ℕ) → i < n → f i ≡ g i) → tabulate n 0 f ≡ tabulate n 0 g
-  tabulate-same n f g d h =
-      ext-getD
-      d
-      (tabulate n 0 f)
-      (tabulate n 0 g)
-      (tabulate-length n 0 f ∙ sym (tabulate-length n 0 g))
-      (λ i p. at i (omega (arith, tabulate-length n 0 f)))
-    where
-      at : (i : ℕ) → i < n → getD (tabulate n 0 f) i d ≡ getD (tabulate n 0 g) i d
-      at i p =
-          let z : 0 + i ≡ i = omega arith in
-          tabulate-at n 0 i f d p ∙ ap f z ∙ h i p ∙ sym (ap g z) ∙ sym (tabulate-at n 0 i g d p)
+  pub tabulate-same : (n i : ℕ) (f g : ℕ → A) → ((j : ℕ) → j < i + n → f j ≡ g j) → tabulate n i f ≡ tabulate n i g
+  unfolding tabulate
+  tabulate-same zero i f g h = refl
+  tabulate-same (suc n) i f g h = ap₂ _∷_ (h i (omega arith)) (tabulate-same n (i + 1) f g (λ j l. h j (omega arith)))
 
   -- the first k of f, and d past them
   abbrev pub filledTo : (ℕ → A) → A → ℕ → ℕ → A

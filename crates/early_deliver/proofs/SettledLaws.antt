@@ -61,9 +61,9 @@ module _ (m : Model) (ws : List ℕ) (l : List Notification) where
     firstLimits-is =
         tabulate-same
         32
+        0
         (λ k. cond (ltb k (m .t)) (firstLimit l (threadAt ts k .state)) allOnes)
         (λ k. cond (ltb k (m .t)) (limitOf (sourceOf l (threadAt ts k .state))) allOnes)
-        0
         (λ k h. at k (decLt k (m .t)))
       where
         at : (k : ℕ) → Dec (k < m .t) → cond (ltb k (m .t)) (firstLimit l (threadAt ts k .state)) allOnes ≡ cond (ltb k (m .t)) (limitOf (sourceOf l (threadAt ts k .state))) allOnes
