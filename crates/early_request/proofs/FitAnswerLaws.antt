@@ -22,7 +22,7 @@ use Rattle.model.specs.declared.Model.{Model}
 use Rattle.model.specs.declared.Segment.{Segment}
 use Rattle.model.specs.declared.Thread.{Thread}
 use Rattle.model.specs.declared.Closer.the-variants.{End}
-use Rattle.model.specs.Values.{noSegment, segmentAt}
+use Rattle.model.specs.Values.{noSegment, segmentAt, segmentFor}
 use Rattle.model.specs.Limits.{isBeforeHorizon}
 use Rattle.model.specs.Record.{threadAt, readyCycle, cycleOf}
 use Rattle.model.specs.Effect.{effectOf, heldEvents, heldEffect}
@@ -87,7 +87,7 @@ horizon-is m c e = e
 -- thread k in its segment at c
 module _ (m : Model) (site : Site) (ts : List Thread) (k : ℕ) (c : Cycle) where
   ranOn-is : ranOn (segmentAt m (threadAt ts k .segment)) site ts k c ≡ heldEffect (effectAt m site ts k c)
-  unfolding ranOn effectAt effectOf
+  unfolding ranOn effectAt effectOf segmentFor
   ranOn-is = refl
 
   notedOn-is : notedOn (heldEffect (effectAt m site ts k c)) site c
