@@ -30,7 +30,7 @@ use Rattle.early.specs.declared.Answer.the-variants.{Granted}
 use Rattle.early.specs.Log.{logOf}
 use Rattle.early.specs.Hazard.{hazard}
 use Rattle.early.specs.Deliver.{forecastSooner, lookedBy, afterHearing, heardNow, lookedAt, settled}
-use Rattle.early.specs.Fit.{isUnfitThreads, isUnfitLog, isUnfitWords, isUnfit}
+use Rattle.early.specs.Fit.{isUnfitThreads, isUnfitLog, isUnfitWords, isUnfitState, isUnfit}
 use Rattle.early.specs.Grant.{effectAt, logAfter, closedThreads, threadsAfter, siteAfter}
 use Rattle.early.specs.Request.{isFull, Requested, refusedWith, grantedTo, requestAt, requestFit, requestOf}
 use Rattle.early_laws.proofs.SettleLaws.{settledBy-both, settled-past}
@@ -167,7 +167,7 @@ module _ (m : Model) (marks : List (List Bool)) (ws : List ℕ) (site : Site) (k
 
     -- a request gives the same answer and state, and its records agree, for whatever stands past the threads
     pub requestOf-alike : AlikeAfter m (requestOf m marks ws site ts k) (requestOf m marks ws site us k)
-    unfolding requestOf isUnfit
+    unfolding requestOf isUnfit isUnfitState
     requestOf-alike =
         rw (isUnfitThreads-same m ts us agree)
         (cond-alike
@@ -199,14 +199,14 @@ module _ (m : Model) (marks : List (List Bool)) (ws : List ℕ) (site : Site) (k
 
     -- "records below T"
     pub requestOf-short : length ts < m .t → requestOf m marks ws site ts k ≡ refusedWith unfit site ts
-    unfolding requestOf isUnfit isUnfitThreads
+    unfolding requestOf isUnfit isUnfitState isUnfitThreads
     requestOf-short h = go (not (eqb (modelFault m) accepted))
       where
-        go : (b : Bool) → cond ((b || isUnfitThreads m ts) || (isUnfitLog m site || isUnfitWords m ws)) (refusedWith unfit site ts) (requestFit m marks ws site ts k) ≡ refusedWith unfit site ts
+        go : (b : Bool) → cond ((b || (isUnfitThreads m ts || isUnfitLog m site)) || isUnfitWords m ws) (refusedWith unfit site ts) (requestFit m marks ws site ts k) ≡ refusedWith unfit site ts
         go true = refl
         go false = rw (lt-ltb (length ts) (m .t) h) refl
 
     -- a model against the file rules
     pub requestOf-faulty : (modelFault m ≡ accepted → ⊥) → requestOf m marks ws site ts k ≡ refusedWith unfit site ts
-    unfolding requestOf isUnfit
+    unfolding requestOf isUnfit isUnfitState
     requestOf-faulty other = rw (ne-eqb (modelFault m) accepted other) refl
