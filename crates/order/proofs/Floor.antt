@@ -1,5 +1,5 @@
 -- The floor, read by its threads: no ready thread is before it, and a bound that is not after any ready thread is not after it.
--- (That some thread is ready at it is a law of cycles, `floorOf-attained`.)
+-- (That some thread is ready at it is a law of plain_laws, `floorOf-attained`.)
 -- Assumes nothing.
 use Prim.Native.Nat.{ℕ, _<_}
 use mathlib.Core.Path.{_≡_, refl, ap, subst}

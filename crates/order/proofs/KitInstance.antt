@@ -1,6 +1,6 @@
--- The kit's laws for the tables that the reader made, for every model that keeps the file rules: footprints by machine, conflict
--- and distance by paths, earliest, forecast and hazard by bounds. Of the tables it cites what a mark means and that a
--- distance is the least over all paths.
+-- The kit's laws for every model that keeps the file rules, with marks that hold the needed ones and words that begin with the
+-- reader's; the reader's marks are such (`marksOf-needed`). Footprints by model_effect, conflict and distance by tables_laws (what a
+-- mark means, and that a distance is the least over all paths), earliest, forecast and hazard by early_laws.
 -- Assumes nothing.
 use Prim.Native.Nat.{ℕ, _≤_, _<_, _+_, _*_}
 use mathlib.Core.Path.{_≡_, refl, ap, sym, _∙_, subst}
@@ -60,7 +60,8 @@ closed-ready : (s : ℕ) (g : Closer) (c d : Cycle) (v : List ℕ) → viewOf (c
     → At c ⊕ stepOf g (closedAt s g c v .segment) ≡ At d
 unfolding closedAt stepOf
 closed-ready s End c d v e = let z : _≡_ {A = ℕ} 0 1 = cc in absurd (omega arith)
-closed-ready s (Time k x) c d v e = rw (T→true (goesTo x (nextOf x v)) (goesTo-next x v)) (waitEnds-advance (wait.Time k) c (stateAfter-ready _ d e))
+closed-ready s (Time k x) c d v e =
+    rw (T→true (goesTo x (nextOf x v)) (goesTo-next x v)) (waitEnds-advance (wait.Time k) c (stateAfter-ready _ d e))
 closed-ready s (Event w x) c d v e = let z : _≡_ {A = ℕ} 0 1 = cc in absurd (omega arith)
 
 -- one that waits on an event has taken a step of one delta
@@ -81,8 +82,8 @@ marksOf-needed m fit =
       marked = λ i r j s v n p q h. shared→marked m fit r s p q v h;
     }
 
--- what is read of words that begin with the reader's
 module _ (m : Model) (fit : modelFault m ≡ 0) (ws : List ℕ) (begins : Begins (wordsOf m) ws) where
+  -- what is read of the words is the reader's
   word-at : (i : ℕ) → i < m .n * m .n → getD ws i 0 ≡ getD (wordsOf m) i 0
   word-at i h = rw (begins .1) (List·getD-append (wordsOf m) (begins .0) 0 i (omega (arith, wordsOf-length m)))
 
@@ -93,7 +94,7 @@ module _ (m : Model) (fit : modelFault m ≡ 0) (ws : List ℕ) (begins : Begins
   words-enough : m .n * m .n ≤ length ws
   words-enough = rw (begins .1) (simp length-append (omega (arith, wordsOf-length m)))
 
-module _ (m : Model) (fit : modelFault m ≡ 0) (ws : List ℕ) (begins : Begins (wordsOf m) ws) where
+  -- no time before the horizon is cut
   end-cut : endTime m ≤ cutTime
   end-cut = omega (arith, modelFault-horizon m fit .1)
 
@@ -113,11 +114,10 @@ module _ (m : Model) (fit : modelFault m ≡ 0) (ws : List ℕ) (begins : Begins
   onward : (r a b : ℕ) (y : Bound) (c d : Cycle) → r < m .n → a < m .n → b < m .n → d .time .0 < cutTime → At c ⊕ edge m a b ≼ At d
       → y ⊕ distanceIn m ws r a ≼ At c → y ⊕ distanceIn m ws r b ≼ At d
   onward r a b y c d rn an bn before step h =
-      rw (distance-at m fit ws begins r b rn bn)
+      rw (distance-at r b rn bn)
       (distanceOf-after m r a b rn an bn y d before
       (≼-trans ((y ⊕ distanceOf m r a) ⊕ edge m a b) (At c ⊕ edge m a b) (At d)
-      (⊕-mono (y ⊕ distanceOf m r a) (At c) (edge m a b) (edge m a b) (rw (distance-at m fit ws begins r a rn an) at h) (≼-refl (edge m a b)))
-      step))
+      (⊕-mono (y ⊕ distanceOf m r a) (At c) (edge m a b) (edge m a b) (rw (distance-at r a rn an) at h) (≼-refl (edge m a b))) step))
 
   next-below : (k a : ℕ) (c : Cycle) (x : List ℕ) → a < m .n → effectOf m k a c x .thread .segment < m .n
   next-below k a c x h = modelFault-keeps m fit .next k a c x h
@@ -126,38 +126,43 @@ module _ (m : Model) (fit : modelFault m ≡ 0) (ws : List ℕ) (begins : Begins
       → At c ⊕ edge m a (effectOf m k a c x .thread .segment) ≡ At d
   unfolding edge segmentFor
   edge-ready k a c d x e =
-      subst (λ (t : Thread). viewOf (t .state) ≡ view.ready d → At c ⊕ stepOf (segmentAt m a .closer) (t .segment) ≡ At d) (sym (effectOf-thread m k a c x))
-      (closed-ready a (segmentAt m a .closer) c d (effectOf m k a c x .variables)) e
+      let g = segmentAt m a .closer in
+      subst (λ (t : Thread). viewOf (t .state) ≡ view.ready d → At c ⊕ stepOf g (t .segment) ≡ At d) (sym (effectOf-thread m k a c x))
+      (closed-ready a g c d (effectOf m k a c x .variables)) e
 
   edge-waits : (k a e : ℕ) (c since : Cycle) (x : List ℕ) → viewOf (effectOf m k a c x .thread .state) ≡ view.waits e since
       → edge m a (effectOf m k a c x .thread .segment) ≡ oneDelta
   unfolding edge segmentFor
   edge-waits k a e c since x f =
-      subst (λ (t : Thread). viewOf (t .state) ≡ view.waits e since → stepOf (segmentAt m a .closer) (t .segment) ≡ oneDelta) (sym (effectOf-thread m k a c x))
-      (closed-waits a (segmentAt m a .closer) c since (effectOf m k a c x .variables) e) f
+      let g = segmentAt m a .closer in
+      subst (λ (t : Thread). viewOf (t .state) ≡ view.waits e since → stepOf g (t .segment) ≡ oneDelta) (sym (effectOf-thread m k a c x))
+      (closed-waits a g c since (effectOf m k a c x .variables) e) f
 
   over-event : (k r a e : ℕ) (c since h : Cycle) (x : List ℕ) (y : Bound) → k < m .t → r < m .n → a < m .n
       → viewOf (effectOf m k a c x .thread .state) ≡ view.waits e since → since ⊑ h → T (isBeforeHorizon m h)
       → y ⊕ distanceIn m ws r a ≼ At c → y ⊕ distanceIn m ws r (effectOf m k a c x .thread .segment) ≼ At h ⊕ oneDelta
   over-event k r a e c since h x y kt rn an f b t l =
       let start : c ⊑ h = subst (λ (z : Cycle). z ⊑ h) (effectOf-waits m k a c x e since f) b in
+      let next = effectOf m k a c x .thread .segment in
       rw (⊕-oneDelta h)
-      (onward r a (effectOf m k a c x .thread .segment) y c (cycleAt (h .time .0) (h .delta .0 + 1)) rn an (next-below k a c x an) (before-cut h t)
-      (rw (edge-waits k a e c since x f, ← ⊕-oneDelta h) (⊕-mono (At c) (At h) oneDelta oneDelta start (≼-refl oneDelta)))
-      l)
+      (onward r a next y c (cycleAt (h .time .0) (h .delta .0 + 1)) rn an (next-below k a c x an) (before-cut h t)
+      (rw (edge-waits k a e c since x f, ← ⊕-oneDelta h) (⊕-mono (At c) (At h) oneDelta oneDelta start (≼-refl oneDelta))) l)
 
   -- a segment notifies all that it lists, so that what it lists are events of the model
   listed-below : (k s e : ℕ) → s < m .n → T (notifiesIn m k s e) → e < m .e
   unfolding notifiesIn
   listed-below k s e below t =
-      modelFault-keeps m fit .notifies k s (cycleAt 0 0) [] e below (subst (λ (es : List ℕ). T (has es e)) (sym (notified-listed m k s (cycleAt 0 0) [])) t)
+      let same = notified-listed m k s (cycleAt 0 0) [] in
+      modelFault-keeps m fit .notifies k s (cycleAt 0 0) [] e below (subst (λ (es : List ℕ). T (has es e)) (sym same) t)
 
   distances : Distances m ws
   distances =
       record {
-        over-wait = λ k r a c d x y kt rn an f t l. onward r a (effectOf m k a c x .thread .segment) y c d rn an (next-below k a c x an) (before-cut d t) (subst (λ (z : Bound). z ≼ At d) (sym (edge-ready k a c d x f)) (≼-refl (At d))) l;
+        over-wait = λ k r a c d x y kt rn an f t l.
+            let step = subst (λ (z : Bound). z ≼ At d) (sym (edge-ready k a c d x f)) (≼-refl (At d)) in
+            onward r a (effectOf m k a c x .thread .segment) y c d rn an (next-below k a c x an) (before-cut d t) step l;
         over-event = over-event;
-        self = λ r h. distance-at m fit ws begins r r h h ∙ distanceOf-self m r h;
+        self = λ r h. distance-at r r h h ∙ distanceOf-self m r h;
         listed = λ k s c x e t. effectOf-notifies m k s c x e t;
         listed-below = listed-below;
         wait-begins = λ k s c x e since f. effectOf-waits m k s c x e since f;
@@ -169,10 +174,15 @@ module _ (m : Model) (fit : modelFault m ≡ 0) (ws : List ℕ) (begins : Begins
       let kept = modelFault-keeps m fit in
       record {
         model = fit;
-        words = →isUnfitWords m ws (words-enough m fit ws begins) (λ i h. rw (word-at m fit ws begins i h) (wordsOf-fit m fit i h));
+        words = →isUnfitWords m ws (words-enough) (λ i h. rw (word-at i h) (wordsOf-fit m fit i h));
         events = modelFault-counts m fit .events;
-        fit-record = λ i k l. let p = range.in-range m kept i in →isFitThread m k (recordAt m i k) (record { segment = p .fits k l .segment; cycle = record { time = range.record-time m kept i k l; delta = p .fits k l .delta }; event = p .fits k l .event });
-        fit-now = λ i. let p = range.in-range m kept i in →isFitCycle cutTime (nowAt m i) (record { time = before-cut (nowAt m i) (range.now-before m kept i); delta = p .now-delta });
+        fit-record = λ i k l.
+            let p = range.in-range m kept i .fits k l in
+            →isFitThread m k (recordAt m i k)
+            (record { segment = p .segment; cycle = record { time = range.record-time m kept i k l; delta = p .delta }; event = p .event });
+        fit-now = λ i.
+            let time = before-cut (nowAt m i) (range.now-before m kept i) in
+            →isFitCycle cutTime (nowAt m i) (record { time = time; delta = range.in-range m kept i .now-delta });
       }
 
   module _ (marks : List (List Bool)) where
@@ -193,7 +203,8 @@ module _ (m : Model) (fit : modelFault m ≡ 0) (ws : List ℕ) (begins : Begins
         source : (k : ℕ) (b : Cycle) → FromReady m ws l ts k b ⊎ FromLogged m ws l ts b → Source m l ts k b
         source k b (inl (j, c, below, r, cb, strict)) = from-ready j c below r cb strict
         source k b (inr (j, e, since, y, below, w, held, same, begun, yb)) =
-            from-logged j y (record { below = below; since = since; waits = w ∙ ap (λ (a : ℕ). view.waits a since) (sym same); logged = held; begun = begun }) yb
+            let waits = w ∙ ap (λ (a : ℕ). view.waits a since) (sym same) in
+            from-logged j y (record { below = below; since = since; waits = waits; logged = held; begun = begun }) yb
 
     pub kit-laws : Needed m marks → KitLaws m marks ws
     kit-laws needed = record { footprints = footprints; needed = needed; distances = distances; ranges = ranges; forecasts = forecasts }

@@ -1,4 +1,4 @@
--- The facts of the plain run that the argument uses, for every model that keeps the file rules. Each is a law of crate cycles,
+-- The facts of the plain run that the argument uses, for every model that keeps the file rules. Each is a law of plain_laws,
 -- said of places in the argument's words.
 -- Assumes nothing.
 use Prim.Native.Nat.{ℕ, suc, _≤_, _<_}
