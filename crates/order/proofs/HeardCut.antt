@@ -31,7 +31,7 @@ use Rattle.early_laws.proofs.LookLaws.{Looked, unheard, hears, looked, heardNow
 use Rattle.order.proofs.Places.{nowAt, recordAt, wokenIn, Says}
 use Rattle.order.proofs.PlainFacts.{PlainFacts}
 use Rattle.order.proofs.KitLaws.{KitLaws}
-use Rattle.order.proofs.Invariant.{Done, Gone, IsCut, Bounded, moved, adding}
+use Rattle.order.proofs.Invariant.{Done, Gone, IsCut, SomeCut, Bounded, moved, adding}
 use Rattle.order.proofs.CutLaws.{set-each, moved-records, moved-history, adding-same, adding-other, done-kept, done-back}
 use Rattle.order.proofs.GoodLaws.{good-moved}
 use Rattle.order.proofs.Hear.{HearingAt, next-heard}
@@ -115,10 +115,10 @@ module _ (m : Model) (pf : PlainFacts m) {marks : List (List Bool)} {ws : List �
 
       -- One look keeps a cut. A thread that hears moves on as the plain run moves it; any other stays as it is.
       pub looked-cut : (k : ℕ) → k < m .t
-          → (cut′ : ℕ → ℕ) × IsCut m x l (lookedAt m ws l ts k) (λ j. h j ++ lookItems m ws l ts k j) cut′ low
+          → SomeCut m x l (lookedAt m ws l ts k) (λ j. h j ++ lookItems m ws l ts k j) low
       looked-cut k below = go (looked m ws l ts k)
         where
-          go : Looked m ws l ts k → (cut′ : ℕ → ℕ) × IsCut m x l (lookedAt m ws l ts k) (λ j. h j ++ lookItems m ws l ts k j) cut′ low
+          go : Looked m ws l ts k → SomeCut m x l (lookedAt m ws l ts k) (λ j. h j ++ lookItems m ws l ts k j) low
           go (unheard none) = (
             cut,
             cut-same
@@ -128,7 +128,7 @@ module _ (m : Model) (pf : PlainFacts m) {marks : List (List Bool)} {ws : List �
           go (hears c at-c) = moves (heardAt-waits m ws l ts k c at-c)
             where
               moves : (e : ℕ) × (since : Cycle) × (viewOf (threadAt ts k .state) ≡ view.waits e since) × (heardNow m ws l ts (awaits e since) ≡ At c)
-                  → (cut′ : ℕ → ℕ) × IsCut m x l (lookedAt m ws l ts k) (λ j. h j ++ lookItems m ws l ts k j) cut′ low
+                  → SomeCut m x l (lookedAt m ws l ts k) (λ j. h j ++ lookItems m ws l ts k j) low
               moves (e, since, w, now) = (
                 moved cut k (suc (ha .place)),
                 cut-same

@@ -55,7 +55,8 @@ pub record Gone (m : Model) (ts : List Thread) (low : Bound) (e : ℕ) (c : Cycl
   pub unheard : (k : ℕ) (since : Cycle) → k < m .t → viewOf (threadAt ts k .state) ≡ view.waits e since → Before c since
 
 -- variables x, log l, records ts and histories h are the plain run's, cut at `cut`; `low` is the floor of the last drop
-pub record IsCut (m : Model) (x : List ℕ) (l : List Notification) (ts : List Thread) (h : ℕ → List Item) (cut : ℕ → ℕ) (low : Bound) : Type 0 where
+pub record IsCut (m : Model) (x : List ℕ) (l : List Notification) (ts : List Thread) (h : ℕ → List Item) (cut : ℕ → ℕ) (low : Bound)
+    : Type 0 where
   pub size : m .t ≤ length ts
   pub records : (k : ℕ) → k < m .t → threadAt ts k ≡ recordAt m (cut k) k
   pub history : (k : ℕ) → k < m .t → h k ≡ historyAt m k (cut k)
@@ -67,6 +68,10 @@ pub record IsCut (m : Model) (x : List ℕ) (l : List Notification) (ts : List T
   -- what is logged, a done place notified
   pub notified : (y : Notification) → List·Memᴰ y l → (q : ℕ) × (k : ℕ) × Done m cut q k × Says m q k (y .event) × (nowAt m q ≡ y .cycle)
   pub once : Once l
+
+-- they are the plain run's at some cut
+abbrev pub SomeCut : Model → List ℕ → List Notification → List Thread → (ℕ → List Item) → Bound → Type 0
+SomeCut m x l ts h low = (cut : ℕ → ℕ) × IsCut m x l ts h cut low
 
 -- no place that is not done runs sooner than its thread's earliest plus the distance to its segment
 pub record Bounded (m : Model) (ws : List ℕ) (ts : List Thread) (cut : ℕ → ℕ) (earliest : ℕ → Bound) : Type 0 where

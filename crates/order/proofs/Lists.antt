@@ -32,10 +32,10 @@ use Rattle.early.specs.Grant.{effectAt, logAfter, closedThreads, threadsAfter, 
 use Rattle.early.specs.Request.{Requested, isFull, grantedTo, requestOf, freshSite, requestsOf}
 use Rattle.early_laws.proofs.OnceLaws.{none, dropBefore-length, withPairs-shorter}
 use Rattle.early_laws.proofs.GrantLaws.{isFull-none, isFull-early, threadsAfter-rest}
-use Rattle.early_laws.proofs.RequestLaws.{Asked, refused, granted, requestOf-asked, requestsOf-carries}
+use Rattle.early_laws.proofs.RequestLaws.{Grantable, Asked, refused, granted, requestOf-asked, requestsOf-carries}
 use Rattle.order.proofs.PlainFacts.{PlainFacts, NextRun}
 use Rattle.order.proofs.KitLaws.{KitLaws}
-use Rattle.order.proofs.Invariant.{IsCut, moved, adding}
+use Rattle.order.proofs.Invariant.{IsCut, SomeCut, moved, adding}
 use Rattle.order.proofs.GoodLaws.{good-fresh}
 use Rattle.order.proofs.Grant.{next-place}
 use Rattle.order.proofs.GrantedCut.{granted-cut}
@@ -81,8 +81,14 @@ module _ (m : Model) (pf : PlainFacts m) {marks : List (List Bool)} {ws : List �
       }
 
   -- After a grant: the run leaves a cut, the deliveries keep it and come to rest, and the drop keeps it at its floor.
-  module _ (site : Site) (ts : List Thread) (h : ℕ → List Item) (cut : ℕ → ℕ) (ic : IsCut m (site .variables .at) (logOf site) ts h cut (floorOf m ts)) (room : Roomy (floorOf m ts) (logOf site))
-      (k : ℕ) (c : Cycle) (below : k < m .t) (ready : viewOf (threadAt ts k .state) ≡ view.ready c) (early : T (isBeforeHorizon m c)) (free : hazard m marks ws (logOf site) ts k c ≡ false) (places-left : isFull m site ts k c ≡ false) where
+  module _ (site : Site) (ts : List Thread) (h : ℕ → List Item) (cut : ℕ → ℕ) (ic : IsCut m (site .variables .at) (logOf site) ts h cut (floorOf m ts))
+      (room : Roomy (floorOf m ts) (logOf site)) (k : ℕ) (c : Cycle) (g : Grantable m marks ws site ts k c) where
+    ready : viewOf (threadAt ts k .state) ≡ view.ready c
+    ready = readyCycle→ready (viewOf (threadAt ts k .state)) c (g .ready)
+
+    abbrev items : List Item
+    items = ran (threadAt ts k .segment) c ∷ []
+
     -- what it has logged takes no more places than were counted
     logged-places : length (logAfter m site ts k c) ≤ countedPlaces m site k (threadAt ts k .segment) c
     unfolding logAfter effectAt countedPlaces notifiesIn
@@ -90,18 +96,21 @@ module _ (m : Model) (pf : PlainFacts m) {marks : List (List Bool)} {ws : List �
         withPairs-shorter (logOf site) c (effectAt m site ts k c .notified) (listedIn m k (threadAt ts k .segment)) (ic .once)
         (λ e t. kl .distances .listed k (threadAt ts k .segment) c (site .variables .at) e t)
 
-    ran-cut : (cut′ : ℕ → ℕ) × IsCut m (effectAt m site ts k c .variables) (logAfter m site ts k c) (closedThreads m site ts k c) (adding h k (ran (threadAt ts k .segment) c ∷ [])) cut′ (floorOf m ts)
+    ran-cut : SomeCut m (effectAt m site ts k c .variables) (logAfter m site ts k c) (closedThreads m site ts k c) (adding h k items) (floorOf m ts)
     unfolding effectAt logAfter closedThreads
-    ran-cut = (moved cut k (suc (run .place)), granted-cut m pf kl ic k c below ready run free)
+    ran-cut = (moved cut k (suc (run .place)), granted-cut m pf kl ic k c (g .thread) ready run (g .no-hazard))
       where
         run : NextRun m (cut k) k c
-        run = next-place m pf kl ic k c below ready early
+        run = next-place m pf kl ic k c (g .thread) ready (true→T (isBeforeHorizon m c) (g .before-horizon))
 
-    delivered-cut : (cut′ : ℕ → ℕ) × IsCut m (effectAt m site ts k c .variables) (logAfter m site ts k c) (threadsAfter m ws site ts k c) (λ j. h j ++ itemsAfter m ws site ts k c j) cut′ (floorOf m ts)
+    delivered-cut : SomeCut m (effectAt m site ts k c .variables) (logAfter m site ts k c) (threadsAfter m ws site ts k c)
+        (λ j. h j ++ itemsAfter m ws site ts k c j) (floorOf m ts)
     unfolding threadsAfter itemsAfter adding
     delivered-cut =
-        let (cut′, ic′) = settled-cut m pf kl (effectAt m site ts k c .variables) (logAfter m site ts k c) (adding h k (ran (threadAt ts k .segment) c ∷ [])) (floorOf m ts) (closedThreads m site ts k c) ran-cut in
-        (cut′, cut-same ic′ refl (λ j. append-assoc (h j) (cond (eqb j k) (ran (threadAt ts k .segment) c ∷ []) []) (settledItems m ws (logAfter m site ts k c) (closedThreads m site ts k c) j)))
+        let new = logAfter m site ts k c in
+        let us = closedThreads m site ts k c in
+        let (cut′, ic′) = settled-cut m pf kl (effectAt m site ts k c .variables) new (adding h k items) (floorOf m ts) us ran-cut in
+        (cut′, cut-same ic′ refl (λ j. append-assoc (h j) (cond (eqb j k) items []) (settledItems m ws new us j)))
 
     pub granted-reached : Reached m (siteAfter m ws site ts k c) (threadsAfter m ws site ts k c) (λ j. h j ++ itemsAfter m ws site ts k c j)
     unfolding siteAfter logAfter
@@ -113,9 +122,9 @@ module _ (m : Model) (pf : PlainFacts m) {marks : List (List Bool)} {ws : List �
           cut = delivered-cut .0;
           is-cut = dropped-cut after (rest-quiet m kl new (threadsAfter m ws site ts k c) (threadsAfter-rest m site ts k c ws));
           roomy =
-              roomy-granted (floorOf m ts) floor (logOf site) c (effectAt m site ts k c .notified) (floor-below m ts k c below ready)
-              (floor-rises after) (λ t. let a = isFull-early m site ts k c places-left t in let b = logged-places in omega arith) room;
-          short = let a = dropBefore-length floor new in let b = logged-places in let d = isFull-none m site ts k c places-left in omega arith;
+              roomy-granted (floorOf m ts) floor (logOf site) c (effectAt m site ts k c .notified) (floor-below m ts k c (g .thread) ready)
+              (floor-rises after) (λ t. omega (arith, isFull-early m site ts k c (g .room) t, logged-places)) room;
+          short = omega (arith, dropBefore-length floor new, logged-places, isFull-none m site ts k c (g .room));
         }
       where
         new : List Notification
@@ -124,12 +133,13 @@ module _ (m : Model) (pf : PlainFacts m) {marks : List (List Bool)} {ws : List �
         floor : Bound
         floor = floorOf m (threadsAfter m ws site ts k c)
 
-        after : IsCut m (effectAt m site ts k c .variables) new (threadsAfter m ws site ts k c) (λ j. h j ++ itemsAfter m ws site ts k c j) (delivered-cut .0) (floorOf m ts)
+        after : IsCut m (effectAt m site ts k c .variables) new (threadsAfter m ws site ts k c)
+            (λ j. h j ++ itemsAfter m ws site ts k c j) (delivered-cut .0) (floorOf m ts)
         after = delivered-cut .1
 
   -- a request leads from a reached state to a reached state
   pub request-reached : (site : Site) (ts : List Thread) (h : ℕ → List Item) → Reached m site ts h → (k : ℕ)
-      → Reached m (requestOf m marks ws site ts k .site) (requestOf m marks ws site ts k .threads) (λ j. h j ++ requestOf m marks ws site ts k .items j)
+      → let a = requestOf m marks ws site ts k in Reached m (a .site) (a .threads) (λ j. h j ++ a .items j)
   unfolding grantedTo
   request-reached site ts h r k = go (requestOf m marks ws site ts k) (requestOf-asked m marks ws site ts k)
     where
@@ -143,11 +153,9 @@ module _ (m : Model) (pf : PlainFacts m) {marks : List (List Bool)} {ws : List �
 
       go : (a : Requested) → Asked m marks ws site ts k a → Reached m (a .site) (a .threads) (λ j. h j ++ a .items j)
       go a (refused n u f) = reached-same (λ j. sym (append-nil (h j))) r
-      go a (granted c g) =
-          granted-reached site ts h (r .cut) here room k c (g .thread) (readyCycle→ready (viewOf (threadAt ts k .state)) c (g .ready))
-          (true→T (isBeforeHorizon m c) (g .before-horizon)) (g .no-hazard) (g .room)
+      go a (granted c g) = granted-reached site ts h (r .cut) here room k c g
 
   -- and so does a list of them
   pub list-reached : (ks : List ℕ) (site : Site) (ts : List Thread) (h : ℕ → List Item) → Reached m site ts h
-      → Reached m (requestsOf m marks ws site ts ks .site) (requestsOf m marks ws site ts ks .threads) (λ j. h j ++ requestsOf m marks ws site ts ks .history j)
+      → let a = requestsOf m marks ws site ts ks in Reached m (a .site) (a .threads) (λ j. h j ++ a .history j)
   list-reached ks site ts h r = requestsOf-carries m marks ws (Reached m) (λ s us g k q. request-reached s us g q k) ks site ts h r

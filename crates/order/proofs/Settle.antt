@@ -13,14 +13,14 @@ use Rattle.early.specs.Deliver.{lookedAt, lookItems, settled, settledItems}
 use Rattle.early_laws.proofs.SettleLaws.{settled-carries}
 use Rattle.order.proofs.PlainFacts.{PlainFacts}
 use Rattle.order.proofs.KitLaws.{KitLaws}
-use Rattle.order.proofs.Invariant.{IsCut}
+use Rattle.order.proofs.Invariant.{SomeCut}
 use Rattle.order.proofs.LowerBound.{bounded}
 use Rattle.order.proofs.HeardCut.{cut-same, looked-cut}
 
 module _ (m : Model) (pf : PlainFacts m) {marks : List (List Bool)} {ws : List ℕ} (kl : KitLaws m marks ws) (x : List ℕ) (l : List Notification) (h : ℕ → List Item) (low : Bound) where
   -- a cut of these variables and this log, where so much was heard since h
   abbrev Cut : List Thread → (ℕ → List Item) → Type 0
-  Cut ts is = (cut : ℕ → ℕ) × IsCut m x l ts (λ j. h j ++ is j) cut low
+  Cut ts is = SomeCut m x l ts (λ j. h j ++ is j) low
 
   -- one look more
   looked-on : (ts : List Thread) (is : ℕ → List Item) (k : ℕ) → k < m .t → Cut ts is
@@ -29,6 +29,5 @@ module _ (m : Model) (pf : PlainFacts m) {marks : List (List Bool)} {ws : List �
       let (cut′, ic′) = looked-cut m pf kl ic (bounded m pf kl ic (kl .forecasts l ts)) k below in
       (cut′, cut-same ic′ refl (λ j. append-assoc (h j) (is j) (lookItems m ws l ts k j)))
 
-  pub settled-cut : (ts : List Thread) → (cut : ℕ → ℕ) × IsCut m x l ts h cut low
-      → (cut : ℕ → ℕ) × IsCut m x l (settled m ws l ts) (λ j. h j ++ settledItems m ws l ts j) cut low
+  pub settled-cut : (ts : List Thread) → SomeCut m x l ts h low → SomeCut m x l (settled m ws l ts) (λ j. h j ++ settledItems m ws l ts j) low
   settled-cut ts (cut, ic) = settled-carries m ws l Cut looked-on ts (cut, cut-same ic refl (λ j. sym (append-nil (h j))))
