@@ -34,7 +34,7 @@ use Rattle.early_laws.proofs.LookLaws.{heardNow-none}
 use Rattle.early_laws.proofs.RestLaws.{Rest}
 use Rattle.order.proofs.Places.{nowAt}
 use Rattle.order.proofs.KitLaws.{Hearable, Source, from-ready, from-logged, boundIn, KitLaws}
-use Rattle.order.proofs.Invariant.{Gone, IsCut}
+use Rattle.order.proofs.Invariant.{Known, Gone, IsCut}
 use Rattle.order.proofs.Floor.{not-⊑→Before, finite-below, floor-below, floor-glb}
 
 -- what a thread could hear of the log, by its wait
@@ -189,12 +189,12 @@ module _ {m : Model} {x : List ℕ} {l : List Notification} {ts : List Thread} {
                 not-⊑→Before (λ begun. before (quiet k (pairOf e c) (record { below = below; since = since; waits = w; logged = logged; begun = begun })));
           }
 
-      still : (e : ℕ) (c : Cycle) → List·Memᴰ (pairOf e c) l ⊎ Gone m ts low e c
-          → List·Memᴰ (pairOf e c) (dropBefore floor l) ⊎ Gone m ts floor e c
+      still : (e : ℕ) (c : Cycle) → Known m l ts low e c
+          → Known m (dropBefore floor l) ts floor e c
       still e c (inr g) = inr (record { dropped = λ b. g .dropped (≼-trans low floor (At c) floor-rises b); unheard = g .unheard })
       still e c (inl logged) = go (kept-or-dropped floor c)
         where
-          go : (floor ≼ At c) ⊎ (floor ≼ At c → ⊥) → List·Memᴰ (pairOf e c) (dropBefore floor l) ⊎ Gone m ts floor e c
+          go : (floor ≼ At c) ⊎ (floor ≼ At c → ⊥) → Known m (dropBefore floor l) ts floor e c
           go (inl b) = inl (dropBefore-keeps floor l logged b)
           go (inr b) = inr (dropped e c logged b)
 

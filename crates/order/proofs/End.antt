@@ -4,9 +4,9 @@
 -- Takes as given the facts of the plain run (PlainFacts), the laws of the kit (KitLaws) and the lower bound at this cut (`LowerBound`).
 use Prim.Native.Nat.{ℕ, zero, suc, _+_, _-_, _≤_, _<_}
 use mathlib.Core.Path.{_≡_, ap, sym, _∙_, subst}
-use mathlib.Core.Logic.{_⊎_, inl, inr}
+use mathlib.Core.Logic.{inl, inr}
 use mathlib.Core.Bool.{Bool, false}
-use mathlib.Core.List.{List, [], _++_, List·Memᴰ, append-nil}
+use mathlib.Core.List.{List, [], _++_, append-nil}
 use native.Mathlib.Omega.{arith}
 use native.Mathlib.Decide.{decLt, decLe}
 use lib.Dec.{T}
@@ -36,7 +36,7 @@ use Rattle.early.specs.Log.{pairOf}
 use Rattle.order.proofs.Places.{nowAt, recordAt, Runs, Says, Hears, Happens, idle, runs, hears}
 use Rattle.order.proofs.PlainFacts.{PlainFacts}
 use Rattle.order.proofs.KitLaws.{boundIn, KitLaws}
-use Rattle.order.proofs.Invariant.{Gone, IsCut, Bounded}
+use Rattle.order.proofs.Invariant.{Known, IsCut, Bounded}
 use Rattle.order.proofs.Floor.{finite-below}
 use Rattle.order.proofs.Drop.{cut-quiet, floor-below-earliest}
 use Rattle.order.proofs.LeastReady.{someReady-none}
@@ -107,7 +107,7 @@ module _ (m : Model) (pf : PlainFacts m) {marks : List (List Bool)} {ws : List �
             begun : since ⊑ nowAt m q
             begun = subst (λ (c : Cycle). since ⊑ c) (sym now) (heard .begun)
 
-            go : List·Memᴰ (pairOf e (nowAt m q)) l ⊎ Gone m ts (floorOf m ts) e (nowAt m q) → ⊥
+            go : Known m l ts (floorOf m ts) e (nowAt m q) → ⊥
             go (inl logged) = floor-late (nowAt m q) (ic .low-logged (pairOf e (nowAt m q)) logged) (pf .now-before q)
             go (inr gone) = Before→not-⊑ (gone .unheard k since (heard .below) waits) begun
 

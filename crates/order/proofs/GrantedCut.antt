@@ -31,7 +31,7 @@ use Rattle.order.proofs.Places.{nowAt, recordAt, effectThere, Says}
 use Rattle.order.proofs.PlainFacts.{PlainFacts, NextRun}
 use Rattle.order.proofs.KitLaws.{KitLaws}
 use Rattle.order.proofs.PlaceLaws.{run-record, run-history, run-later}
-use Rattle.order.proofs.Invariant.{Done, Gone, IsCut, moved, adding}
+use Rattle.order.proofs.Invariant.{Known, Made, Done, Gone, IsCut, moved, adding}
 use Rattle.order.proofs.CutLaws.{set-each, moved-records, moved-history, done-kept, done-here, done-now}
 use Rattle.order.proofs.Floor.{not-⊑→Before}
 use Rattle.order.proofs.Grant.{same-record, effect-thread, effect-notified, effect-good}
@@ -104,26 +104,26 @@ module _ (m : Model) (pf : PlainFacts m) {marks : List (List Bool)} {ws : List �
         earlier = not-⊑→Before (λ p. gone .dropped (≼-trans low (At c) (At d) low-now p))
 
     logged-after : (q j e : ℕ) → Done m newCut q j → Says m q j e
-        → List·Memᴰ (pairOf e (nowAt m q)) newLog ⊎ Gone m newRecords low e (nowAt m q)
+        → Known m newLog newRecords low e (nowAt m q)
     logged-after q j e d says = go (done-now m cut k (r .place) (r .from) (r .runs) (r .quiet) q j d)
       where
-        kept : List·Memᴰ (pairOf e (nowAt m q)) l ⊎ Gone m ts low e (nowAt m q)
-            → List·Memᴰ (pairOf e (nowAt m q)) newLog ⊎ Gone m newRecords low e (nowAt m q)
+        kept : Known m l ts low e (nowAt m q)
+            → Known m newLog newRecords low e (nowAt m q)
         kept (inl held) = inl (withPairs-kept l c (effect .notified) held)
         kept (inr gone) = inr (gone-kept e (nowAt m q) gone)
 
-        go : Done m cut q j ⊎ ((q ≡ r .place) × (j ≡ k)) → List·Memᴰ (pairOf e (nowAt m q)) newLog ⊎ Gone m newRecords low e (nowAt m q)
+        go : Done m cut q j ⊎ ((q ≡ r .place) × (j ≡ k)) → Known m newLog newRecords low e (nowAt m q)
         go (inl old) = kept (ic .logged q j e old says)
         go (inr (p, f)) =
             let here : Says m (r .place) k e = rw (p, f) at says in
             inl (Memᴰ·cast (ap (pairOf e) (ap (nowAt m) p ∙ r .now)) (withPairs-new l c (effect .notified) e (rw notified-there (here .notifies))))
 
     notified-after : (y : Notification) → List·Memᴰ y newLog
-        → (q : ℕ) × (j : ℕ) × Done m newCut q j × Says m q j (y .event) × (nowAt m q ≡ y .cycle)
+        → Made m newCut y
     notified-after y held = go (withPairs-only l c (effect .notified) held)
       where
         go : List·Memᴰ y l ⊎ ((y .cycle ≡ c) × T (has (effect .notified) (y .event)))
-            → (q : ℕ) × (j : ℕ) × Done m newCut q j × Says m q j (y .event) × (nowAt m q ≡ y .cycle)
+            → Made m newCut y
         go (inl old) =
             let (q, j, d, says, now) = ic .notified y old in
             (q, j, done-kept m cut k (suc (r .place)) (omega (arith, r .from)) q j d, says, now)

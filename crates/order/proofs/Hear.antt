@@ -4,7 +4,7 @@
 -- Takes as given the facts of the plain run (PlainFacts) and the laws of the kit (KitLaws).
 use Prim.Native.Nat.{ℕ, suc, _≤_, _<_}
 use mathlib.Core.Path.{_≡_, refl, ap, sym, _∙_, subst}
-use mathlib.Core.Logic.{_⊎_, inl, inr}
+use mathlib.Core.Logic.{inl, inr}
 use mathlib.Core.Bool.{Bool}
 use mathlib.Core.List.{List, [], _∷_, _++_, List·Memᴰ}
 use native.Mathlib.Omega.{arith}
@@ -31,7 +31,7 @@ use Rattle.early_laws.proofs.LookLaws.{heardNow-at}
 use Rattle.order.proofs.Places.{nowAt, recordAt, wokenIn, Runs, Says, Hears, Happens, idle, runs, hears}
 use Rattle.order.proofs.PlainFacts.{PlainFacts, NextHearing}
 use Rattle.order.proofs.KitLaws.{boundIn, KitLaws}
-use Rattle.order.proofs.Invariant.{Done, Gone, IsCut, Bounded}
+use Rattle.order.proofs.Invariant.{Known, Made, IsCut, Bounded}
 
 -- the plain run's next hearing of thread k after its cut, at cycle c
 pub record HearingAt (m : Model) (n k e : ℕ) (since c : Cycle) : Type 0 where
@@ -68,7 +68,7 @@ module _ (m : Model) (pf : PlainFacts m) {marks : List (List Bool)} {ws : List �
             (f .forecast-below e j segment (run .below) (bd .live q j run late) (pf .segment-below q j (run .below)) says-listed)
             (bd .sound q j run late))
 
-        done : List·Memᴰ (pairOf e (nowAt m q)) l ⊎ Gone m ts low e (nowAt m q) → c ⊑ nowAt m q
+        done : Known m l ts low e (nowAt m q) → c ⊑ nowAt m q
         done (inl logged) =
             subst (λ (b : Bound). b ≼ At (nowAt m q)) (least-now .0) (leastHeard-≼ l e since (pairOf e (nowAt m q)) logged refl begun)
         done (inr gone) = absurd (Before→not-⊑ (gone .unheard k since below w) begun)
@@ -138,6 +138,6 @@ module _ (m : Model) (pf : PlainFacts m) {marks : List (List Bool)} {ws : List �
                 item : historyAt m k (suc r) ≡ historyAt m k (cut k) ++ (heard e c ∷ [])
                 item = rw (historyAt-more m k r, n .history, items, same-event, at-c) refl
 
-        found : (q : ℕ) × (j : ℕ) × Done m cut q j × Says m q j e × (nowAt m q ≡ c) → HearingAt m (cut k) k e since c
+        found : Made m cut (pairOf e c) → HearingAt m (cut k) k e since c
         found (q, j, _, says, same) =
             made q same (pf .next-hearing (cut k) k e q j since below waits says (subst (λ (y : Cycle). since ⊑ y) (sym same) begun))

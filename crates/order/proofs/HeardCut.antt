@@ -3,7 +3,7 @@
 -- Takes as given the facts of the plain run (PlainFacts) and the laws of the kit (KitLaws).
 use Prim.Native.Nat.{ℕ, suc, _≤_, _<_}
 use mathlib.Core.Path.{_≡_, ap, sym, _∙_, subst₂, fun-ext}
-use mathlib.Core.Logic.{_⊎_, inl, inr}
+use mathlib.Core.Logic.{inl, inr}
 use mathlib.Core.Bool.{Bool}
 use mathlib.Core.List.{List, [], _∷_, _++_, List·Memᴰ, append-nil}
 use native.Mathlib.Omega.{arith}
@@ -28,10 +28,10 @@ use Rattle.early.specs.Log.{pairOf}
 use Rattle.early.specs.Deliver.{heardNow, lookedAt, lookItems}
 use Rattle.early_laws.proofs.LogLaws.{leastHeard-at}
 use Rattle.early_laws.proofs.LookLaws.{Looked, unheard, hears, looked, heardNow-at, heardAt-waits, lookedAt-none, lookedAt-heard, lookItems-none, lookItems-other, lookItems-heard}
-use Rattle.order.proofs.Places.{nowAt, recordAt, wokenIn, Says}
+use Rattle.order.proofs.Places.{nowAt, recordAt, wokenIn}
 use Rattle.order.proofs.PlainFacts.{PlainFacts}
 use Rattle.order.proofs.KitLaws.{KitLaws}
-use Rattle.order.proofs.Invariant.{Done, Gone, IsCut, SomeCut, Bounded, moved, adding}
+use Rattle.order.proofs.Invariant.{Known, Gone, IsCut, SomeCut, Bounded, moved, adding}
 use Rattle.order.proofs.CutLaws.{set-each, moved-records, moved-history, adding-same, adding-other, done-kept, done-back}
 use Rattle.order.proofs.GoodLaws.{good-moved}
 use Rattle.order.proofs.Hear.{HearingAt, next-heard}
@@ -39,7 +39,7 @@ use Rattle.order.proofs.Hear.{HearingAt, next-heard}
 -- a cut of the same records and histories
 pub cut-same : {m : Model} {x : List ℕ} {l : List Notification} {ts ts′ : List Thread} {h h′ : ℕ → List Item} {cut : ℕ → ℕ} {low : Bound}
     → IsCut m x l ts h cut low → ts ≡ ts′ → ((j : ℕ) → h j ≡ h′ j) → IsCut m x l ts′ h′ cut low
-cut-same {m} {x} {l} {ts} {ts′} {h} {h′} {cut} {low} ic e f = subst₂ (λ (a : List Thread) (b : ℕ → List Item). IsCut m x l a b cut low) e (fun-ext f) ic
+cut-same {m} {x} {l} {cut = cut} {low = low} ic e f = subst₂ (λ (a : List Thread) (b : ℕ → List Item). IsCut m x l a b cut low) e (fun-ext f) ic
 
 module _ (m : Model) (pf : PlainFacts m) {marks : List (List Bool)} {ws : List ℕ} (kl : KitLaws m marks ws) where
   module _
@@ -48,7 +48,7 @@ module _ (m : Model) (pf : PlainFacts m) {marks : List (List Bool)} {ws : List �
       (bd : Bounded m ws ts cut (kl .forecasts l ts .earliest))
     where
       -- a look at a thread that hears: its record, its history, and its cut past the close at which the plain run wakes it
-      module _ (k e : ℕ) (since c : Cycle) (below : k < m .t) (w : viewOf (threadAt ts k .state) ≡ view.waits e since) (heard-now : low ≼ At c) (ha : HearingAt m (cut k) k e since c) where
+      module _ (k e : ℕ) (since c : Cycle) (below : k < m .t) (heard-now : low ≼ At c) (ha : HearingAt m (cut k) k e since c) where
         -- the record that it gets
         abbrev woken : Thread
         woken = wokenIn (threadAt ts k .segment) c
@@ -58,13 +58,6 @@ module _ (m : Model) (pf : PlainFacts m) {marks : List (List Bool)} {ws : List �
 
         on : cut k ≤ suc (ha .place)
         on = omega (arith, ha .from)
-
-        -- the same places are done
-        forth : (q a : ℕ) → Done m cut q a → Done m later q a
-        forth = done-kept m cut k (suc (ha .place)) on
-
-        back : (q a : ℕ) → Done m later q a → Done m cut q a
-        back = done-back m cut k (suc (ha .place)) on (ha .quiet)
 
         inside : k < length ts
         inside = omega (arith, ic .size)
@@ -93,8 +86,8 @@ module _ (m : Model) (pf : PlainFacts m) {marks : List (List Bool)} {ws : List �
               good = good-moved m pf kl cut x k (suc (ha .place)) on (ha .quiet) (ic .good);
               low-ready = low-ready-after;
               low-logged = ic .low-logged;
-              logged = λ q j f d s. logged-after f (nowAt m q) (ic .logged q j f (back q j d) s);
-              notified = λ y i. notified-after y (ic .notified y i);
+              logged = λ q j f d s. logged-after f (nowAt m q) (ic .logged q j f (done-back m cut k (suc (ha .place)) on (ha .quiet) q j d) s);
+              notified = λ y i. let (q, j, d, s, f) = ic .notified y i in (q, j, done-kept m cut k (suc (ha .place)) on q j d, s, f);
               once = ic .once;
             }
           where
@@ -104,14 +97,10 @@ module _ (m : Model) (pf : PlainFacts m) {marks : List (List Bool)} {ws : List �
             heard-is : h k ++ (heard e c ∷ []) ≡ historyAt m k (suc (ha .place))
             heard-is = ap (λ (a : List Item). a ++ (heard e c ∷ [])) (ic .history k below) ∙ sym (ha .history-after)
 
-            logged-after : (f : ℕ) (d : Cycle) → List·Memᴰ (pairOf f d) l ⊎ Gone m ts low f d
-                → List·Memᴰ (pairOf f d) l ⊎ Gone m (set ts k woken) low f d
+            logged-after : (f : ℕ) (d : Cycle) → Known m l ts low f d
+                → Known m l (set ts k woken) low f d
             logged-after f d (inl i) = inl i
             logged-after f d (inr g) = inr (gone-after f d g)
-
-            notified-after : (y : Notification) → (q : ℕ) × (j : ℕ) × Done m cut q j × Says m q j (y .event) × (nowAt m q ≡ y .cycle)
-                → (q : ℕ) × (j : ℕ) × Done m later q j × Says m q j (y .event) × (nowAt m q ≡ y .cycle)
-            notified-after y (q, j, d, s, f) = (q, j, forth q j d, s, f)
 
       -- One look keeps a cut. A thread that hears moves on as the plain run moves it; any other stays as it is.
       pub looked-cut : (k : ℕ) → k < m .t
@@ -132,7 +121,7 @@ module _ (m : Model) (pf : PlainFacts m) {marks : List (List Bool)} {ws : List �
               moves (e, since, w, now) = (
                 moved cut k (suc (ha .place)),
                 cut-same
-                    (heard-cut k e since c below w (ic .low-logged (pairOf e c) logged) ha) (sym (lookedAt-heard m ws l ts k c at-c))
+                    (heard-cut k e since c below (ic .low-logged (pairOf e c) logged) ha) (sym (lookedAt-heard m ws l ts k c at-c))
                     (λ j. added j (ℕ-discrete j k)),
               )
                 where

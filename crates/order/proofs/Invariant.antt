@@ -12,16 +12,14 @@ use lib.ListN.{length, getD}
 use Rattle.clock.specs.declared.Cycle.{Cycle}
 use Rattle.clock.specs.declared.Bound.{Bound}
 use Rattle.clock.specs.declared.Bound.the-variants.{At}
-use Rattle.clock.specs.Advance.{_⊕_}
 use Rattle.clock.specs.Order.{Before, _≼_}
 use Rattle.model.specs.declared.Model.{Model}
 use Rattle.model.specs.declared.Thread.{Thread}
 use Rattle.model.specs.Record as view
 use Rattle.model.specs.Record.{threadAt, isLive, viewOf}
-use Rattle.model.specs.Footprint.{writesIn, usesIn}
+use Rattle.model.specs.Footprint.{writesIn}
 use Rattle.plain.specs.Step.{placeAt}
 use Rattle.plain.specs.History.{Item, historyAt}
-use Rattle.tables.specs.Word.{distanceIn}
 use Rattle.early.specs.declared.Notification.{Notification}
 use Rattle.early.specs.Log.{pairOf}
 use Rattle.early_laws.proofs.OnceLaws.{Once}
@@ -54,6 +52,14 @@ pub record Gone (m : Model) (ts : List Thread) (low : Bound) (e : ℕ) (c : Cycl
   pub dropped : low ≼ At c → ⊥
   pub unheard : (k : ℕ) (since : Cycle) → k < m .t → viewOf (threadAt ts k .state) ≡ view.waits e since → Before c since
 
+-- event e, notified at c, is logged or past for all
+abbrev pub Known : Model → List Notification → List Thread → Bound → ℕ → Cycle → Type 0
+Known m l ts low e c = List·Memᴰ (pairOf e c) l ⊎ Gone m ts low e c
+
+-- a done place made notification y
+abbrev pub Made : Model → (ℕ → ℕ) → Notification → Type 0
+Made m cut y = (q : ℕ) × (k : ℕ) × Done m cut q k × Says m q k (y .event) × (nowAt m q ≡ y .cycle)
+
 -- variables x, log l, records ts and histories h are the plain run's, cut at `cut`; `low` is the floor of the last drop
 pub record IsCut (m : Model) (x : List ℕ) (l : List Notification) (ts : List Thread) (h : ℕ → List Item) (cut : ℕ → ℕ) (low : Bound)
     : Type 0 where
@@ -64,9 +70,9 @@ pub record IsCut (m : Model) (x : List ℕ) (l : List Notification) (ts : List T
   pub low-ready : (k : ℕ) (c : Cycle) → k < m .t → viewOf (threadAt ts k .state) ≡ view.ready c → low ≼ At c
   pub low-logged : (y : Notification) → List·Memᴰ y l → low ≼ At (y .cycle)
   -- what a done place notified is logged, or past for all
-  pub logged : (q k e : ℕ) → Done m cut q k → Says m q k e → List·Memᴰ (pairOf e (nowAt m q)) l ⊎ Gone m ts low e (nowAt m q)
+  pub logged : (q k e : ℕ) → Done m cut q k → Says m q k e → Known m l ts low e (nowAt m q)
   -- what is logged, a done place notified
-  pub notified : (y : Notification) → List·Memᴰ y l → (q : ℕ) × (k : ℕ) × Done m cut q k × Says m q k (y .event) × (nowAt m q ≡ y .cycle)
+  pub notified : (y : Notification) → List·Memᴰ y l → Made m cut y
   pub once : Once l
 
 -- they are the plain run's at some cut

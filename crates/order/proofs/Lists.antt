@@ -1,12 +1,12 @@
 -- From one state to the next, and over a whole list: a fresh state is a cut, a refused request changes nothing, and after a
 -- granted one the run, the deliveries and the drop leave a cut at its floor, with room in the log.
 -- Takes as given the facts of the plain run (PlainFacts) and the laws of the kit (KitLaws).
-use Prim.Native.Nat.{ℕ, suc, _≤_, _<_}
+use Prim.Native.Nat.{ℕ, suc, _≤_}
 use mathlib.Core.Path.{_≡_, refl, sym, subst, subst₂, fun-ext}
-use mathlib.Core.Bool.{Bool, false, cond}
+use mathlib.Core.Bool.{Bool, cond}
 use mathlib.Core.List.{List, [], _∷_, _++_, append-assoc, append-nil, List·Memᴰ·not-nil}
 use native.Mathlib.Omega.{arith}
-use lib.Dec.{T, eqb}
+use lib.Dec.{eqb}
 use lib.ListN.{length}
 use Rattle.base.proofs.BoolLaws.{true→T}
 use Rattle.clock.specs.declared.Cycle.{Cycle}
@@ -26,10 +26,9 @@ use Rattle.plain_laws.proofs.StartLaws.{shape}
 use Rattle.early.specs.declared.Notification.{Notification}
 use Rattle.early.specs.declared.Site.{Site}
 use Rattle.early.specs.Log.{logOf, countedPlaces, dropBefore}
-use Rattle.early.specs.Hazard.{hazard}
 use Rattle.early.specs.Deliver.{settledItems}
 use Rattle.early.specs.Grant.{effectAt, logAfter, closedThreads, threadsAfter, siteAfter, itemsAfter}
-use Rattle.early.specs.Request.{Requested, isFull, grantedTo, requestOf, freshSite, requestsOf}
+use Rattle.early.specs.Request.{Requested, grantedTo, requestOf, freshSite, requestsOf}
 use Rattle.early_laws.proofs.OnceLaws.{none, dropBefore-length, withPairs-shorter}
 use Rattle.early_laws.proofs.GrantLaws.{isFull-none, isFull-early, threadsAfter-rest}
 use Rattle.early_laws.proofs.RequestLaws.{Grantable, Asked, refused, granted, requestOf-asked, requestsOf-carries}

@@ -6,7 +6,7 @@ use Prim.Native.Nat.{ℕ, zero, suc, _≤_, _<_}
 use mathlib.Core.Path.{_≡_, refl, ap, sym, _∙_, subst}
 use mathlib.Core.Logic.{_⊎_, inl, inr}
 use mathlib.Core.Bool.{Bool}
-use mathlib.Core.List.{List, List·Memᴰ}
+use mathlib.Core.List.{List}
 use native.Mathlib.Omega.{arith}
 use native.Mathlib.Decide.{decLt, ℕ-discrete}
 use lib.Dec.{T}
@@ -34,7 +34,7 @@ use Rattle.order.proofs.Places.{nowAt, recordAt, effectThere, wokenIn, 
 use Rattle.order.proofs.PlainFacts.{PlainFacts}
 use Rattle.order.proofs.KitLaws.{boundIn, KitLaws, Forecasts}
 use Rattle.order.proofs.PlaceLaws.{Over, over-ready-not, over-stays, heard-ready}
-use Rattle.order.proofs.Invariant.{Gone, IsCut, Bounded}
+use Rattle.order.proofs.Invariant.{Known, IsCut, Bounded}
 
 module _ (m : Model) (pf : PlainFacts m) {marks : List (List Bool)} {ws : List ℕ} (kl : KitLaws m marks ws)
     {x : List ℕ} {l : List Notification} {ts : List Thread} {h : ℕ → List Item} {cut : ℕ → ℕ} {low : Bound}
@@ -103,7 +103,7 @@ module _ (m : Model) (pf : PlainFacts m) {marks : List (List Bool)} {ws : List �
         by : (q j : ℕ) → q < n → Says m q j e → since ⊑ nowAt m q → Dec (q < cut j) → f .earliest k ≼ At (nowAt m q) ⊕ oneDelta
         by q j sooner says begun (yes d) = go (ic .logged q j e (record { runs = says .runs; passed = d }) says)
           where
-            go : List·Memᴰ (pairOf e (nowAt m q)) l ⊎ Gone m ts low e (nowAt m q) → f .earliest k ≼ At (nowAt m q) ⊕ oneDelta
+            go : Known m l ts low e (nowAt m q) → f .earliest k ≼ At (nowAt m q) ⊕ oneDelta
             go (inl held) = f .heard k (pairOf e (nowAt m q)) (record { below = hear .below; since = since; waits = waits; logged = held; begun = begun })
             go (inr gone) = absurd (Before→not-⊑ (gone .unheard k since (hear .below) waits) begun)
         by q j sooner says begun (no d) =

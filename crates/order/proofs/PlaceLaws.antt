@@ -16,7 +16,7 @@ use Rattle.clock.specs.declared.Wait.the-variants as wait
 use Rattle.clock.specs.declared.Bound.the-variants.{At}
 use Rattle.clock.specs.Wait.{waitEnds}
 use Rattle.clock.specs.Advance.{_⊕_, oneDelta}
-use Rattle.clock.specs.Order.{Before, _⊑_}
+use Rattle.clock.specs.Order.{_⊑_}
 use Rattle.clock.proofs.OrderLaws.{Before→⊑}
 use Rattle.clock.proofs.AdvanceLaws.{advanceOf-Event}
 use Rattle.clock.proofs.WaitLaws.{waitEnds-advance}

@@ -3,7 +3,7 @@
 -- So it is granted; and where some thread is ready before the horizon, there is a least.
 -- Takes as given the facts of the plain run (PlainFacts) and the laws of the kit (KitLaws).
 use Prim.Native.Nat.{ℕ, _≤_, _<_}
-use mathlib.Core.Path.{_≡_, refl, ap, sym, _∙_, subst}
+use mathlib.Core.Path.{_≡_, refl, ap, sym, _∙_, subst, subst₂}
 use mathlib.Core.Logic.{inl, inr}
 use mathlib.Core.Bool.{Bool, true, false}
 use mathlib.Core.List.{List}
@@ -44,15 +44,16 @@ use Rattle.order.proofs.Reached.{Reached, cut-fit, logged-event}
 use Rattle.order.proofs.LeastReady.{LeastReady, least-floor, some-least}
 
 module _ (m : Model) (pf : PlainFacts m) {marks : List (List Bool)} {ws : List ℕ} (kl : KitLaws m marks ws) where
-  module _ {x : List ℕ} {l : List Notification} {ts : List Thread} {h : ℕ → List Item} {cut : ℕ → ℕ} (ic : IsCut m x l ts h cut (floorOf m ts)) (i : ℕ) (c : Cycle) (lr : LeastReady m ts i c) where
+  module _ {x : List ℕ} {l : List Notification} {ts : List Thread} {h : ℕ → List Item} {cut : ℕ → ℕ}
+      (ic : IsCut m x l ts h cut (floorOf m ts)) (i : ℕ) (c : Cycle) (lr : LeastReady m ts i c) where
+    fl : floorOf m ts ≡ At c
+    fl = least-floor m ts i c lr
+
     -- a thread whose earliest is not after the floor is ready there, with no smaller number
     floor-thread : (j : ℕ) (a : Cycle) → j < m .t → T (isLive (threadAt ts j .state)) → kl .forecasts l ts .earliest j ≡ At a → a ⊑ c
         → j < i → ⊥
     floor-thread j a below live ea ac ji = go (viewOf (threadAt ts j .state)) refl live
       where
-        fl : floorOf m ts ≡ At c
-        fl = least-floor m ts i c lr
-
         go : (v : View) → viewOf (threadAt ts j .state) ≡ v → T (isLiveView v) → ⊥
         go view.idle e t = t
         go (view.waits f d) e t = Before→not-⊑ (waiting-after-floor m kl l ts (cut-quiet ic) j f d c a below e fl ea) ac
@@ -62,7 +63,7 @@ module _ (m : Model) (pf : PlainFacts m) {marks : List (List Bool)} {ws : List �
             same-a = let p : At d ≡ At a = sym (kl .forecasts l ts .ready j d below e) ∙ ea in cc
 
             at-floor : d ≡ c
-            at-floor = same-a ∙ ⊑-antisym ac (subst (λ (x : Cycle). c ⊑ x) same-a (subst (λ (b : Bound). b ≼ At d) fl (floor-below m ts j d below e)))
+            at-floor = same-a ∙ ⊑-antisym ac (subst₂ (λ (b : Bound) (x : Cycle). b ≼ At x) fl same-a (floor-below m ts j d below e))
 
     pub least-free : hazard m marks ws l ts i c ≡ false
     least-free = T→false (hazard m marks ws l ts i c) (not-T (hazard m marks ws l ts i c) threatened)
@@ -70,9 +71,6 @@ module _ (m : Model) (pf : PlainFacts m) {marks : List (List Bool)} {ws : List �
         threatened : T (hazard m marks ws l ts i c) → ⊥
         threatened t = found (kl .forecasts l ts .some-hazard i c (T→true (hazard m marks ws l ts i c) t))
           where
-            fl : floorOf m ts ≡ At c
-            fl = least-floor m ts i c lr
-
             earliest : ℕ → Bound
             earliest = kl .forecasts l ts .earliest
 
@@ -87,7 +85,7 @@ module _ (m : Model) (pf : PlainFacts m) {marks : List (List Bool)} {ws : List �
                     at-earliest (a, ea, ab) = by-stamp stamp
                       where
                         above : c ⊑ a
-                        above = subst (λ (z : Bound). At c ≼ z) ea (subst (λ (z : Bound). z ≼ earliest j) fl (floor-below-earliest m kl l ts (cut-quiet ic) j below))
+                        above = subst₂ (λ (a b : Bound). a ≼ b) fl ea (floor-below-earliest m kl l ts (cut-quiet ic) j below)
 
                         by-stamp : StampBefore (stampAt b j) (stampAt c i) → ⊥
                         by-stamp (inl bc) = Before→not-⊑ bc (⊑-trans above ab)
@@ -102,14 +100,11 @@ module _ (m : Model) (pf : PlainFacts m) {marks : List (List Bool)} {ws : List �
         (λ y in-log. (logged-event m pf kl ic y in-log, subst (λ (b : Bound). b ≼ At (y .cycle)) fl (ic .low-logged y in-log)))
         (λ e t. kl .distances .listed-below i (threadAt ts i .segment) e inside t))
       where
-        fl : floorOf m ts ≡ At c
-        fl = least-floor m ts i c lr
-
         inside : threadAt ts i .segment < m .n
         inside = subst (λ (t : Thread). t .segment < m .n) (sym (ic .records i (lr .below))) (pf .segment-below (cut i) i (lr .below))
 
     pub least-room : Roomy (floorOf m ts) l → isFull m (siteOf x l) ts i c ≡ false
-    least-room room = isFull-floor m (siteOf x l) ts i c (subst (λ (b : Bound). At c ≼ b) (sym (least-floor m ts i c lr)) ⊑-refl) (least-counted room)
+    least-room room = isFull-floor m (siteOf x l) ts i c (subst (λ (b : Bound). At c ≼ b) (sym fl) ⊑-refl) (least-counted room)
 
     -- it is granted
     pub cut-granted : Roomy (floorOf m ts) l → length l ≤ places → T (isBeforeHorizon m c)
