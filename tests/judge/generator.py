@@ -1,4 +1,4 @@
-"""The generator of crates/versus (src/draw.rt) once more: the model file of a seed (docs/MODEL-FILE.md).
+"""The generator of crates/second (src/draw.rt), written a second time: the model file of a seed (docs/MODEL-FILE.md).
 
 The table is read from draw.rt; all else is written anew."""
 import os
@@ -12,7 +12,7 @@ END = (0, 0, 0, (0, 0, 0, 0))
 
 
 def table():
-    with open(os.path.join(HERE, "../../crates/versus/src/draw.rt")) as f:
+    with open(os.path.join(HERE, "../../crates/second/src/draw.rt")) as f:
         text = re.search(r"const TABLE: \[u64; 280\] = \[(.*?)\];", f.read(), re.S).group(1)
     return [int(x) for x in re.findall(r"\d+", re.sub(r"//.*", "", text))]
 

@@ -1,14 +1,14 @@
-// The library's side: its functions on models in files and on states as words, laid out as in compare.rt.
-use crate::compare;
-use crate::issue::Reply;
-use crate::number;
-use crate::number::at;
-use crate::number::put;
+// The library's side: its functions on models in files and on states as words, laid out as in `second::layout`.
 use clock::ThreadNo;
 use early::Answer;
 use early::Site;
 use model::Model;
 use model::Threads;
+use second::issue::Reply;
+use second::layout;
+use second::number;
+use second::number::at;
+use second::number::put;
 
 pub fn model_in(file: &[u8]) -> Model {
     let x = reader_file::read_file(file);
@@ -18,7 +18,7 @@ pub fn model_in(file: &[u8]) -> Model {
 fn hold_values(held: &mut [u64; 640], values: &[u32; 64]) {
     let mut i: usize = 0;
     while i < 64 {
-        put(held, compare::VARIABLES, i as u64, number::word(values[i]));
+        put(held, layout::VARIABLES, i as u64, number::word(values[i]));
         i += 1;
     }
 }
@@ -27,7 +27,7 @@ fn values_in(held: &[u64; 640]) -> [u32; 64] {
     let mut values = [0u32; 64];
     let mut i: usize = 0;
     while i < 64 {
-        values[i] = (at(held, compare::VARIABLES, i as u64) % 4294967296) as u32;
+        values[i] = (at(held, layout::VARIABLES, i as u64) % 4294967296) as u32;
         i += 1;
     }
     values
@@ -35,8 +35,8 @@ fn values_in(held: &[u64; 640]) -> [u32; 64] {
 
 // The log's words.
 fn log_in(held: &[u64]) -> &[u64] {
-    if compare::LOG <= held.len() {
-        return &held[compare::LOG..];
+    if layout::LOG <= held.len() {
+        return &held[layout::LOG..];
     }
     held
 }
@@ -47,8 +47,8 @@ fn site_in(held: &[u64; 640]) -> Site {
 }
 
 fn hold_site(held: &mut [u64], site: Site, values: &mut [u32; 64]) {
-    if compare::LOG <= held.len() {
-        export_state::site_into(site, values, &mut held[compare::LOG..]);
+    if layout::LOG <= held.len() {
+        export_state::site_into(site, values, &mut held[layout::LOG..]);
     }
 }
 
@@ -67,9 +67,9 @@ pub fn run(m: Model, budget: u64, held: &mut [u64; 640]) {
     let threads = r.threads;
     hold_values(held, &values);
     export_state::threads_into(threads, held);
-    held[compare::ANSWER] = number::wide(r.number);
-    held[compare::RAN] = r.n;
-    held[compare::SPENT] = if r.spent { 1 } else { 0 };
+    held[layout::ANSWER] = number::wide(r.number);
+    held[layout::RAN] = r.n;
+    held[layout::SPENT] = if r.spent { 1 } else { 0 };
 }
 
 fn reply(number: u8, segment: u8, time: u64, delta: u32) -> Reply {

@@ -2,19 +2,16 @@
 // are written, and generated ones; then lists of requests against a second scheduler, on generated models. Counts follow each; every
 // difference is a line of its own.
 mod compare;
-mod draw;
-mod graph;
-mod issue;
 mod library;
-mod log;
-mod number;
 mod orders;
 mod print;
-mod second;
-mod start;
 
 use libc::STDIN_FILENO;
-use number::at;
+use second::draw;
+use second::layout;
+use second::number;
+use second::number::at;
+use second::simulator;
 
 // The first seed, and how many models.
 const SEED: u64 = 24000;
@@ -42,18 +39,18 @@ pub fn add(totals: &mut [u64; 16], i: u64, x: u64) {
 }
 
 fn count_records(totals: &mut [u64; 16], desk: &[u64; 640]) {
-    let t = at(desk, second::THREADS, 0);
+    let t = at(desk, simulator::THREADS, 0);
     let mut k: u64 = 0;
     while k < t {
-        add(totals, RECORDS + at(desk, second::RECORDS, k) % 4, 1);
+        add(totals, RECORDS + at(desk, simulator::RECORDS, k) % 4, 1);
         k += 1;
     }
 }
 
 fn count(totals: &mut [u64; 16], desk: &[u64; 640]) {
     add(totals, RUNS, 1);
-    add(totals, SEGMENTS, at(desk, second::RAN, 0));
-    add(totals, DONE + at(desk, second::SPENT, 0) % 2, 1);
+    add(totals, SEGMENTS, at(desk, simulator::RAN, 0));
+    add(totals, DONE + at(desk, simulator::SPENT, 0) % 2, 1);
     count_records(totals, desk);
 }
 
@@ -61,13 +58,13 @@ fn count(totals: &mut [u64; 16], desk: &[u64; 640]) {
 fn hold(totals: &mut [u64; 16], seed: u64, bytes: &[u8; 16384], size: usize, budget: u64) {
     let file = number::first(bytes, size);
     let mut desk = [0u64; 640];
-    second::simulate(file, budget, &mut desk);
+    simulator::simulate(file, budget, &mut desk);
     count(totals, &desk);
     let mut held = [0u64; 640];
     library::run(library::model_in(file), budget, &mut held);
-    let h = second::field(file, 4, 0, 4);
-    let words = compare::words_of(&desk);
-    compare::hold(totals, seed, h, budget, &held, &words, compare::ALL);
+    let h = simulator::field(file, 4, 0, 4);
+    let words = layout::words_of(&desk);
+    compare::hold(totals, seed, h, budget, &held, &words, layout::ALL);
 }
 
 // Budgets inside and at the end of a run of n segments.
@@ -112,7 +109,7 @@ fn hold_each(
     time: u64,
     most: u64,
 ) {
-    let own = second::field(file, 4, 0, 4);
+    let own = simulator::field(file, 4, 0, 4);
     let mut i: u64 = 0;
     while i < 16 {
         draw::put(file, 4, 4, horizon(i, own, time));
@@ -123,10 +120,10 @@ fn hold_each(
 
 fn hold_all(totals: &mut [u64; 16], seed: u64, file: &mut [u8; 16384], size: usize, most: u64) {
     let mut desk = [0u64; 640];
-    second::simulate(file, most, &mut desk);
-    let k = draw::pick(seed, 8, at(&desk, second::THREADS, 0));
-    let time = at(&desk, second::RECORDS, k) / 268435456;
-    let n = at(&desk, second::RAN, 0);
+    simulator::simulate(file, most, &mut desk);
+    let k = draw::pick(seed, 8, at(&desk, simulator::THREADS, 0));
+    let time = at(&desk, simulator::RECORDS, k) / 268435456;
+    let n = at(&desk, simulator::RAN, 0);
     hold_each(totals, seed, file, size, n, time, most);
     add(totals, OF_MODELS, 1);
 }
@@ -144,8 +141,8 @@ fn refuse(totals: &mut [u64; 16], seed: u64, file: &[u8; 16384], size: usize) {
     let mut held = [0u64; 640];
     library::run(x, 300, &mut held);
     let mut refused = [0u64; 640];
-    refused[compare::ANSWER] = 11;
-    if compare::hold(totals, seed, 0, 300, &held, &refused, compare::ALL) {
+    refused[layout::ANSWER] = 11;
+    if compare::hold(totals, seed, 0, 300, &held, &refused, layout::ALL) {
         add(totals, REFUSALS, 1);
     }
 }
@@ -199,7 +196,7 @@ fn next_part(buffer: &mut [u8]) -> usize {
     if io::read_full(STDIN_FILENO, &mut head) < 2 {
         return 0;
     }
-    read_part(buffer, second::field(&head, 0, 0, 2) as usize)
+    read_part(buffer, simulator::field(&head, 0, 0, 2) as usize)
 }
 
 // The sheet of a stored model.

@@ -2,17 +2,18 @@
 // Lists 0 to 2 start fresh, lists 3 to 5 at a drawn state. Lists 0 and 3 ask at random, also for threads that are not there;
 // lists 1 and 4 the thread that is most ahead first; lists 2 and 5 the one at the floor last. After a grant the choice starts over.
 use crate::compare;
-use crate::draw;
-use crate::graph;
-use crate::issue;
-use crate::issue::Reply;
 use crate::library;
-use crate::number;
-use crate::number::at;
-use crate::second;
-use crate::second::NEVER;
-use crate::second::key_of;
-use crate::start;
+use second::draw;
+use second::graph;
+use second::issue;
+use second::issue::Reply;
+use second::layout;
+use second::number;
+use second::number::at;
+use second::simulator;
+use second::simulator::NEVER;
+use second::simulator::key_of;
+use second::start;
 
 // Places of the counts. Refusals with 10 to 15 stand from 5 on.
 const MODELS: u64 = 0;
@@ -45,8 +46,8 @@ struct List {
 
 // The stamp of thread k as key × 256 + k, if it is ready before the horizon; else NEVER.
 fn stamp(desk: &[u64; 640], k: u64) -> u64 {
-    let x = at(desk, second::RECORDS, k);
-    if x % 4 != second::READY || at(desk, second::END, 0) <= key_of(x) {
+    let x = at(desk, simulator::RECORDS, k);
+    if x % 4 != simulator::READY || at(desk, simulator::END, 0) <= key_of(x) {
         return NEVER;
     }
     key_of(x) * 256 + k % 256
@@ -99,7 +100,7 @@ fn next(desk: &[u64; 640], l: List) -> u64 {
     match l.number % 3 {
         0 => {
             let x = draw::mixed(l.seed, number::sum(l.made, 1000));
-            any_thread(x, at(desk, second::THREADS, 0))
+            any_thread(x, at(desk, simulator::THREADS, 0))
         }
         1 => most_below(desk, l.last),
         _ => floor_last(desk, l.last),
@@ -153,7 +154,7 @@ fn issue_next(
     word: u64,
 ) -> Reply {
     let floor = issue::floor(desk);
-    let x = at(desk, second::RECORDS, word % 32);
+    let x = at(desk, simulator::RECORDS, word % 32);
     let r = issue::request(file, g, desk, word % 256, x);
     tally(totals, r.number, key_of(x), floor);
     crate::add(totals, OVERRUNS, r.overruns);
@@ -170,9 +171,9 @@ fn hold_turn(
     b: Reply,
 ) -> bool {
     let mut first = *held;
-    compare::put_reply(&mut first, a);
-    let mut other = compare::words_of(desk);
-    compare::put_reply(&mut other, b);
+    layout::put_reply(&mut first, a);
+    let mut other = layout::words_of(desk);
+    layout::put_reply(&mut other, b);
     compare::hold(
         totals,
         l.seed,
@@ -180,7 +181,7 @@ fn hold_turn(
         l.made,
         &first,
         &other,
-        compare::ALL,
+        layout::ALL,
     )
 }
 
@@ -254,8 +255,8 @@ fn whole(
     let mut out = [0u64; 16384];
     let asked = number::first(ks, l.made as usize);
     library::ask_all(file, words, held, asked, &mut out);
-    let left = compare::words_of(desk);
-    compare::hold(totals, l.seed, l.number, l.made, held, &left, compare::ALL);
+    let left = layout::words_of(desk);
+    compare::hold(totals, l.seed, l.number, l.made, held, &left, layout::ALL);
     compare::hold_answers(totals, l.seed, l.number, l.made, &out, answers);
 }
 
@@ -263,10 +264,10 @@ fn whole(
 // run's, of as many segments as were granted.
 fn hold_ended(totals: &mut [u64; 16], file: &[u8], held: &[u64; 640], l: List) {
     let mut other = [0u64; 640];
-    second::simulate(file, number::sum(l.granted, 1), &mut other);
+    simulator::simulate(file, number::sum(l.granted, 1), &mut other);
     let mut first = *held;
-    first[compare::RAN] = l.granted;
-    let plain = compare::words_of(&other);
+    first[layout::RAN] = l.granted;
+    let plain = layout::words_of(&other);
     compare::hold(
         totals,
         l.seed,
@@ -274,7 +275,7 @@ fn hold_ended(totals: &mut [u64; 16], file: &[u8], held: &[u64; 640], l: List) {
         l.made,
         &first,
         &plain,
-        compare::PLAIN,
+        layout::PLAIN,
     );
     crate::add(totals, ENDED, 1);
 }
@@ -307,7 +308,7 @@ fn hold_list(
     g: &[u64; 24576],
 ) {
     let mut desk = start::desk_of(file, seed, number);
-    let mut held = compare::words_of(&desk);
+    let mut held = layout::words_of(&desk);
     let mut first = held;
     let mut ks = [0u8; 4096];
     let mut answers = [0u64; 16384];
@@ -340,19 +341,19 @@ fn hold_list(
 // A thread that no fit state of a model with n segments and e events has.
 fn spoil_thread(held: &mut [u64; 640], way: u64, n: u64, e: u64) {
     match way % 5 {
-        0 => compare::put_five(held, 0, 0, 2, 0, 2000000000, 0),
-        1 => compare::put_five(held, 0, 0, 1, 0, 0, 1024),
-        2 => compare::put_five(held, 0, 0, 3, e, 0, 0),
-        3 => compare::put_five(held, 0, 0, 0, 0, 2000000000, 0),
-        _ => compare::put_five(held, 0, n, 2, 0, 0, 0),
+        0 => layout::put_five(held, 0, 0, 2, 0, 2000000000, 0),
+        1 => layout::put_five(held, 0, 0, 1, 0, 0, 1024),
+        2 => layout::put_five(held, 0, 0, 3, e, 0, 0),
+        3 => layout::put_five(held, 0, 0, 0, 0, 2000000000, 0),
+        _ => layout::put_five(held, 0, n, 2, 0, 0, 0),
     }
 }
 
 fn spoil_pair(held: &mut [u64; 640], way: u64, e: u64) {
     match way % 3 {
-        0 => compare::put_three(held, 0, 0, 1000000000, 0),
-        1 => compare::put_three(held, 0, 0, 0, 1024),
-        _ => compare::put_three(held, 0, e, 0, 0),
+        0 => layout::put_three(held, 0, 0, 1000000000, 0),
+        1 => layout::put_three(held, 0, 0, 0, 1024),
+        _ => layout::put_three(held, 0, e, 0, 0),
     }
 }
 
@@ -362,9 +363,9 @@ fn spoil(held: &mut [u64; 640], way: u64, n: u64, e: u64) {
         0 => spoil_thread(held, way / 3, n, e),
         1 => {
             spoil_pair(held, way / 3, e);
-            held[compare::LOG] = 1;
+            held[layout::LOG] = 1;
         }
-        _ => held[compare::LOG] = 129,
+        _ => held[layout::LOG] = 129,
     }
 }
 
@@ -381,21 +382,21 @@ fn refuse(
     let r = library::ask(file, words, held, k);
     tally(totals, 11, 0, 0);
     compare::hold_number(totals, seed, 6, 0, r.number, 11);
-    compare::hold(totals, seed, 6, 0, held, &same, compare::ALL);
+    compare::hold(totals, seed, 6, 0, held, &same, layout::ALL);
 }
 
 // A state that is not fit; for some seeds one beside distances that are out of range.
 fn hold_unfit(totals: &mut [u64; 16], seed: u64, file: &[u8], words: &[u64; 4096]) {
     let desk = start::desk_of(file, seed, 3);
-    let mut held = compare::words_of(&desk);
-    let k = any_thread(seed, at(&desk, second::THREADS, 0));
+    let mut held = layout::words_of(&desk);
+    let k = any_thread(seed, at(&desk, simulator::THREADS, 0));
     if seed % 4 == 0 {
         let far = [1024000000000u64; 4096];
         refuse(totals, seed, file, &far, &mut held, k);
         return;
     }
-    let n = at(&desk, second::SEGMENTS, 0);
-    spoil(&mut held, seed / 4, n, second::byte(file, 9, 0));
+    let n = at(&desk, simulator::SEGMENTS, 0);
+    spoil(&mut held, seed / 4, n, simulator::byte(file, 9, 0));
     refuse(totals, seed, file, words, &mut held, k);
 }
 
@@ -403,8 +404,8 @@ fn hold_unfit(totals: &mut [u64; 16], seed: u64, file: &[u8], words: &[u64; 4096
 fn hold_fresh(totals: &mut [u64; 16], seed: u64, file: &[u8], desk: &[u64; 640]) {
     let mut held = [0u64; 640];
     library::fresh(file, &mut held);
-    let words = compare::words_of(desk);
-    compare::hold(totals, seed, 0, 0, &held, &words, compare::ALL);
+    let words = layout::words_of(desk);
+    compare::hold(totals, seed, 0, 0, &held, &words, layout::ALL);
 }
 
 fn hold_all(totals: &mut [u64; 16], seed: u64, file: &[u8], words: &[u64; 4096], g: &[u64; 24576]) {

@@ -1,0 +1,115 @@
+// Where a list of requests starts, by seed and list: lists 0 to 2 fresh, the others at a drawn state.
+use crate::draw;
+use crate::log;
+use crate::number;
+use crate::number::at;
+use crate::number::put;
+use crate::simulator;
+
+fn drawn_time(seed: u64) -> u64 {
+    match draw::pick(seed, 61, 9) {
+        0 | 1 | 2 => 0,
+        3 | 4 => 1,
+        5 => 2,
+        6 => 3,
+        7 => 5,
+        _ => 1999999999,
+    }
+}
+
+fn drawn_delta(seed: u64) -> u64 {
+    match draw::pick(seed, 62, 10) {
+        0 | 1 | 2 | 3 => 0,
+        4 | 5 => 1,
+        6 => 2,
+        7 => 1022,
+        _ => 1023,
+    }
+}
+
+// Ready and waiting more often than not; none waits without events.
+fn drawn_kind(seed: u64, e: u64) -> u64 {
+    match draw::pick(seed, 63, 10) {
+        0 => simulator::ENDED,
+        1 => simulator::OVERRUN,
+        2 | 3 | 4 => {
+            if e == 0 {
+                simulator::READY
+            } else {
+                simulator::WAITING
+            }
+        }
+        _ => simulator::READY,
+    }
+}
+
+fn drawn_record(seed: u64, n: u64, e: u64) -> u64 {
+    let kind = drawn_kind(seed, e);
+    let event = if kind == simulator::WAITING {
+        draw::pick(seed, 64, e)
+    } else {
+        0
+    };
+    let key = drawn_time(seed) % 4294967296 * 1024 + drawn_delta(seed) % 1024;
+    simulator::record(kind, draw::pick(seed, 65, n), event, key)
+}
+
+fn draw_records(desk: &mut [u64; 640], seed: u64, e: u64) {
+    let n = at(desk, simulator::SEGMENTS, 0);
+    let t = at(desk, simulator::THREADS, 0);
+    let mut k: u64 = 0;
+    while k < t {
+        let x = draw::mixed(seed, number::sum(k, 300));
+        put(desk, simulator::RECORDS, k, drawn_record(x, n, e));
+        k += 1;
+    }
+}
+
+fn logged_key(seed: u64) -> u64 {
+    let time = draw::pick(seed, 66, 40);
+    let units = if time == 39 { 999999999 } else { time };
+    units % 4294967296 * 1024 + drawn_delta(seed) % 1024
+}
+
+// So many notifications, if there are events.
+fn draw_log(desk: &mut [u64; 640], seed: u64, e: u64, count: u64) {
+    let mut i: u64 = 0;
+    while i < 600 {
+        if count <= at(desk, log::COUNT, 0) {
+            return;
+        }
+        let x = draw::mixed(seed, i + 400);
+        log::add(desk, draw::pick(x, 67, e), logged_key(x));
+        i += 1;
+    }
+}
+
+// Around 96 notifications, around 128, or some.
+fn logged(seed: u64, list: u64) -> u64 {
+    match list {
+        3 => number::sum(88, draw::pick(seed, 68, 10)),
+        4 => number::sum(125, draw::pick(seed, 68, 4)),
+        _ => draw::pick(seed, 68, 24),
+    }
+}
+
+// A drawn state: variables 0, any records, and a log.
+fn draw_state(desk: &mut [u64; 640], seed: u64, list: u64, e: u64) {
+    let x = draw::mixed(seed, list);
+    draw_records(desk, x, e);
+    let count = if e == 0 { 0 } else { logged(x, list) };
+    draw_log(desk, x, e, count);
+}
+
+// The desk that a list starts at.
+pub fn desk_of(file: &[u8], seed: u64, list: u64) -> [u64; 640] {
+    let mut desk = [0u64; 640];
+    log::clear(&mut desk);
+    simulator::survey(file, &mut desk);
+    if list < 3 {
+        simulator::start(file, &mut desk);
+    } else {
+        draw_state(&mut desk, seed, list, simulator::byte(file, 9, 0));
+    }
+    desk
+}
