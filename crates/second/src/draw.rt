@@ -1,5 +1,8 @@
 // Model files from a seed. Each choice is drawn from the seed and a number of its own, so that a file is a function of its seed alone.
 use crate::number;
+ghost use mathlib.Core.Path.{_≡_};
+ghost use Prim.Native.Nat.{_-_, _%_, _<_, _≤_};
+ghost use lib.Dec.{eqb};
 
 // Rows of eight, one of which is drawn. Ten rows for each family: horizon, V, E, N, T, the most statements of a segment,
 // and, of a hundred, how many statements notify, how many closers end, how many more wait on an event; last the row of delays.
@@ -307,14 +310,18 @@ struct Shape {
 }
 
 // A number from 0 to 2,147,483,646, one for each seed and place.
-pub fn mixed(seed: u64, place: u64) -> u64 {
+pub fn mixed(seed: u64, place: u64) -> u64
+    ensures { λ r. ⌜ r < 2147483647 ⌝ }
+{
     let x = (seed % 2147483647) * 48271 + (place % 65536) * 69621 + 12345;
     let y = (x % 2147483647) * 16807 + 1;
     ((y % 2147483647) * 48271) % 2147483647
 }
 
 // One of the numbers below n, by seed and place; 0 where n is 0.
-pub fn pick(seed: u64, place: u64, n: u64) -> u64 {
+pub fn pick(seed: u64, place: u64, n: u64) -> u64
+    ensures { λ r. ⌜ r ≤ n - 1 ⌝ }
+{
     if n == 0 {
         return 0;
     }
@@ -326,9 +333,11 @@ fn choice(seed: u64, row: u64) -> u64 {
     TABLE[((row % 35) * 8 + mixed(seed, row) / 16 % 8) as usize]
 }
 
-// So many bytes of a number, lowest first, at a place of the file; the place behind them.
-pub fn put(file: &mut [u8; 16384], i: u64, size: u64, x: u64) -> u64 {
-    let mut at = i;
+// So many bytes of a number, lowest first, at a place of the file, as far as there is room; the place behind them.
+pub fn put(file: &mut [u8; 16384], i: u64, size: u64, x: u64) -> u64
+    ensures { λ r. ⌜ r ≤ 16384 ⌝ }
+{
+    let mut at = i % 16385;
     let mut rest = x;
     let mut n = size;
     while 0 < n {
@@ -446,15 +455,27 @@ fn put_segments(file: &mut [u8; 16384], i: u64, first: u64, seed: u64, shape: Sh
     at
 }
 
-// Threads, and the end. Each starts at any segment, or, in a run to delta 1,023, at one of its own.
-fn put_threads(file: &mut [u8; 16384], i: u64, seed: u64, t: u64, n: u64) -> u64 {
+// The first segment of thread k: any, or, in a run to delta 1,023, one of its own.
+fn first_of(seed: u64, k: u64, t: u64, n: u64) -> u64 {
+    if 0 < t && is_long(seed) {
+        return number::sum(k, pick(seed, 55, 2)) % t;
+    }
+    pick(seed, number::sum(k, 200), n)
+}
+
+// Threads, and the end.
+fn put_threads(file: &mut [u8; 16384], i: u64, seed: u64, t: u64, n: u64) -> u64
+    ensures { λ r. ⌜ r ≤ 16384 ⌝ }
+{
     let mut at = i;
     let mut k: u64 = 0;
     while k < t {
-        let own = number::sum(k, pick(seed, 55, 2)) % t;
-        let any = pick(seed, number::sum(k, 200), n);
-        let first = if is_long(seed) { own } else { any };
-        at = put(file, at, 5, 196613 + first % 256 * 4294967296);
+        at = put(
+            file,
+            at,
+            5,
+            196613 + first_of(seed, k, t, n) % 256 * 4294967296,
+        );
         k += 1;
     }
     put(file, at, 4, 262148)
@@ -501,33 +522,45 @@ fn fitted(shape: Shape) -> Shape {
 }
 
 // Whether a seed's runs go on to delta 1,023.
-pub fn is_long(seed: u64) -> bool {
+pub fn is_long(seed: u64) -> bool
+    ensures { λ r. ⌜ r ≡ eqb (seed % 24) 23 ⌝ }
+{
     seed % 24 == 23
 }
 
-// The model of a seed in the file's first bytes; how many. Of 24 seeds 21 are general, two have large times, one is long.
-pub fn model_of(seed: u64, file: &mut [u8; 16384]) -> u64 {
-    let family = if is_long(seed) {
-        20
-    } else if 20 < seed % 24 {
-        10
-    } else {
-        0
-    };
-    let mut s = fitted(shape_of(seed, family));
-    let a = put(
-        file,
-        0,
-        8,
-        65546 + choice(seed, family) % 4294967296 * 4294967296,
-    );
-    let mut at = put(file, a, 2, s.v % 256 + s.e % 256 * 256);
-    let mut first: u64 = 0;
-    if is_long(seed) {
-        s.w = number::less(s.v);
-        at = put_counters(file, at, seed, s.w);
-        first = 2;
+// Of 24 seeds 21 are general, two have large times, one is long: the first row of each.
+fn family(seed: u64) -> u64 {
+    match seed % 24 {
+        23 => 20,
+        21 | 22 => 10,
+        _ => 0,
     }
-    at = put_segments(file, at, first, seed, s);
-    put_threads(file, at, seed, s.t, s.n)
+}
+
+// The head: horizon, V and E.
+fn put_head(file: &mut [u8; 16384], h: u64, v: u64, e: u64) -> u64 {
+    let at = put(file, 0, 8, 65546 + h % 4294967296 * 4294967296);
+    put(file, at, 2, v % 256 + e % 256 * 256)
+}
+
+// All segments.
+fn put_body(file: &mut [u8; 16384], i: u64, seed: u64, shape: Shape) -> u64 {
+    if is_long(seed) {
+        let mut s = shape;
+        s.w = number::less(s.v);
+        let at = put_counters(file, i, seed, s.w);
+        return put_segments(file, at, 2, seed, s);
+    }
+    put_segments(file, i, 0, seed, shape)
+}
+
+// The model of a seed in the file's first bytes; how many.
+pub fn model_of(seed: u64, file: &mut [u8; 16384]) -> u64
+    ensures { λ r. ⌜ r ≤ 16384 ⌝ }
+{
+    let row = family(seed);
+    let s = fitted(shape_of(seed, row));
+    let a = put_head(file, choice(seed, row), s.v, s.e);
+    let b = put_body(file, a, seed, s);
+    put_threads(file, b, seed, s.t, s.n)
 }

@@ -5,6 +5,8 @@ use crate::number;
 use crate::number::at;
 use crate::simulator;
 use crate::simulator::NEVER;
+ghost use mathlib.Core.Path.{_≡_};
+ghost use Rattle.second.specs.Desk.{wordAt};
 
 const UNIT: u64 = 1048576;
 
@@ -216,8 +218,10 @@ fn scan_all(file: &[u8], desk: &[u64; 640], g: &mut [u64; 24576], n: u64) {
     }
 }
 
-// The tables of an accepted file, with its places on the desk.
-pub fn fill(file: &[u8], desk: &[u64; 640], g: &mut [u64; 24576]) {
+// The tables of an accepted file, with its places on the desk; how many segments it has.
+pub fn fill(file: &[u8], desk: &[u64; 640], g: &mut [u64; 24576]) -> u64
+    ensures { λ r. ⌜ r ≡ wordAt (now (desk .entry)) 98 0 ⌝ }
+{
     let n = at(desk, simulator::SEGMENTS, 0);
     scan_all(file, desk, g, n);
     let mut r: u64 = 0;
@@ -226,4 +230,5 @@ pub fn fill(file: &[u8], desk: &[u64; 640], g: &mut [u64; 24576]) {
         look_around(g, r, n);
         r += 1;
     }
+    n
 }

@@ -10,6 +10,9 @@ use crate::simulator::NEVER;
 use crate::simulator::event_of;
 use crate::simulator::key_of;
 use crate::simulator::segment_of;
+ghost use mathlib.Core.Path.{_≡_};
+ghost use Prim.Native.Nat.{_<_};
+ghost use Rattle.second.specs.Desk.{soonerOf, floorTo};
 
 // What a request is answered with: the number, 0 for a grant; then segment, time and delta.
 // Beside it, how many others have overrun on hearing.
@@ -187,16 +190,28 @@ fn is_hazard(g: &[u64; 24576], desk: &[u64; 640], x: u64, k: u64) -> bool {
     false
 }
 
+// The key of a record that is ready, if it is less; else the other.
+fn sooner(x: u64, least: u64) -> u64
+    ensures { λ r. ⌜ r ≡ soonerOf x least ⌝ }
+{
+    if x % 4 != simulator::READY {
+        return least;
+    }
+    let key = key_of(x);
+    if key < least {
+        return key;
+    }
+    least
+}
+
 // The least key of a ready thread, or NEVER.
-pub fn floor(desk: &[u64; 640]) -> u64 {
+pub fn floor(desk: &[u64; 640]) -> u64
+    ensures { λ r. ⌜ r ≡ floorTo (now (desk .entry)) 32 ⌝ }
+{
     let mut least = NEVER;
     let mut k: u64 = 0;
     while k < 32 {
-        let x = at(desk, simulator::RECORDS, k);
-        let key = key_of(x);
-        if x % 4 == simulator::READY && key < least {
-            least = key;
-        }
+        least = sooner(at(desk, simulator::RECORDS, k), least);
         k += 1;
     }
     least
@@ -279,7 +294,9 @@ fn settle(g: &[u64; 24576], desk: &mut [u64; 640], asked: u64) -> u64 {
 }
 
 // The number that a request of thread k, with record x, is refused with on a fit state, or 0.
-fn refusal(g: &[u64; 24576], desk: &[u64; 640], k: u64, x: u64) -> u64 {
+fn refusal(g: &[u64; 24576], desk: &[u64; 640], k: u64, x: u64) -> u64
+    ensures { λ r. ⌜ r < 16 ⌝ }
+{
     if at(desk, simulator::THREADS, 0) <= k {
         return 10;
     }
@@ -312,7 +329,9 @@ fn grant(file: &[u8], g: &[u64; 24576], desk: &mut [u64; 640], k: u64, x: u64) -
 }
 
 // A request of thread k, with record x.
-pub fn request(file: &[u8], g: &[u64; 24576], desk: &mut [u64; 640], k: u64, x: u64) -> Reply {
+pub fn request(file: &[u8], g: &[u64; 24576], desk: &mut [u64; 640], k: u64, x: u64) -> Reply
+    ensures { λ r. ⌜ (r .number < 16) × (r .segment < 256) × (r .delta < 1024) ⌝ }
+{
     let number = refusal(g, desk, k, x);
     if number != 0 {
         return Reply {

@@ -5,6 +5,8 @@ use crate::number::at;
 use crate::number::put;
 use crate::simulator;
 use crate::simulator::NEVER;
+ghost use mathlib.Core.Path.{_≡_};
+ghost use Prim.Native.Nat.{_/_, _%_};
 
 const SORTED: u64 = 320;
 
@@ -16,11 +18,15 @@ fn word(event: u64, key: u64) -> u64 {
     event % 32 * 2199023255552 + key % 2199023255552
 }
 
-pub(crate) fn event_of(w: u64) -> u64 {
+pub(crate) fn event_of(w: u64) -> u64
+    ensures { λ r. ⌜ r ≡ w / 2199023255552 ⌝ }
+{
     w / 2199023255552
 }
 
-pub(crate) fn key_of(w: u64) -> u64 {
+pub(crate) fn key_of(w: u64) -> u64
+    ensures { λ r. ⌜ r ≡ w % 2199023255552 ⌝ }
+{
     w % 2199023255552
 }
 

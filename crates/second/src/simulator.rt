@@ -5,7 +5,9 @@
 use crate::number;
 use crate::number::at;
 use crate::number::put;
-ghost use Prim.Native.Nat.{_<_};
+ghost use mathlib.Core.Path.{_≡_};
+ghost use Prim.Native.Nat.{_/_, _%_, _<_, _≤_};
+ghost use Rattle.second.specs.Desk.{wordAt};
 
 pub(crate) const ENDED: u64 = 0;
 
@@ -54,16 +56,20 @@ pub(crate) fn record(kind: u64, segment: u64, event: u64, key: u64) -> u64 {
     kind % 4 + segment % 256 * 4 + event % 256 * 1024 + key % 4398046511104 * 262144
 }
 
-pub(crate) fn segment_of(x: u64) -> u64 {
+pub(crate) fn segment_of(x: u64) -> u64
+    ensures { λ r. ⌜ (r ≡ x / 4 % 256) × (r < 256) ⌝ }
+{
     x / 4 % 256
 }
 
-pub(crate) fn event_of(x: u64) -> u64 {
+pub(crate) fn event_of(x: u64) -> u64
+    ensures { λ r. ⌜ r ≡ x / 1024 % 256 ⌝ }
+{
     x / 1024 % 256
 }
 
 pub fn key_of(x: u64) -> u64
-    ensures { λ r. ⌜ r < 70368744177665 ⌝ }
+    ensures { λ r. ⌜ (r ≡ x / 262144) × (r < 70368744177665) ⌝ }
 {
     x / 262144
 }
@@ -80,7 +86,9 @@ pub fn byte(file: &[u8], i: u64, far: u64) -> u64
 }
 
 // A number of so many bytes, lowest first.
-pub fn field(file: &[u8], i: u64, far: u64, size: u64) -> u64 {
+pub fn field(file: &[u8], i: u64, far: u64, size: u64) -> u64
+    ensures { λ r. ⌜ r < 72057594037927936 ⌝ }
+{
     let first = number::sum(i, far);
     let mut x: u64 = 0;
     let mut n = size;
@@ -303,7 +311,9 @@ fn run_all(file: &[u8], budget: u64, end: u64, desk: &mut [u64; 640]) -> u64 {
 }
 
 // The run of an accepted file on an empty desk, of at most so many segments.
-pub fn simulate(file: &[u8], budget: u64, desk: &mut [u64; 640]) {
+pub fn simulate(file: &[u8], budget: u64, desk: &mut [u64; 640])
+    ensures { λ _. ⌜ wordAt (now (desk .exit)) 101 0 ≤ budget ⌝ }
+{
     survey(file, desk);
     start(file, desk);
     wake(desk, 0);

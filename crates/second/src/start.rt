@@ -5,6 +5,8 @@ use crate::number;
 use crate::number::at;
 use crate::number::put;
 use crate::simulator;
+ghost use mathlib.Core.Path.{_≡_};
+ghost use Rattle.second.specs.Desk.{wordAt};
 
 fn drawn_time(seed: u64) -> u64 {
     match draw::pick(seed, 61, 9) {
@@ -101,15 +103,16 @@ fn draw_state(desk: &mut [u64; 640], seed: u64, list: u64, e: u64) {
     draw_log(desk, x, e, count);
 }
 
-// The desk that a list starts at.
-pub fn desk_of(file: &[u8], seed: u64, list: u64) -> [u64; 640] {
-    let mut desk = [0u64; 640];
-    log::clear(&mut desk);
-    simulator::survey(file, &mut desk);
+// What a list starts at, on an empty desk; how many threads there are.
+pub fn set_up(file: &[u8], seed: u64, list: u64, desk: &mut [u64; 640]) -> u64
+    ensures { λ r. ⌜ r ≡ wordAt (now (desk .exit)) 99 0 ⌝ }
+{
+    log::clear(desk);
+    simulator::survey(file, desk);
     if list < 3 {
-        simulator::start(file, &mut desk);
+        simulator::start(file, desk);
     } else {
-        draw_state(&mut desk, seed, list, simulator::byte(file, 9, 0));
+        draw_state(desk, seed, list, simulator::byte(file, 9, 0));
     }
-    desk
+    at(desk, simulator::THREADS, 0)
 }

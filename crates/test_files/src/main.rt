@@ -1,7 +1,6 @@
 // Runs the library on what is stored in the files that the arguments name: the reader on the model files of the first, and the runs
 // of the second. `make.py` makes both, and what is to be written.
 mod models;
-mod parts;
 mod runs;
 
 // The file that argument i names, opened for reading; below 0 where it is not.

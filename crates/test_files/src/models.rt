@@ -1,5 +1,4 @@
 // The reader on stored model files, each a part: the number, and of an accepted one H, V, E, N and T.
-use crate::parts;
 use libc::STDOUT_FILENO;
 
 fn units(x: u8) -> u64 {

@@ -1,6 +1,5 @@
 // Stored runs of `replayrun`: a name, a model file, and a count of arguments with the arguments. Of each the name is written, and
 // what the program prints.
-use crate::parts;
 use libc::STDOUT_FILENO;
 ghost use Rattle.io.specs.Counts.{Counts};
 

@@ -103,7 +103,7 @@ pub fn ask(file: &[u8], words: &[u64; 4096], held: &mut [u64; 640], k: u64) -> R
     reply_of(answer)
 }
 
-// A list of requests in one call.
+// A list of requests in one call, with its number and how many were granted.
 pub fn ask_all(
     file: &[u8],
     words: &[u64; 4096],
@@ -119,6 +119,8 @@ pub fn ask_all(
     let left = o.site;
     let records = o.threads;
     hold_state(held, left, records);
+    held[layout::ANSWER] = number::wide(o.number);
+    held[layout::RAN] = o.granted;
 }
 
 // The fresh state.

@@ -147,56 +147,26 @@ fn refuse(totals: &mut [u64; 16], seed: u64, file: &[u8; 16384], size: usize) {
     }
 }
 
-fn hold_drawn(totals: &mut [u64; 16], seed: u64) {
+// A generated model: its runs, and lists of requests.
+fn hold_drawn(runs: &mut [u64; 16], lists: &mut [u64; 16], seed: u64) {
     let mut file = [0u8; 16384];
     let size = draw::model_of(seed, &mut file) as usize;
+    orders::hold_lists(lists, seed, &file, size);
     let most = if draw::is_long(seed) { 3300 } else { 300 };
-    hold_all(totals, seed, &mut file, size, most);
-    refuse(totals, seed, &file, size);
+    hold_all(runs, seed, &mut file, size, most);
+    refuse(runs, seed, &file, size);
 }
 
 fn all_drawn() {
-    let mut totals = [0u64; 16];
+    let mut runs = [0u64; 16];
+    let mut lists = [0u64; 16];
     let mut i: u64 = 0;
     while i < MODELS {
-        hold_drawn(&mut totals, SEED + i);
+        hold_drawn(&mut runs, &mut lists, SEED + i);
         i += 1;
     }
-    print::run_counts(&totals);
-}
-
-// Lists of requests.
-fn hold_orders(totals: &mut [u64; 16], seed: u64) {
-    let mut file = [0u8; 16384];
-    let size = draw::model_of(seed, &mut file) as usize;
-    orders::hold_lists(totals, seed, &file, size);
-}
-
-fn all_orders() {
-    let mut totals = [0u64; 16];
-    let mut i: u64 = 0;
-    while i < MODELS {
-        hold_orders(&mut totals, SEED + i);
-        i += 1;
-    }
-    print::list_counts(&totals);
-}
-
-// Reads n bytes to the front of the buffer, and answers how many came.
-fn read_part(buffer: &mut [u8], n: usize) -> usize {
-    if buffer.len() < n {
-        return 0;
-    }
-    io::read_full(STDIN_FILENO, &mut buffer[..n])
-}
-
-// The next part of the input: two bytes that say its length, and its bytes. 0 at the end.
-fn next_part(buffer: &mut [u8]) -> usize {
-    let mut head = [0u8; 2];
-    if io::read_full(STDIN_FILENO, &mut head) < 2 {
-        return 0;
-    }
-    read_part(buffer, simulator::field(&head, 0, 0, 2) as usize)
+    print::run_counts(&runs);
+    print::list_counts(&lists);
 }
 
 // The sheet of a stored model.
@@ -210,12 +180,12 @@ fn write_sheet(file: &[u8]) {
 // A name and a model; whether there was one.
 fn hold_next(totals: &mut [u64; 16]) -> bool {
     let mut file = [0u8; 16384];
-    let n = next_part(&mut file);
+    let n = parts::next_part(STDIN_FILENO, &mut file);
     if n == 0 {
         return false;
     }
     print::text(number::first(&file, n));
-    let size = next_part(&mut file);
+    let size = parts::next_part(STDIN_FILENO, &mut file);
     write_sheet(number::first(&file, size));
     hold_all(totals, 0, &mut file, size, 1000000);
     true
@@ -233,5 +203,4 @@ fn all_stored() {
 fn main() {
     all_stored();
     all_drawn();
-    all_orders();
 }

@@ -241,7 +241,7 @@ fn one_by_one(
     now
 }
 
-// The same list in one call, from the state that it started at: every answer again, and the state at its end.
+// The same list in one call, from the state that it started at: every answer again, how many were granted, and the state at its end.
 fn whole(
     totals: &mut [u64; 16],
     ks: &[u8; 4096],
@@ -255,7 +255,8 @@ fn whole(
     let mut out = [0u64; 16384];
     let asked = number::first(ks, l.made as usize);
     library::ask_all(file, words, held, asked, &mut out);
-    let left = layout::words_of(desk);
+    let mut left = layout::words_of(desk);
+    left[layout::RAN] = l.granted;
     compare::hold(totals, l.seed, l.number, l.made, held, &left, layout::ALL);
     compare::hold_answers(totals, l.seed, l.number, l.made, &out, answers);
 }
@@ -307,7 +308,8 @@ fn hold_list(
     words: &[u64; 4096],
     g: &[u64; 24576],
 ) {
-    let mut desk = start::desk_of(file, seed, number);
+    let mut desk = [0u64; 640];
+    start::set_up(file, seed, number, &mut desk);
     let mut held = layout::words_of(&desk);
     let mut first = held;
     let mut ks = [0u8; 4096];
@@ -351,9 +353,9 @@ fn spoil_thread(held: &mut [u64; 640], way: u64, n: u64, e: u64) {
 
 fn spoil_pair(held: &mut [u64; 640], way: u64, e: u64) {
     match way % 3 {
-        0 => layout::put_three(held, 0, 0, 1000000000, 0),
-        1 => layout::put_three(held, 0, 0, 0, 1024),
-        _ => layout::put_three(held, 0, e, 0, 0),
+        0 => layout::put_three(held, layout::PAIRS, 0, 1000000000, 0),
+        1 => layout::put_three(held, layout::PAIRS, 0, 0, 1024),
+        _ => layout::put_three(held, layout::PAIRS, e, 0, 0),
     }
 }
 
@@ -387,9 +389,9 @@ fn refuse(
 
 // A state that is not fit; for some seeds one beside distances that are out of range.
 fn hold_unfit(totals: &mut [u64; 16], seed: u64, file: &[u8], words: &[u64; 4096]) {
-    let desk = start::desk_of(file, seed, 3);
+    let mut desk = [0u64; 640];
+    let k = any_thread(seed, start::set_up(file, seed, 3, &mut desk));
     let mut held = layout::words_of(&desk);
-    let k = any_thread(seed, at(&desk, simulator::THREADS, 0));
     if seed % 4 == 0 {
         let far = [1024000000000u64; 4096];
         refuse(totals, seed, file, &far, &mut held, k);
@@ -420,7 +422,8 @@ fn hold_all(totals: &mut [u64; 16], seed: u64, file: &[u8], words: &[u64; 4096],
 // All lists of the model in a file's first bytes.
 pub fn hold_lists(totals: &mut [u64; 16], seed: u64, bytes: &[u8; 16384], size: usize) {
     let file = number::first(bytes, size);
-    let desk = start::desk_of(file, seed, 0);
+    let mut desk = [0u64; 640];
+    start::set_up(file, seed, 0, &mut desk);
     let mut g = [0u64; 24576];
     graph::fill(file, &desk, &mut g);
     let mut words = [0u64; 4096];

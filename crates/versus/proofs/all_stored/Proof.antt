@@ -1,6 +1,5 @@
 -- `versus::all_stored` is safe and ends.
 use native.Mathlib.Omega.{arith}
-use borrow.Author.Needs.{needs}
 use Rattle.versus.proofs.all_stored.Statement.{statement}
 use Rattle.versus.proofs.all_stored.Tie as tie
 
@@ -14,7 +13,7 @@ loop-holds : tie.Need-loop-holds Inv-loop μ-loop
 loop-holds c = tt
 
 hold-next-requires : tie.Need-hold-next-requires Inv-loop μ-loop
-hold-next-requires c κs = search needs
+hold-next-requires c κs = tt
 
 sub-turns : tie.Need-sub-turns Inv-loop μ-loop
 sub-turns c = omega arith
@@ -26,7 +25,7 @@ loop-again : tie.Need-loop-again Inv-loop μ-loop
 loop-again c = tt
 
 run-counts-requires : tie.Need-run-counts-requires Inv-loop μ-loop
-run-counts-requires c κs = search needs
+run-counts-requires c κs = tt
 
 returns : tie.Need-returns Inv-loop μ-loop
 returns c = tt

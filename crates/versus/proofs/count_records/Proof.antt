@@ -1,7 +1,6 @@
 -- `versus::count_records` is safe and ends.
 use Prim.Native.Nat.{_-_}
 use native.Mathlib.Omega.{arith}
-use borrow.Author.Needs.{needs}
 use Rattle.versus.proofs.count_records.Statement.{statement}
 use Rattle.versus.proofs.count_records.Tie as tie
 
@@ -12,13 +11,13 @@ abbrev μ-loop : tie.MeasureT-loop
 μ-loop totals₀ desk t k₀ totals k = t - k
 
 at-requires : tie.Need-at-requires Inv-loop μ-loop
-at-requires c κs = search needs
+at-requires c κs = tt
 
 loop-holds : tie.Need-loop-holds Inv-loop μ-loop
 loop-holds c = tt
 
 at-requires-2 : tie.Need-at-requires-2 Inv-loop μ-loop
-at-requires-2 c κs = search needs
+at-requires-2 c κs = tt
 
 add-add : tie.Need-add-add Inv-loop μ-loop
 add-add c = omega arith

@@ -1,7 +1,6 @@
 -- `versus::hold_each` is safe and ends.
 use Prim.Native.Nat.{_-_}
 use native.Mathlib.Omega.{arith}
-use borrow.Author.Needs.{needs}
 use Rattle.versus.proofs.hold_each.Statement.{statement}
 use Rattle.versus.proofs.hold_each.Tie as tie
 
@@ -12,22 +11,22 @@ abbrev μ-loop : tie.MeasureT-loop
 μ-loop totals₀ seed file₀ size n time most own i₀ totals file i = 16 - i
 
 field-requires : tie.Need-field-requires Inv-loop μ-loop
-field-requires c κs = search needs
+field-requires c κs = tt
 
 loop-holds : tie.Need-loop-holds Inv-loop μ-loop
 loop-holds c = tt
 
 horizon-requires : tie.Need-horizon-requires Inv-loop μ-loop
-horizon-requires c κs = search needs
+horizon-requires c κs = tt
 
 put-requires : tie.Need-put-requires Inv-loop μ-loop
-put-requires c κs = search needs
+put-requires c κs = tt
 
 budget-requires : tie.Need-budget-requires Inv-loop μ-loop
-budget-requires c κs = search needs
+budget-requires c κs = tt
 
 hold-requires : tie.Need-hold-requires Inv-loop μ-loop
-hold-requires c κs = search needs
+hold-requires c κs = tt
 
 add-i : tie.Need-add-i Inv-loop μ-loop
 add-i c = omega arith

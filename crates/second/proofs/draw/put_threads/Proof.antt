@@ -1,7 +1,6 @@
--- `second::draw::put_threads` is safe and ends.
+-- `second::draw::put_threads` meets its contract.
 use Prim.Native.Nat.{_-_}
 use native.Mathlib.Omega.{arith}
-use borrow.Author.Needs.{needs}
 use Rattle.second.proofs.draw.put_threads.Statement.{statement}
 use Rattle.second.proofs.draw.put_threads.Tie as tie
 
@@ -14,23 +13,8 @@ abbrev μ-loop : tie.MeasureT-loop
 loop-holds : tie.Need-loop-holds Inv-loop μ-loop
 loop-holds c = tt
 
-pick-requires : tie.Need-pick-requires Inv-loop μ-loop
-pick-requires c κs = search needs
-
-sum-requires : tie.Need-sum-requires Inv-loop μ-loop
-sum-requires c κs = search needs
-
-rem-own : tie.Need-rem-own Inv-loop μ-loop
-rem-own c = search needs
-
-sum-requires-2 : tie.Need-sum-requires-2 Inv-loop μ-loop
-sum-requires-2 c κs = search needs
-
-pick-requires-2 : tie.Need-pick-requires-2 Inv-loop μ-loop
-pick-requires-2 c κs = search needs
-
-is-long-requires : tie.Need-is-long-requires Inv-loop μ-loop
-is-long-requires c κs = search needs
+first-of-requires : tie.Need-first-of-requires Inv-loop μ-loop
+first-of-requires c κs = tt
 
 mul-put : tie.Need-mul-put Inv-loop μ-loop
 mul-put c = omega arith
@@ -39,7 +23,7 @@ add-put : tie.Need-add-put Inv-loop μ-loop
 add-put c = omega arith
 
 put-requires : tie.Need-put-requires Inv-loop μ-loop
-put-requires c κs = search needs
+put-requires c κs = tt
 
 add-k : tie.Need-add-k Inv-loop μ-loop
 add-k c = omega arith
@@ -51,10 +35,10 @@ loop-again : tie.Need-loop-again Inv-loop μ-loop
 loop-again c = tt
 
 put-requires-2 : tie.Need-put-requires-2 Inv-loop μ-loop
-put-requires-2 c κs = search needs
+put-requires-2 c κs = tt
 
 returns : tie.Need-returns Inv-loop μ-loop
-returns c = tt
+returns c = omega arith
 
 pub put-threads-spec : {M : Type 1} → statement M
 put-threads-spec =
@@ -63,12 +47,7 @@ put-threads-spec =
     Inv-loop
     μ-loop
     loop-holds
-    pick-requires
-    sum-requires
-    rem-own
-    sum-requires-2
-    pick-requires-2
-    is-long-requires
+    first-of-requires
     mul-put
     add-put
     put-requires

@@ -1,7 +1,6 @@
 -- `second::graph::clear` is safe and ends.
 use Prim.Native.Nat.{_-_}
 use native.Mathlib.Omega.{arith}
-use borrow.Author.Needs.{needs}
 use Rattle.second.proofs.graph.clear.Statement.{statement}
 use Rattle.second.proofs.graph.clear.Tie as tie
 
@@ -15,7 +14,7 @@ loop-holds : tie.Need-loop-holds Inv-loop μ-loop
 loop-holds c = tt
 
 set-requires : tie.Need-set-requires Inv-loop μ-loop
-set-requires c κs = search needs
+set-requires c κs = tt
 
 add-s : tie.Need-add-s Inv-loop μ-loop
 add-s c = omega arith

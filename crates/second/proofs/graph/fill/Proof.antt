@@ -1,7 +1,6 @@
--- `second::graph::fill` is safe and ends.
+-- `second::graph::fill` meets its contract.
 use Prim.Native.Nat.{_-_}
 use native.Mathlib.Omega.{arith}
-use borrow.Author.Needs.{needs}
 use Rattle.second.proofs.graph.fill.Statement.{statement}
 use Rattle.second.proofs.graph.fill.Tie as tie
 
@@ -12,19 +11,19 @@ abbrev μ-loop : tie.MeasureT-loop
 μ-loop file desk g₀ n r₀ g r = n - r
 
 at-requires : tie.Need-at-requires Inv-loop μ-loop
-at-requires c κs = search needs
+at-requires c κs = tt
 
 scan-all-requires : tie.Need-scan-all-requires Inv-loop μ-loop
-scan-all-requires c κs = search needs
+scan-all-requires c κs = tt
 
 loop-holds : tie.Need-loop-holds Inv-loop μ-loop
 loop-holds c = tt
 
 search-requires : tie.Need-search-requires Inv-loop μ-loop
-search-requires c κs = search needs
+search-requires c κs = tt
 
 look-around-requires : tie.Need-look-around-requires Inv-loop μ-loop
-look-around-requires c κs = search needs
+look-around-requires c κs = tt
 
 add-r : tie.Need-add-r Inv-loop μ-loop
 add-r c = omega arith
@@ -36,7 +35,7 @@ loop-again : tie.Need-loop-again Inv-loop μ-loop
 loop-again c = tt
 
 returns : tie.Need-returns Inv-loop μ-loop
-returns c = tt
+returns c = cc
 
 pub fill-spec : {M : Type 1} → statement M
 fill-spec =

@@ -1,7 +1,6 @@
 -- `second::graph::look_around` is safe and ends.
 use Prim.Native.Nat.{_-_}
 use native.Mathlib.Omega.{arith}
-use borrow.Author.Needs.{needs}
 use Rattle.second.proofs.graph.look_around.Statement.{statement}
 use Rattle.second.proofs.graph.look_around.Tie as tie
 
@@ -12,19 +11,19 @@ abbrev μ-loop : tie.MeasureT-loop
 μ-loop g₀ r n s₀ g s = n - s
 
 clear-requires : tie.Need-clear-requires Inv-loop μ-loop
-clear-requires c κs = search needs
+clear-requires c κs = tt
 
 loop-holds : tie.Need-loop-holds Inv-loop μ-loop
 loop-holds c = tt
 
 clash-requires : tie.Need-clash-requires Inv-loop μ-loop
-clash-requires c κs = search needs
+clash-requires c κs = tt
 
 set-requires : tie.Need-set-requires Inv-loop μ-loop
-set-requires c κs = search needs
+set-requires c κs = tt
 
 see-events-requires : tie.Need-see-events-requires Inv-loop μ-loop
-see-events-requires c κs = search needs
+see-events-requires c κs = tt
 
 add-s : tie.Need-add-s Inv-loop μ-loop
 add-s c = omega arith

@@ -1,6 +1,5 @@
 -- `second::graph::scan` is safe and ends.
 use native.Mathlib.Omega.{arith}
-use borrow.Author.Needs.{needs}
 use Rattle.second.proofs.graph.scan.Statement.{statement}
 use Rattle.second.proofs.graph.scan.Tie as tie
 
@@ -11,22 +10,22 @@ abbrev μ-loop : tie.MeasureT-loop
 μ-loop file g₀ s closer i₀ left₀ g i left = left
 
 scan-closer-requires : tie.Need-scan-closer-requires Inv-loop μ-loop
-scan-closer-requires c κs = search needs
+scan-closer-requires c κs = tt
 
 sum-requires : tie.Need-sum-requires Inv-loop μ-loop
-sum-requires c κs = search needs
+sum-requires c κs = tt
 
 statements-requires : tie.Need-statements-requires Inv-loop μ-loop
-statements-requires c κs = search needs
+statements-requires c κs = tt
 
 loop-holds : tie.Need-loop-holds Inv-loop μ-loop
 loop-holds c = tt
 
 scan-statement-requires : tie.Need-scan-statement-requires Inv-loop μ-loop
-scan-statement-requires c κs = search needs
+scan-statement-requires c κs = tt
 
 sum-requires-2 : tie.Need-sum-requires-2 Inv-loop μ-loop
-sum-requires-2 c κs = search needs
+sum-requires-2 c κs = tt
 
 sub-left : tie.Need-sub-left Inv-loop μ-loop
 sub-left c = omega arith

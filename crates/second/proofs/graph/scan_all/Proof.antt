@@ -1,7 +1,6 @@
 -- `second::graph::scan_all` is safe and ends.
 use Prim.Native.Nat.{_-_}
 use native.Mathlib.Omega.{arith}
-use borrow.Author.Needs.{needs}
 use Rattle.second.proofs.graph.scan_all.Statement.{statement}
 use Rattle.second.proofs.graph.scan_all.Tie as tie
 
@@ -15,10 +14,10 @@ loop-holds : tie.Need-loop-holds Inv-loop μ-loop
 loop-holds c = tt
 
 at-requires : tie.Need-at-requires Inv-loop μ-loop
-at-requires c κs = search needs
+at-requires c κs = tt
 
 scan-requires : tie.Need-scan-requires Inv-loop μ-loop
-scan-requires c κs = search needs
+scan-requires c κs = tt
 
 add-s : tie.Need-add-s Inv-loop μ-loop
 add-s c = omega arith

@@ -1,6 +1,5 @@
 -- `second::graph::search` is safe and ends.
 use native.Mathlib.Omega.{arith}
-use borrow.Author.Needs.{needs}
 use Rattle.second.proofs.graph.search.Statement.{statement}
 use Rattle.second.proofs.graph.search.Tie as tie
 
@@ -11,16 +10,16 @@ abbrev μ-loop : tie.MeasureT-loop
 μ-loop g₀ r n left₀ g left = left
 
 clear-requires : tie.Need-clear-requires Inv-loop μ-loop
-clear-requires c κs = search needs
+clear-requires c κs = tt
 
 set-requires : tie.Need-set-requires Inv-loop μ-loop
-set-requires c κs = search needs
+set-requires c κs = tt
 
 loop-holds : tie.Need-loop-holds Inv-loop μ-loop
 loop-holds c = tt
 
 relax-all-requires : tie.Need-relax-all-requires Inv-loop μ-loop
-relax-all-requires c κs = search needs
+relax-all-requires c κs = tt
 
 sub-left : tie.Need-sub-left Inv-loop μ-loop
 sub-left c = omega arith

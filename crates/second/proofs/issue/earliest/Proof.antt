@@ -1,6 +1,5 @@
 -- `second::issue::earliest` is safe and ends.
 use native.Mathlib.Omega.{arith}
-use borrow.Author.Needs.{needs}
 use Rattle.second.proofs.issue.earliest.Statement.{statement}
 use Rattle.second.proofs.issue.earliest.Tie as tie
 
@@ -11,19 +10,19 @@ abbrev μ-loop : tie.MeasureT-loop
 μ-loop g desk bounds₀ left₀ bounds left = left
 
 sources-requires : tie.Need-sources-requires Inv-loop μ-loop
-sources-requires c κs = search needs
+sources-requires c κs = tt
 
 loop-holds : tie.Need-loop-holds Inv-loop μ-loop
 loop-holds c = tt
 
 soonest-requires : tie.Need-soonest-requires Inv-loop μ-loop
-soonest-requires c κs = search needs
+soonest-requires c κs = tt
 
 returns : tie.Need-returns Inv-loop μ-loop
 returns c = tt
 
 finish-requires : tie.Need-finish-requires Inv-loop μ-loop
-finish-requires c κs = search needs
+finish-requires c κs = tt
 
 sub-left : tie.Need-sub-left Inv-loop μ-loop
 sub-left c = omega arith

@@ -1,24 +1,27 @@
--- `second::issue::floor` is safe and ends.
-use Prim.Native.Nat.{_-_}
+-- `second::issue::floor` meets its contract.
+use Prim.Native.Nat.{_-_, _≤_}
+use mathlib.Core.Path.{_≡_, refl}
+use native.Mathlib.Numerals.{add-one}
 use native.Mathlib.Omega.{arith}
-use borrow.Author.Needs.{needs}
+use Rattle.second.specs.Desk.{floorTo}
 use Rattle.second.proofs.issue.floor.Statement.{statement}
 use Rattle.second.proofs.issue.floor.Tie as tie
 
 abbrev Inv-loop : tie.InvT-loop
-Inv-loop desk least₀ k₀ least k = Unit {0}
+Inv-loop desk least₀ k₀ least k = (k ≤ 32) × (least ≡ floorTo desk k)
 
 abbrev μ-loop : tie.MeasureT-loop
 μ-loop desk least₀ k₀ least k = 32 - k
 
 loop-holds : tie.Need-loop-holds Inv-loop μ-loop
-loop-holds c = tt
+unfolding floorTo
+loop-holds c = (omega arith, refl)
 
 at-requires : tie.Need-at-requires Inv-loop μ-loop
-at-requires c κs = search needs
+at-requires c κs = tt
 
-key-of-requires : tie.Need-key-of-requires Inv-loop μ-loop
-key-of-requires c κs = search needs
+sooner-requires : tie.Need-sooner-requires Inv-loop μ-loop
+sooner-requires c κs = tt
 
 add-k : tie.Need-add-k Inv-loop μ-loop
 add-k c = omega arith
@@ -27,10 +30,14 @@ loop-less : tie.Need-loop-less Inv-loop μ-loop
 loop-less c = omega arith
 
 loop-again : tie.Need-loop-again Inv-loop μ-loop
-loop-again c = tt
+unfolding floorTo
+loop-again c = (omega arith, rw add-one (cc))
 
 returns : tie.Need-returns Inv-loop μ-loop
-returns c = tt
+returns c =
+    let l = c .before .loop in
+    let end : l .k ≡ 32 = omega arith in
+    cc
 
 pub floor-spec : {M : Type 1} → statement M
 floor-spec =
@@ -40,7 +47,7 @@ floor-spec =
     μ-loop
     loop-holds
     at-requires
-    key-of-requires
+    sooner-requires
     add-k
     loop-less
     loop-again

@@ -1,7 +1,6 @@
 -- `second::issue::is_hazard` is safe and ends.
 use Prim.Native.Nat.{_-_}
 use native.Mathlib.Omega.{arith}
-use borrow.Author.Needs.{needs}
 use Rattle.second.proofs.issue.is_hazard.Statement.{statement}
 use Rattle.second.proofs.issue.is_hazard.Tie as tie
 
@@ -12,13 +11,13 @@ abbrev μ-loop : tie.MeasureT-loop
 μ-loop g desk x k bounds j₀ j = 32 - j
 
 earliest-requires : tie.Need-earliest-requires Inv-loop μ-loop
-earliest-requires c κs = search needs
+earliest-requires c κs = tt
 
 loop-holds : tie.Need-loop-holds Inv-loop μ-loop
 loop-holds c = tt
 
 threatens-requires : tie.Need-threatens-requires Inv-loop μ-loop
-threatens-requires c κs = search needs
+threatens-requires c κs = tt
 
 returns : tie.Need-returns Inv-loop μ-loop
 returns c = tt

@@ -1,7 +1,6 @@
 -- `second::issue::places_after` is safe and ends.
 use Prim.Native.Nat.{_-_}
 use native.Mathlib.Omega.{arith}
-use borrow.Author.Needs.{needs}
 use Rattle.second.proofs.issue.places_after.Statement.{statement}
 use Rattle.second.proofs.issue.places_after.Tie as tie
 
@@ -12,19 +11,19 @@ abbrev μ-loop : tie.MeasureT-loop
 μ-loop g desk s key n₀ e₀ n e = 32 - e
 
 at-requires : tie.Need-at-requires Inv-loop μ-loop
-at-requires c κs = search needs
+at-requires c κs = tt
 
 loop-holds : tie.Need-loop-holds Inv-loop μ-loop
 loop-holds c = tt
 
 entry-requires : tie.Need-entry-requires Inv-loop μ-loop
-entry-requires c κs = search needs
+entry-requires c κs = tt
 
 holds-requires : tie.Need-holds-requires Inv-loop μ-loop
-holds-requires c κs = search needs
+holds-requires c κs = tt
 
 sum-requires : tie.Need-sum-requires Inv-loop μ-loop
-sum-requires c κs = search needs
+sum-requires c κs = tt
 
 add-e : tie.Need-add-e Inv-loop μ-loop
 add-e c = omega arith

@@ -1,6 +1,5 @@
 -- `second::issue::settle` is safe and ends.
 use native.Mathlib.Omega.{arith}
-use borrow.Author.Needs.{needs}
 use borrow.Author.Tests.{ltb-true}
 use Rattle.second.proofs.issue.settle.Statement.{statement}
 use Rattle.second.proofs.issue.settle.Tie as tie
@@ -12,7 +11,7 @@ abbrev μ-loop : tie.MeasureT-loop
 μ-loop g desk₀ asked bounds₀ overruns₀ k₀ left₀ desk bounds overruns k left = left
 
 earliest-requires : tie.Need-earliest-requires Inv-loop μ-loop
-earliest-requires c κs = search needs
+earliest-requires c κs = tt
 
 loop-holds : tie.Need-loop-holds Inv-loop μ-loop
 loop-holds c = tt
@@ -24,16 +23,16 @@ sub-left : tie.Need-sub-left Inv-loop μ-loop
 sub-left c = omega (arith, ltb-true)
 
 hear-requires : tie.Need-hear-requires Inv-loop μ-loop
-hear-requires c κs = search needs
+hear-requires c κs = tt
 
 sum-requires : tie.Need-sum-requires Inv-loop μ-loop
-sum-requires c κs = search needs
+sum-requires c κs = tt
 
 put-requires : tie.Need-put-requires Inv-loop μ-loop
-put-requires c κs = search needs
+put-requires c κs = tt
 
 earliest-requires-2 : tie.Need-earliest-requires-2 Inv-loop μ-loop
-earliest-requires-2 c κs = search needs
+earliest-requires-2 c κs = tt
 
 loop-less : tie.Need-loop-less Inv-loop μ-loop
 loop-less c = omega arith

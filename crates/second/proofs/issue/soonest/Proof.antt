@@ -1,7 +1,6 @@
 -- `second::issue::soonest` is safe and ends.
 use Prim.Native.Nat.{_-_}
 use native.Mathlib.Omega.{arith}
-use borrow.Author.Needs.{needs}
 use Rattle.second.proofs.issue.soonest.Statement.{statement}
 use Rattle.second.proofs.issue.soonest.Tie as tie
 
@@ -18,7 +17,7 @@ add-bound : tie.Need-add-bound Inv-loop μ-loop
 add-bound c = omega arith
 
 bound-requires : tie.Need-bound-requires Inv-loop μ-loop
-bound-requires c κs = search needs
+bound-requires c κs = tt
 
 add-k : tie.Need-add-k Inv-loop μ-loop
 add-k c = omega arith

@@ -1,7 +1,6 @@
 -- `second::issue::sources` is safe and ends.
 use Prim.Native.Nat.{_-_}
 use native.Mathlib.Omega.{arith}
-use borrow.Author.Needs.{needs}
 use Rattle.second.proofs.issue.sources.Statement.{statement}
 use Rattle.second.proofs.issue.sources.Tie as tie
 
@@ -18,10 +17,10 @@ add-set-bound : tie.Need-add-set-bound Inv-loop μ-loop
 add-set-bound c = omega arith
 
 source-requires : tie.Need-source-requires Inv-loop μ-loop
-source-requires c κs = search needs
+source-requires c κs = tt
 
 set-bound-requires : tie.Need-set-bound-requires Inv-loop μ-loop
-set-bound-requires c κs = search needs
+set-bound-requires c κs = tt
 
 add-k : tie.Need-add-k Inv-loop μ-loop
 add-k c = omega arith

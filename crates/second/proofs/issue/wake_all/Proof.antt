@@ -1,7 +1,6 @@
 -- `second::issue::wake_all` is safe and ends.
 use Prim.Native.Nat.{_-_}
 use native.Mathlib.Omega.{arith}
-use borrow.Author.Needs.{needs}
 use Rattle.second.proofs.issue.wake_all.Statement.{statement}
 use Rattle.second.proofs.issue.wake_all.Tie as tie
 
@@ -15,16 +14,16 @@ loop-holds : tie.Need-loop-holds Inv-loop μ-loop
 loop-holds c = tt
 
 woken-requires : tie.Need-woken-requires Inv-loop μ-loop
-woken-requires c κs = search needs
+woken-requires c κs = tt
 
 is-sooner-requires : tie.Need-is-sooner-requires Inv-loop μ-loop
-is-sooner-requires c κs = search needs
+is-sooner-requires c κs = tt
 
 add-set-bound : tie.Need-add-set-bound Inv-loop μ-loop
 add-set-bound c = omega arith
 
 set-bound-requires : tie.Need-set-bound-requires Inv-loop μ-loop
-set-bound-requires c κs = search needs
+set-bound-requires c κs = tt
 
 add-k : tie.Need-add-k Inv-loop μ-loop
 add-k c = omega arith

@@ -1,24 +1,27 @@
--- `second::layout::copy` is safe and ends.
-use Prim.Native.Nat.{_-_}
+-- `second::layout::copy` meets its contract.
+use Prim.Native.Nat.{_-_, _≤_}
+use mathlib.Core.Path.{_≡_, refl}
+use native.Mathlib.Numerals.{add-one}
 use native.Mathlib.Omega.{arith}
-use borrow.Author.Needs.{needs}
+use Rattle.second.specs.Layout.{copiedTo}
 use Rattle.second.proofs.layout.copy.Statement.{statement}
 use Rattle.second.proofs.layout.copy.Tie as tie
 
 abbrev Inv-loop : tie.InvT-loop
-Inv-loop desk part out₀ to size i₀ out i = Unit {0}
+Inv-loop desk part out₀ to size i₀ out i = (i ≤ size) × (out ≡ copiedTo desk part out₀ to i)
 
 abbrev μ-loop : tie.MeasureT-loop
 μ-loop desk part out₀ to size i₀ out i = size - i
 
 loop-holds : tie.Need-loop-holds Inv-loop μ-loop
-loop-holds c = tt
+unfolding copiedTo
+loop-holds c = (omega arith, refl)
 
 at-requires : tie.Need-at-requires Inv-loop μ-loop
-at-requires c κs = search needs
+at-requires c κs = tt
 
 put-requires : tie.Need-put-requires Inv-loop μ-loop
-put-requires c κs = search needs
+put-requires c κs = tt
 
 add-i : tie.Need-add-i Inv-loop μ-loop
 add-i c = omega arith
@@ -27,10 +30,14 @@ loop-less : tie.Need-loop-less Inv-loop μ-loop
 loop-less c = omega arith
 
 loop-again : tie.Need-loop-again Inv-loop μ-loop
-loop-again c = tt
+unfolding copiedTo
+loop-again c = (omega arith, rw add-one (cc))
 
 returns : tie.Need-returns Inv-loop μ-loop
-returns c = tt
+returns c =
+    let l = c .before .loop in
+    let end : l .i ≡ c .before .before .args .size = omega arith in
+    cc
 
 pub copy-spec : {M : Type 1} → statement M
 copy-spec =

@@ -1,7 +1,6 @@
 -- `second::log::from` is safe and ends.
 use Prim.Native.Nat.{_-_}
 use native.Mathlib.Omega.{arith}
-use borrow.Author.Needs.{needs}
 use Rattle.second.proofs.log.from.Statement.{statement}
 use Rattle.second.proofs.log.from.Tie as tie
 
@@ -12,16 +11,16 @@ abbrev μ-loop : tie.MeasureT-loop
 μ-loop desk event key least i₀ i = 160 - i
 
 word-requires : tie.Need-word-requires Inv-loop μ-loop
-word-requires c κs = search needs
+word-requires c κs = tt
 
 loop-holds : tie.Need-loop-holds Inv-loop μ-loop
 loop-holds c = tt
 
 at-requires : tie.Need-at-requires Inv-loop μ-loop
-at-requires c κs = search needs
+at-requires c κs = tt
 
 event-of-requires : tie.Need-event-of-requires Inv-loop μ-loop
-event-of-requires c κs = search needs
+event-of-requires c κs = tt
 
 returns : tie.Need-returns Inv-loop μ-loop
 returns c = tt

@@ -1,7 +1,6 @@
 -- `second::simulator::run_all` is safe and ends.
 use Prim.Native.Nat.{_-_}
 use native.Mathlib.Omega.{arith}
-use borrow.Author.Needs.{needs}
 use Rattle.second.proofs.simulator.run_all.Statement.{statement}
 use Rattle.second.proofs.simulator.run_all.Tie as tie
 
@@ -15,22 +14,22 @@ loop-holds : tie.Need-loop-holds Inv-loop μ-loop
 loop-holds c = tt
 
 at-requires : tie.Need-at-requires Inv-loop μ-loop
-at-requires c κs = search needs
+at-requires c κs = tt
 
 wake-requires : tie.Need-wake-requires Inv-loop μ-loop
-wake-requires c κs = search needs
+wake-requires c κs = tt
 
 returns : tie.Need-returns Inv-loop μ-loop
 returns c = tt
 
 sum-requires : tie.Need-sum-requires Inv-loop μ-loop
-sum-requires c κs = search needs
+sum-requires c κs = tt
 
 returns-2 : tie.Need-returns-2 Inv-loop μ-loop
 returns-2 c = tt
 
 step-requires : tie.Need-step-requires Inv-loop μ-loop
-step-requires c κs = search needs
+step-requires c κs = tt
 
 add-n : tie.Need-add-n Inv-loop μ-loop
 add-n c = omega arith

@@ -1,7 +1,6 @@
 -- `second::simulator::wake` is safe and ends.
 use Prim.Native.Nat.{_-_}
 use native.Mathlib.Omega.{arith}
-use borrow.Author.Needs.{needs}
 use Rattle.second.proofs.simulator.wake.Statement.{statement}
 use Rattle.second.proofs.simulator.wake.Tie as tie
 
@@ -12,19 +11,19 @@ abbrev μ-loop : tie.MeasureT-loop
 μ-loop desk₀ now k₀ desk k = 32 - k
 
 clear-requires : tie.Need-clear-requires Inv-loop μ-loop
-clear-requires c κs = search needs
+clear-requires c κs = tt
 
 loop-holds : tie.Need-loop-holds Inv-loop μ-loop
 loop-holds c = tt
 
 heard-requires : tie.Need-heard-requires Inv-loop μ-loop
-heard-requires c κs = search needs
+heard-requires c κs = tt
 
 activation-requires : tie.Need-activation-requires Inv-loop μ-loop
-activation-requires c κs = search needs
+activation-requires c κs = tt
 
 insert-requires : tie.Need-insert-requires Inv-loop μ-loop
-insert-requires c κs = search needs
+insert-requires c κs = tt
 
 add-k : tie.Need-add-k Inv-loop μ-loop
 add-k c = omega arith
@@ -36,7 +35,7 @@ loop-again : tie.Need-loop-again Inv-loop μ-loop
 loop-again c = tt
 
 at-requires : tie.Need-at-requires Inv-loop μ-loop
-at-requires c κs = search needs
+at-requires c κs = tt
 
 returns : tie.Need-returns Inv-loop μ-loop
 returns c = tt

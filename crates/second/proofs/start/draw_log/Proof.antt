@@ -1,7 +1,6 @@
 -- `second::start::draw_log` is safe and ends.
 use Prim.Native.Nat.{_-_}
 use native.Mathlib.Omega.{arith}
-use borrow.Author.Needs.{needs}
 use Rattle.second.proofs.start.draw_log.Statement.{statement}
 use Rattle.second.proofs.start.draw_log.Tie as tie
 
@@ -15,7 +14,7 @@ loop-holds : tie.Need-loop-holds Inv-loop μ-loop
 loop-holds c = tt
 
 at-requires : tie.Need-at-requires Inv-loop μ-loop
-at-requires c κs = search needs
+at-requires c κs = tt
 
 returns : tie.Need-returns Inv-loop μ-loop
 returns c = tt
@@ -24,13 +23,13 @@ add-mixed : tie.Need-add-mixed Inv-loop μ-loop
 add-mixed c = omega arith
 
 mixed-requires : tie.Need-mixed-requires Inv-loop μ-loop
-mixed-requires c κs = search needs
+mixed-requires c κs = tt
 
 pick-requires : tie.Need-pick-requires Inv-loop μ-loop
-pick-requires c κs = search needs
+pick-requires c κs = tt
 
 logged-key-requires : tie.Need-logged-key-requires Inv-loop μ-loop
-logged-key-requires c κs = search needs
+logged-key-requires c κs = tt
 
 add-requires : tie.Need-add-requires Inv-loop μ-loop
 add-requires c κs = omega arith

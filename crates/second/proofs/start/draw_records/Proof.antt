@@ -1,7 +1,6 @@
 -- `second::start::draw_records` is safe and ends.
 use Prim.Native.Nat.{_-_}
 use native.Mathlib.Omega.{arith}
-use borrow.Author.Needs.{needs}
 use Rattle.second.proofs.start.draw_records.Statement.{statement}
 use Rattle.second.proofs.start.draw_records.Tie as tie
 
@@ -12,25 +11,25 @@ abbrev μ-loop : tie.MeasureT-loop
 μ-loop desk₀ seed e n t k₀ desk k = t - k
 
 at-requires : tie.Need-at-requires Inv-loop μ-loop
-at-requires c κs = search needs
+at-requires c κs = tt
 
 at-requires-2 : tie.Need-at-requires-2 Inv-loop μ-loop
-at-requires-2 c κs = search needs
+at-requires-2 c κs = tt
 
 loop-holds : tie.Need-loop-holds Inv-loop μ-loop
 loop-holds c = tt
 
 sum-requires : tie.Need-sum-requires Inv-loop μ-loop
-sum-requires c κs = search needs
+sum-requires c κs = tt
 
 mixed-requires : tie.Need-mixed-requires Inv-loop μ-loop
-mixed-requires c κs = search needs
+mixed-requires c κs = tt
 
 drawn-record-requires : tie.Need-drawn-record-requires Inv-loop μ-loop
-drawn-record-requires c κs = search needs
+drawn-record-requires c κs = tt
 
 put-requires : tie.Need-put-requires Inv-loop μ-loop
-put-requires c κs = search needs
+put-requires c κs = tt
 
 add-k : tie.Need-add-k Inv-loop μ-loop
 add-k c = omega arith

@@ -1,7 +1,6 @@
 -- `versus::orders::hold_all` is safe and ends.
 use Prim.Native.Nat.{_-_}
 use native.Mathlib.Omega.{arith}
-use borrow.Author.Needs.{needs}
 use Rattle.versus.proofs.orders.hold_all.Statement.{statement}
 use Rattle.versus.proofs.orders.hold_all.Tie as tie
 
@@ -15,7 +14,7 @@ loop-holds : tie.Need-loop-holds Inv-loop μ-loop
 loop-holds c = tt
 
 hold-list-requires : tie.Need-hold-list-requires Inv-loop μ-loop
-hold-list-requires c κs = search needs
+hold-list-requires c κs = tt
 
 add-list : tie.Need-add-list Inv-loop μ-loop
 add-list c = omega arith

@@ -1,7 +1,6 @@
 -- `versus::orders::least_from` is safe and ends.
 use Prim.Native.Nat.{_-_}
 use native.Mathlib.Omega.{arith}
-use borrow.Author.Needs.{needs}
 use Rattle.versus.proofs.orders.least_from.Statement.{statement}
 use Rattle.versus.proofs.orders.least_from.Tie as tie
 
@@ -15,7 +14,7 @@ loop-holds : tie.Need-loop-holds Inv-loop μ-loop
 loop-holds c = tt
 
 stamp-requires : tie.Need-stamp-requires Inv-loop μ-loop
-stamp-requires c κs = search needs
+stamp-requires c κs = tt
 
 add-k : tie.Need-add-k Inv-loop μ-loop
 add-k c = omega arith

@@ -1,7 +1,6 @@
 -- `versus::orders::most_below` is safe and ends.
 use Prim.Native.Nat.{_-_}
 use native.Mathlib.Omega.{arith}
-use borrow.Author.Needs.{needs}
 use Rattle.versus.proofs.orders.most_below.Statement.{statement}
 use Rattle.versus.proofs.orders.most_below.Tie as tie
 
@@ -15,7 +14,7 @@ loop-holds : tie.Need-loop-holds Inv-loop μ-loop
 loop-holds c = tt
 
 stamp-requires : tie.Need-stamp-requires Inv-loop μ-loop
-stamp-requires c κs = search needs
+stamp-requires c κs = tt
 
 add-most : tie.Need-add-most Inv-loop μ-loop
 add-most c = omega arith
@@ -30,7 +29,7 @@ loop-again : tie.Need-loop-again Inv-loop μ-loop
 loop-again c = tt
 
 wrapping-sub-u64-requires : tie.Need-wrapping-sub-u64-requires Inv-loop μ-loop
-wrapping-sub-u64-requires c κs = search needs
+wrapping-sub-u64-requires c κs = tt
 
 returns : tie.Need-returns Inv-loop μ-loop
 returns c = tt

@@ -1,6 +1,5 @@
 -- `versus::orders::one_by_one` is safe and ends.
 use native.Mathlib.Omega.{arith}
-use borrow.Author.Needs.{needs}
 use Rattle.versus.proofs.orders.one_by_one.Statement.{statement}
 use Rattle.versus.proofs.orders.one_by_one.Tie as tie
 
@@ -11,13 +10,13 @@ abbrev μ-loop : tie.MeasureT-loop
 μ-loop totals₀ ks₀ answers₀ file words g desk₀ held₀ l left₀ totals ks answers desk held now left = left
 
 length-requires : tie.Need-length-requires Inv-loop μ-loop
-length-requires c κs = search needs
+length-requires c κs = tt
 
 loop-holds : tie.Need-loop-holds Inv-loop μ-loop
 loop-holds c = tt
 
 turn-requires : tie.Need-turn-requires Inv-loop μ-loop
-turn-requires c κs = search needs
+turn-requires c κs = tt
 
 sub-left : tie.Need-sub-left Inv-loop μ-loop
 sub-left c = omega arith

@@ -1,0 +1,54 @@
+-- `second::layout::put_pairs` meets its contract.
+use Prim.Native.Nat.{_-_, _≤_}
+use mathlib.Core.Path.{_≡_, refl}
+use native.Mathlib.Numerals.{add-one}
+use native.Mathlib.Omega.{arith}
+use Rattle.second.specs.Layout.{pairsTo}
+use Rattle.second.proofs.layout.put_pairs.Statement.{statement}
+use Rattle.second.proofs.layout.put_pairs.Tie as tie
+
+abbrev Inv-loop : tie.InvT-loop
+Inv-loop desk out₀ n i₀ out i = (i ≤ n) × (out ≡ pairsTo desk out₀ i)
+
+abbrev μ-loop : tie.MeasureT-loop
+μ-loop desk out₀ n i₀ out i = n - i
+
+loop-holds : tie.Need-loop-holds Inv-loop μ-loop
+unfolding pairsTo
+loop-holds c = (omega arith, refl)
+
+at-requires : tie.Need-at-requires Inv-loop μ-loop
+at-requires c κs = tt
+
+put-pair-requires : tie.Need-put-pair-requires Inv-loop μ-loop
+put-pair-requires c κs = tt
+
+add-i : tie.Need-add-i Inv-loop μ-loop
+add-i c = omega arith
+
+loop-less : tie.Need-loop-less Inv-loop μ-loop
+loop-less c = omega arith
+
+loop-again : tie.Need-loop-again Inv-loop μ-loop
+unfolding pairsTo
+loop-again c = (omega arith, rw add-one (cc))
+
+returns : tie.Need-returns Inv-loop μ-loop
+returns c =
+    let l = c .before .loop in
+    let end : l .i ≡ c .before .before .args .n = omega arith in
+    cc
+
+pub put-pairs-spec : {M : Type 1} → statement M
+put-pairs-spec =
+    tie.close
+    (tie.spec
+    Inv-loop
+    μ-loop
+    loop-holds
+    at-requires
+    put-pair-requires
+    add-i
+    loop-less
+    loop-again
+    returns)
