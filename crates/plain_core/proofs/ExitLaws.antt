@@ -9,8 +9,8 @@ use lib.ListN.{length, getD, set, List·getD-eq-default}
 use borrow.Author.Tests.{lt-ltb, le-ltb, le-leb, lt-leb, eq-eqb, ne-eqb}
 use Rattle.clock.specs.Cycle.{cycleAt}
 use Rattle.model.specs.declared.State.the-variants.{Ended, Overrun, Ready, Waiting}
-use Rattle.plain_words.specs.Unpack.{endBy, executeBy, markedBy, followBy}
-use Rattle.plain_words.specs.Reach.{reachedBy}
+use Rattle.plain_words.specs.Unpack.{endBy, followBy}
+use Rattle.plain_words.specs.Shared.{Shared, shared, executeBy}
 use Rattle.plain_core.specs.Words.{waiting, ended, overrun, span, stateFrom, nextWord, closeWord, wakeWord}
 use Rattle.plain_core.specs.Turn.{Locals, locals, waitedBy, ranBy, turnOn, turnsTo}
 
@@ -107,15 +107,15 @@ module _ (code : List ℕ) (now budget k : ℕ) where
   turnsTo-next x y z e f = rw (add-one, ← e) f
 
 -- for the code: the arrays of a thread that ran
-pub ran-as : (code : List ℕ) (now k : ℕ) (v ws ss : List ℕ) (fs : List Bool) (rs : List ℕ) (n : ℕ) (v′ : List ℕ) (fs′ : List Bool) (rs′ rs″ : List ℕ) (e w f : ℕ) →
-    v′ ≡ executeBy code (getD ss k 0) v → fs′ ≡ markedBy code (getD ss k 0) fs → rs′ ≡ reachedBy code (getD ss k 0) rs → e ≡ endBy code (getD ss k 0) →
-    rs″ ≡ waitedBy e k rs′ → w ≡ closeWord e now → f ≡ followBy code (getD ss k 0) v′ →
-    locals v′ (set ws k w) (set ss k f) fs′ rs″ (n + 1) ≡ ranBy code now k (locals v ws ss fs rs n)
-ran-as code now k v ws ss fs rs n v′ fs′ rs′ rs″ e w f p q a r b t u =
-    let t′ : w ≡ closeWord (endBy code (getD ss k 0)) now = t ∙ ap (λ (z : ℕ). closeWord z now) r in
-    let u′ : f ≡ followBy code (getD ss k 0) (executeBy code (getD ss k 0) v) = u ∙ ap (followBy code (getD ss k 0)) p in
-    let b′ : rs″ ≡ waitedBy (endBy code (getD ss k 0)) k (reachedBy code (getD ss k 0) rs) = b ∙ (ap (λ (z : ℕ). waitedBy z k rs′) r ∙ ap (waitedBy (endBy code (getD ss k 0)) k) a) in
-    λ i. locals (p i) (set ws k (t′ i)) (set ss k (u′ i)) (q i) (b′ i) (n + 1)
+pub ran-as : (code : List ℕ) (now k : ℕ) (x : Locals) (v : List ℕ) (fs : List Bool) (rs qs : List ℕ) (e w f : ℕ) → let s = getD (x .segments) k 0 in
+    shared v fs rs ≡ executeBy code s (x .shared) → e ≡ endBy code s → qs ≡ waitedBy e k rs → w ≡ closeWord e now → f ≡ followBy code s v →
+    locals v (set (x .state) k w) (set (x .segments) k f) fs qs (x .n + 1) ≡ ranBy code now k x
+ran-as code now k x v fs rs qs e w f p r b t u =
+    let s = getD (x .segments) k 0 in
+    let t′ : w ≡ closeWord (endBy code s) now = t ∙ ap (λ (z : ℕ). closeWord z now) r in
+    let u′ : f ≡ followBy code s (executeBy code s (x .shared) .variables) = u ∙ ap (λ (y : Shared). followBy code s (y .variables)) p in
+    let b′ : qs ≡ waitedBy (endBy code s) k (executeBy code s (x .shared) .ranges) = b ∙ (ap (λ (z : ℕ). waitedBy z k rs) r ∙ ap (λ (y : Shared). waitedBy (endBy code s) k (y .ranges)) p) in
+    λ i. locals (p i .variables) (set (x .state) k (t′ i)) (set (x .segments) k (u′ i)) (p i .told) (b′ i) (x .n + 1)
 
 pub isOut-room : (b n l k : ℕ) → n < b → false ≡ leb b n && leb l k
 isOut-room b n l k h = rw (lt-leb b n h) refl

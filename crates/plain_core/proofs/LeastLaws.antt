@@ -23,7 +23,7 @@ use Rattle.model.specs.declared.Thread.{Thread}
 use Rattle.model.specs.Limits.{isBeforeHorizon, isBoundBeforeHorizon}
 use Rattle.model.specs.Record.{threadAt, readyCycle}
 use Rattle.plain.specs.Wake.{floorOf}
-use Rattle.plain_core.specs.Words.{waiting, keyOf, wordOf, leastWord}
+use Rattle.plain_core.specs.Words.{waiting, keyOf, limitOf, wordOf, leastWord}
 use Rattle.plain_laws.proofs.WakeLaws.{floorOf-≼}
 use Rattle.plain_core.proofs.FloorLaws.{floorOf-one}
 use Rattle.plain_core.proofs.WordLaws.{Small, InRange}
@@ -91,7 +91,7 @@ module _ (m : Model) (small : m .horizon .0 ≤ 1000000000) (ws : List ℕ) (us 
           let g : getD ws k 0 ≡ keyOf x = words k h ∙ ap wordOf f in
           key-⊑ c x d (ready-range k h x f .delta) (omega (arith, leastWord-≤ (m .t) ws k h))
 
-  pub floor-word : leastWord (m .t) ws < 1024 * m .horizon .0 →
+  pub floor-word : leastWord (m .t) ws < limitOf m →
       (c : Cycle) × (floorOf m us ≡ At c) × (keyOf c ≡ leastWord (m .t) ws) × Small c × (c .time .0 < m .horizon .0)
   unfolding floorOf
   floor-word h = go (leastWord-one (m .t) ws)
@@ -110,7 +110,7 @@ module _ (m : Model) (small : m .horizon .0 ≤ 1000000000) (ws : List ℕ) (us 
       go (inl e) = absurd (omega arith)
       go (inr (k, l, e)) = let w = words k l in found k l e (word-ready (threadAt us k .state) (omega arith))
 
-  pub floor-late : 1024 * m .horizon .0 ≤ leastWord (m .t) ws → T (not (isBoundBeforeHorizon m (floorOf m us)))
+  pub floor-late : limitOf m ≤ leastWord (m .t) ws → T (not (isBoundBeforeHorizon m (floorOf m us)))
   unfolding isBoundBeforeHorizon isBeforeHorizon
   floor-late h = go (floorOf-one m us)
     where

@@ -41,16 +41,18 @@ use Rattle.model.specs.Footprint.{listedIn, notifiesIn}
 use Rattle.model.specs.Rules.{closerFault, modelFault}
 use Rattle.model_rules.proofs.RuleLaws.{closerFault-delay, modelFault-horizon, modelFault-counts, modelFault-statements, modelFault-closer, modelFault-notifies}
 use Rattle.plain_words.specs.Pack.{IsCode}
-use Rattle.plain_words.specs.Unpack.{marked, endBy, executeBy, markedBy, followBy}
+use Rattle.plain_words.specs.Unpack.{endBy}
+use Rattle.plain_words.specs.Shared.{Shared, shared, marked, reached, executeBy}
 use Rattle.plain_words.proofs.MarkLaws.{Tells, Within, marked-length, tells-none, tells-more}
-use Rattle.plain_words.proofs.CodeLaws.{code-end, code-execute, code-marked, code-follow}
+use Rattle.plain_words.proofs.CodeLaws.{code-end, code-execute, code-follow}
 use Rattle.plain.specs.declared.PlainRun.{PlainRun}
 use Rattle.plain.specs.Start.{Place, started, freshThreads, freshVariables, startOf}
 use Rattle.plain.specs.Wake.{wokenThread, woken, floorOf, someReady}
 use Rattle.plain.specs.Step.{isAt, isDue, ranOn, passedOn, begun, closedOn, stepped}
 use Rattle.plain.specs.Run.{isDone, isOut, runFor, lastStep, reported}
 use Rattle.plain_laws.proofs.RecordLaws.{<→horizon}
-use Rattle.plain_core.specs.Words.{keyOf, wordOf, stateFrom, threadsTo, answer, closeWord, wakeWord, leastWord}
+use Rattle.plain_core.specs.Words.{keyOf, limitOf, wordOf, stateFrom, threadsTo, answer, closeWord, wakeWord, leastWord}
+use Rattle.plain_core.specs.Turn.{Locals, locals, ranBy}
 use Rattle.plain_core.proofs.FloorLaws.{someReady-here, someReady-rest, begun-rest, stepped-close, runFor-done, runFor-out, runFor-on}
 use Rattle.plain_core.proofs.SoundLaws.{Ahead, Sound, isDue→≡, sound-start, sound-passed, sound-ran, floor-ahead, sound-begun, threadAt-fresh, threadAt-woken, woken-length}
 use Rattle.plain_core.proofs.WordLaws.{Small, InRange, unitsOf, stateFrom-word, word-due, word-not-due, closeWord-closed, wakeWord-woken}
@@ -109,20 +111,20 @@ stands-step m budget p q st o e s later =
 abbrev pub placeOf : List ℕ → List Thread → Cycle → ℕ → List ℕ → ℕ → Place
 placeOf v ts now turn es n = record { variables = v; threads = ts; now = now; turn = turn; notified = es; n = n }
 
--- the words ws and segments ss stand for threads, the marks fs for events, and now for a cycle
-pub record Loop (m : Model) (budget : ℕ) (v ws ss : List ℕ) (fs : List Bool) (now turn n : ℕ) : Type 0 where
+-- the locals stand for a place: their words and segments for threads, the marks for events, and now for a cycle
+pub record Loop (m : Model) (budget : ℕ) (x : Locals) (now turn : ℕ) : Type 0 where
   pub threads : List Thread
   pub cycle : Cycle
   pub events : List ℕ
   pub key : now ≡ keyOf cycle
-  pub words : (k : ℕ) → k < m .t → getD ws k 0 ≡ wordOf (threadAt threads k .state)
-  pub segments : (k : ℕ) → k < m .t → getD ss k 0 ≡ threadAt threads k .segment
+  pub words : (k : ℕ) → k < m .t → getD (x .state) k 0 ≡ wordOf (threadAt threads k .state)
+  pub segments : (k : ℕ) → k < m .t → getD (x .segments) k 0 ≡ threadAt threads k .segment
   pub ranged : Ranged (m .t) threads
-  pub tells : Tells fs events
-  pub marks-size : length fs ≡ 32
-  pub words-size : length ws ≡ 32
-  pub segments-size : length ss ≡ 32
-  pub stands : Stands m budget (placeOf v threads cycle turn events n)
+  pub tells : Tells (x .shared .told) events
+  pub marks-size : length (x .shared .told) ≡ 32
+  pub words-size : length (x .state) ≡ 32
+  pub segments-size : length (x .segments) ≡ 32
+  pub stands : Stands m budget (placeOf (x .shared .variables) threads cycle turn events (x .n))
 
 -- what the run answers
 abbrev pub answerOf : Model → ℕ → PlainRun
@@ -245,10 +247,10 @@ closes m fit code is s l c small x r =
     units v e (Event w y) f = omega arith
 
 module _ (m : Model) (fit : modelFault m ≡ 0) (budget : ℕ) where
-  pub loop-start : (ss : List ℕ) → length ss ≡ 32 → ((k : ℕ) → k < m .t → getD ss k 0 ≡ startAt m k .first) →
-      Loop m budget freshVariables (replicate 32 0) ss (replicate 32 false) 0 0 0
+  pub loop-start : (ss rs : List ℕ) → length ss ≡ 32 → ((k : ℕ) → k < m .t → getD ss k 0 ≡ startAt m k .first) →
+      Loop m budget (locals freshVariables (replicate 32 0) ss (replicate 32 false) rs 0) 0 0
   unfolding startOf started
-  loop-start ss size first =
+  loop-start ss rs size first =
       let few = modelFault-counts m fit .threads in
       record {
         threads = freshThreads m;
@@ -265,9 +267,9 @@ module _ (m : Model) (fit : modelFault m ≡ 0) (budget : ℕ) where
         stands = record { sound = sound-start m fit; steps = lastStep m; same = refl; left = omega arith };
       }
 
-  module _ (v ws ss : List ℕ) (fs : List Bool) (now turn n : ℕ) (loop : Loop m budget v ws ss fs now turn n) where
+  module _ (x : Locals) (now turn : ℕ) (loop : Loop m budget x now turn) where
     here : Place
-    here = placeOf v (loop .threads) (loop .cycle) turn (loop .events) n
+    here = placeOf (x .shared .variables) (loop .threads) (loop .cycle) turn (loop .events) (x .n)
 
     soon : loop .cycle .time .0 < 1000000000
     soon = let (low, high) = modelFault-horizon m fit in omega (arith, loop .stands .sound .time)
@@ -278,7 +280,7 @@ module _ (m : Model) (fit : modelFault m ≡ 0) (budget : ℕ) where
     pub loop-small : now < 2 ^ 44
     loop-small = let k = small .key in omega (arith, loop .key)
 
-    pub loop-segment : turn < m .t → getD ss turn 0 < m .n
+    pub loop-segment : turn < m .t → getD (x .segments) turn 0 < m .n
     loop-segment h = rw (loop .segments turn h) (loop .stands .sound .segment turn h)
 
     -- the measure has room to fall
@@ -286,28 +288,28 @@ module _ (m : Model) (fit : modelFault m ≡ 0) (budget : ℕ) where
     loop-room = rw (loop .key) (countAt-room (m .t) (m .horizon .0) (loop .cycle) turn (loop .stands .sound .time) (loop .stands .sound .delta) (loop .stands .sound .turn))
 
     -- every thread that was looked at is ahead
-    word-ahead : (k : ℕ) → k < m .t → k < turn → now < getD ws k 0
+    word-ahead : (k : ℕ) → k < m .t → k < turn → now < getD (x .state) k 0
     word-ahead k h l = rw (loop .key, loop .words k h) (state-ahead (loop .cycle) small (threadAt (loop .threads) k .state) (loop .stands .sound .ahead k l))
 
-    pub loop-ahead : m .t ≤ turn → now < leastWord (m .t) ws
-    loop-ahead h = go (leastWord-one (m .t) ws)
+    pub loop-ahead : m .t ≤ turn → now < leastWord (m .t) (x .state)
+    loop-ahead h = go (leastWord-one (m .t) (x .state))
       where
-        go : (leastWord (m .t) ws ≡ 18446744073709551615) ⊎ ((k : ℕ) × (k < m .t) × (leastWord (m .t) ws ≡ getD ws k 0)) → now < leastWord (m .t) ws
+        go : (leastWord (m .t) (x .state) ≡ 18446744073709551615) ⊎ ((k : ℕ) × (k < m .t) × (leastWord (m .t) (x .state) ≡ getD (x .state) k 0)) → now < leastWord (m .t) (x .state)
         go (inl e) = omega (arith, loop-small)
         go (inr (k, l, e)) = rw e (word-ahead k l (omega arith))
 
-    pub loop-threads : threadsTo ws ss (m .t) ≡ loop .threads
-    loop-threads = threadsTo-as ws ss (m .t) (loop .threads) (modelFault-counts m fit .threads) (loop .stands .sound .size) (loop .words) (loop .segments) (loop .ranged)
+    pub loop-threads : threadsTo (x .state) (x .segments) (m .t) ≡ loop .threads
+    loop-threads = threadsTo-as (x .state) (x .segments) (m .t) (loop .threads) (modelFault-counts m fit .threads) (loop .stands .sound .size) (loop .words) (loop .segments) (loop .ranged)
 
-    due-word : turn < m .t → getD ws turn 0 ≡ now → isDue here ≡ true
+    due-word : turn < m .t → getD (x .state) turn 0 ≡ now → isDue here ≡ true
     unfolding here
     due-word h e = sym (isDue-at here) ∙ word-due (loop .cycle) small (threadAt (loop .threads) turn .state) (loop .ranged .range turn h) (sym (loop .words turn h) ∙ (e ∙ loop .key))
 
-    not-due-word : turn < m .t → (getD ws turn 0 ≡ now → ⊥) → isDue here ≡ false
+    not-due-word : turn < m .t → (getD (x .state) turn 0 ≡ now → ⊥) → isDue here ≡ false
     unfolding here
     not-due-word h e = sym (isDue-at here) ∙ word-not-due (loop .cycle) small (threadAt (loop .threads) turn .state) (λ q. e (loop .words turn h ∙ (q ∙ sym (loop .key))))
 
-    pub loop-passed : turn < m .t → (getD ws turn 0 ≡ now → ⊥) → Loop m budget v ws ss fs now (turn + 1) n
+    pub loop-passed : turn < m .t → (getD (x .state) turn 0 ≡ now → ⊥) → Loop m budget x now (turn + 1)
     unfolding here passedOn
     loop-passed h d =
         let due : isDue here ≡ false = not-due-word h d in
@@ -328,9 +330,9 @@ module _ (m : Model) (fit : modelFault m ≡ 0) (budget : ℕ) where
               (sound-passed m fit here (loop .stands .sound) h (false→T (isDue here) due)) (omega arith);
         }
 
-    module _ (h : turn < m .t) (d : getD ws turn 0 ≡ now) where
+    module _ (h : turn < m .t) (d : getD (x .state) turn 0 ≡ now) where
       -- "spent": the budget is out, and this thread is ready
-      pub loop-out : budget ≤ n → answer v (threadsTo ws ss (m .t)) n true ≡ answerOf m budget
+      pub loop-out : budget ≤ x .n → answer (x .shared .variables) (threadsTo (x .state) (x .segments) (m .t)) (x .n) true ≡ answerOf m budget
       unfolding here
       loop-out full =
           let due : isDue here ≡ true = due-word h d in
@@ -339,45 +341,49 @@ module _ (m : Model) (fit : modelFault m ≡ 0) (budget : ℕ) where
           (reported-as m here true (someReady-due m here (loop .stands .sound) h (true→T (isDue here) due)) ∙
           ap (reported m) (sym (runFor-out m here budget (loop .stands .steps) out) ∙ loop .stands .same))
 
-      ran-stands : n < budget → Stands m budget (ranOn m here)
+      ran-stands : x .n < budget → Stands m budget (ranOn m here)
       unfolding here ranOn
       ran-stands room =
           stands-step m budget here (ranOn m here) (loop .stands) (isOut-room m budget here room) (stepped-ran m here h (due-word h d))
           (sound-ran m fit here (loop .stands .sound) h) (omega arith)
 
       -- "the ready threads of that cycle run their segment whole"
-      pub loop-ran : n < budget → (code : List ℕ) → IsCode m 64 code → (s : ℕ) → s ≡ getD ss turn 0 → (x : List ℕ) → x ≡ executeBy code s v →
-          Loop m budget x (set ws turn (closeWord (endBy code s) now)) (set ss turn (followBy code s x)) (markedBy code s fs) now (turn + 1) (n + 1)
+      pub loop-ran : x .n < budget → (code : List ℕ) → IsCode m 64 code → Loop m budget (ranBy code now turn x) now (turn + 1)
       unfolding here ranOn effectOf effectIn
-      loop-ran room code is s same x e =
-          let r = threadAt (loop .threads) turn .segment in
-          let p : s ≡ r = same ∙ loop .segments turn h in
-          let l : s < m .n = rw same (loop-segment h) in
-          let after : x ≡ execute (bodyOf (segmentAt m s)) v = e ∙ code-execute m fit code is s l v in
-          let told : markedBy code s fs ≡ marked fs (notifiedBy (bodyOf (segmentAt m s))) = code-marked m fit code is s l fs in
-          let i : turn < length ws = omega (arith, loop .words-size, modelFault-counts m fit .threads) in
+      loop-ran room code is =
+          let s = getD (x .segments) turn 0 in
+          let p : s ≡ threadAt (loop .threads) turn .segment = loop .segments turn h in
+          let l : s < m .n = loop-segment h in
+          let fs = x .shared .told in
+          let es = notifiedBy (bodyOf (segmentAt m s)) in
+          let y = executeBy code s (x .shared) in
+          let after : y ≡ shared (execute (bodyOf (segmentAt m s)) (x .shared .variables)) (marked fs es) (reached (x .shared .ranges) es) =
+          code-execute m fit code is s l (x .shared .variables) fs (x .shared .ranges) in
+          let values : y .variables ≡ execute (bodyOf (segmentAt m s)) (x .shared .variables) = ap (λ (z : Shared). z .variables) after in
+          let told : y .told ≡ marked fs es = ap (λ (z : Shared). z .told) after in
+          let i : turn < length (x .state) = omega (arith, loop .words-size, modelFault-counts m fit .threads) in
           let j : turn < length (loop .threads) = omega (arith, loop .stands .sound .size, modelFault-counts m fit .threads) in
-          let k : turn < length ss = omega (arith, loop .segments-size, modelFault-counts m fit .threads) in
-          let y = closedAt s (segmentAt m s .closer) (loop .cycle) x in
-          let range : InRange (y .state) = closedAt-range (loop .cycle) soon (loop .stands .sound .delta) (m .v) (m .e) s (segmentAt m s .closer) x (modelFault-counts m fit .events) (modelFault-closer m fit s l) in
-          let close : closeWord (endBy code s) now ≡ wordOf (y .state) = ap (closeWord (endBy code s)) (loop .key) ∙ closes m fit code is s l (loop .cycle) small x range in
+          let k : turn < length (x .segments) = omega (arith, loop .segments-size, modelFault-counts m fit .threads) in
+          let z = closedAt s (segmentAt m s .closer) (loop .cycle) (y .variables) in
+          let range : InRange (z .state) = closedAt-range (loop .cycle) soon (loop .stands .sound .delta) (m .v) (m .e) s (segmentAt m s .closer) (y .variables) (modelFault-counts m fit .events) (modelFault-closer m fit s l) in
+          let close : closeWord (endBy code s) now ≡ wordOf (z .state) = ap (closeWord (endBy code s)) (loop .key) ∙ closes m fit code is s l (loop .cycle) small (y .variables) range in
           record {
-            threads = set (loop .threads) turn y;
+            threads = set (loop .threads) turn z;
             cycle = loop .cycle;
-            events = loop .events ++ notifiedBy (bodyOf (segmentAt m s));
+            events = loop .events ++ es;
             key = loop .key;
-            words = set-both (m .t) ws (loop .threads) turn _ y (λ (z : Thread). wordOf (z .state)) i j close (loop .words);
-            segments = set-both (m .t) ss (loop .threads) turn _ y (λ (z : Thread). z .segment) k j (code-follow m fit code is s l (loop .cycle) x) (loop .segments);
-            ranged = ranged-set (m .t) (loop .threads) turn y j h range (loop .ranged);
-            tells = rw told (tells-more fs (loop .events) (notifiedBy (bodyOf (segmentAt m s))) (rw (loop .marks-size) (effect-within m fit s l)) (loop .tells));
-            marks-size = ap length told ∙ (marked-length fs (notifiedBy (bodyOf (segmentAt m s))) ∙ loop .marks-size);
-            words-size = length-set ws turn _ ∙ loop .words-size;
-            segments-size = length-set ss turn _ ∙ loop .segments-size;
-            stands = rw (after, p) (ran-stands room);
+            words = set-both (m .t) (x .state) (loop .threads) turn _ z (λ (t : Thread). wordOf (t .state)) i j close (loop .words);
+            segments = set-both (m .t) (x .segments) (loop .threads) turn _ z (λ (t : Thread). t .segment) k j (code-follow m fit code is s l (loop .cycle) (y .variables)) (loop .segments);
+            ranged = ranged-set (m .t) (loop .threads) turn z j h range (loop .ranged);
+            tells = rw told (tells-more fs (loop .events) es (rw (loop .marks-size) (effect-within m fit s l)) (loop .tells));
+            marks-size = ap length told ∙ (marked-length fs es ∙ loop .marks-size);
+            words-size = length-set (x .state) turn _ ∙ loop .words-size;
+            segments-size = length-set (x .segments) turn _ ∙ loop .segments-size;
+            stands = rw (values, p) (ran-stands room);
           }
 
     -- "At the cycle's end"
-    module _ (h : m .t ≤ turn) (us : List ℕ) (w : (k : ℕ) → k < m .t → getD us k 0 ≡ wakeWord fs now (getD ws k 0)) where
+    module _ (h : m .t ≤ turn) (us : List ℕ) (w : (k : ℕ) → k < m .t → getD us k 0 ≡ wakeWord (x .shared .told) now (getD (x .state) k 0)) where
       woke : List Thread
       woke = woken (loop .events) (loop .cycle) (loop .threads)
 
@@ -386,9 +392,9 @@ module _ (m : Model) (fit : modelFault m ≡ 0) (budget : ℕ) where
       woke-words k l =
           w k l ∙
           rw (loop .words k l, loop .key, threadAt-woken (loop .events) (loop .cycle) (loop .threads) k)
-          (wakeWord-woken (loop .cycle) small fs (loop .events) (loop .tells) (threadAt (loop .threads) k .state) (loop .ranged .range k l))
+          (wakeWord-woken (loop .cycle) small (x .shared .told) (loop .events) (loop .tells) (threadAt (loop .threads) k .state) (loop .ranged .range k l))
 
-      woke-segments : (k : ℕ) → k < m .t → getD ss k 0 ≡ threadAt woke k .segment
+      woke-segments : (k : ℕ) → k < m .t → getD (x .segments) k 0 ≡ threadAt woke k .segment
       unfolding woke wokenThread
       woke-segments k l = rw (threadAt-woken (loop .events) (loop .cycle) (loop .threads) k) (loop .segments k l)
 
@@ -401,7 +407,7 @@ module _ (m : Model) (fit : modelFault m ≡ 0) (budget : ℕ) where
       closed-stands q e s later = stands-step m budget here q (loop .stands) (isOut-closed m budget here h) (stepped-close m here h ∙ e) s later
 
       -- the next cycle, as a cycle
-      next-cycle : leastWord (m .t) us < 1024 * m .horizon .0 →
+      next-cycle : leastWord (m .t) us < limitOf m →
           (c : Cycle) × (floorOf m woke ≡ At c) × (keyOf c ≡ leastWord (m .t) us) × Small c × (c .time .0 < m .horizon .0)
       next-cycle l = floor-word m (modelFault-horizon m fit .1) us woke woke-words (woke-ranged .range) l
 
@@ -409,12 +415,12 @@ module _ (m : Model) (fit : modelFault m ≡ 0) (budget : ℕ) where
       unfolding here woke
       count-later c g = countAt-later (m .t) turn (floor-ahead m fit here (loop .stands .sound) h c g .0) (loop .stands .sound .delta) (loop .stands .sound .turn)
 
-      pub loop-later : leastWord (m .t) us < 1024 * m .horizon .0 → countAt (m .t) now turn < countAt (m .t) (leastWord (m .t) us) 0
+      pub loop-later : leastWord (m .t) us < limitOf m → countAt (m .t) now turn < countAt (m .t) (leastWord (m .t) us) 0
       loop-later l = let (c, g, e, s, t) = next-cycle l in rw (loop .key, ← e) (count-later c g)
 
-      pub loop-begun : length us ≡ 32 → leastWord (m .t) us < 1024 * m .horizon .0 → Loop m budget v us ss (replicate 32 false) (leastWord (m .t) us) 0 n
+      pub loop-begun : (rs : List ℕ) → length us ≡ 32 → leastWord (m .t) us < limitOf m → Loop m budget (locals (x .shared .variables) us (x .segments) (replicate 32 false) rs (x .n)) (leastWord (m .t) us) 0
       unfolding here woke
-      loop-begun size l =
+      loop-begun rs size l =
           let (c, g, e, s, t) = next-cycle l in
           let b = <→horizon m c t in
           record {
@@ -430,22 +436,22 @@ module _ (m : Model) (fit : modelFault m ≡ 0) (budget : ℕ) where
             words-size = size;
             segments-size = loop .segments-size;
             stands =
-                closed-stands (placeOf v woke c 0 [] n)
+                closed-stands (placeOf (x .shared .variables) woke c 0 [] (x .n))
                 (closedOn-as m here ∙ begun-at m (floorOf m woke) c _ g b)
                 (sound-begun m fit here (loop .stands .sound) h c g b)
                 (count-later c g);
           }
 
       -- no thread is ready before the horizon
-      pub loop-rest : 1024 * m .horizon .0 ≤ leastWord (m .t) us → answer v (threadsTo us ss (m .t)) n false ≡ answerOf m budget
+      pub loop-rest : limitOf m ≤ leastWord (m .t) us → answer (x .shared .variables) (threadsTo us (x .segments) (m .t)) (x .n) false ≡ answerOf m budget
       unfolding here woke
       loop-rest l =
           let u : T (not (isBoundBeforeHorizon m (floorOf m woke))) = floor-late m (modelFault-horizon m fit .1) us woke woke-words (woke-ranged .range) l in
-          let q = placeOf v woke (loop .cycle) turn [] n in
+          let q = placeOf (x .shared .variables) woke (loop .cycle) turn [] (x .n) in
           let r : someReady m woke ≡ false = someReady-rest m woke u in
           let e : stepped m here ≡ q = stepped-close m here h ∙ (closedOn-as m here ∙ begun-rest m (floorOf m woke) q u) in
-          let ts : threadsTo us ss (m .t) ≡ woke =
-          threadsTo-as us ss (m .t) woke (modelFault-counts m fit .threads) (woken-length m fit here (loop .stands .sound) h) woke-words woke-segments woke-ranged in
+          let ts : threadsTo us (x .segments) (m .t) ≡ woke =
+          threadsTo-as us (x .segments) (m .t) woke (modelFault-counts m fit .threads) (woken-length m fit here (loop .stands .sound) h) woke-words woke-segments woke-ranged in
           rw ts (reported-as m q false r ∙ ap (reported m) (rest-same q e (isDone-rest m q h refl r)))
         where
           rest-same : (q : Place) → stepped m here ≡ q → T (isDone m q) → q ≡ runFor m budget (lastStep m) (startOf m)

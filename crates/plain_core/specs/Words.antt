@@ -9,6 +9,7 @@ use lib.ListN.{getD, replicate}
 use Rattle.base.specs.Index.{tabulate}
 use Rattle.clock.specs.declared.Cycle.{Cycle}
 use Rattle.clock.specs.Cycle.{cycleAt}
+use Rattle.model.specs.declared.Model.{Model}
 use Rattle.model.specs.declared.State.{State}
 use Rattle.model.specs.declared.State.the-variants.{Ended, Overrun, Ready, Waiting}
 use Rattle.model.specs.declared.Thread.{Thread}
@@ -30,6 +31,10 @@ span = 17592186044416
 
 abbrev pub keyOf : Cycle → ℕ
 keyOf c = 1024 * c .time .0 + c .delta .0
+
+-- the first cycle that is not run: "A thread ready at time H or later is not run."
+abbrev pub limitOf : Model → ℕ
+limitOf m = 1024 * m .horizon .0
 
 abbrev pub wordOf : State → ℕ
 wordOf (Ended c) = ended + keyOf c

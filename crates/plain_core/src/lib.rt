@@ -13,9 +13,8 @@ ghost use mathlib.Core.Path.{_≡_};
 ghost use mathlib.Core.Bool.{cond, false, not, _&&_};
 ghost use lib.Dec.{ltb, leb, eqb};
 ghost use Prim.Native.Nat.{ℕ, _+_, _*_, _%_, _≤_, _<_, _^_};
-ghost use lib.ListN.{getD, replicate, length};
+ghost use lib.ListN.{getD, length};
 ghost use Rattle.model.specs.Values.{startAt};
-ghost use Rattle.model.specs.Record.{noThread};
 ghost use Rattle.model.specs.Rules.{modelFault};
 ghost use Rattle.plain.specs.Start.{startOf};
 ghost use Rattle.plain.specs.Run.{runFor, lastStep, reported, plainRun};
@@ -274,25 +273,11 @@ fn state_of(w: u64) -> State
     State::Overrun(c)
 }
 
-fn no_threads() -> Threads
-    ensures { λ r. ⌜ r .at ≡ replicate 32 noThread ⌝ }
-{
-    let c = Cycle {
-        time: Time(0),
-        delta: Delta(0),
-    };
-    let x = Thread {
-        segment: 0,
-        state: State::Ended(c),
-    };
-    Threads { at: [x; 32] }
-}
-
 fn threads_of(state: &[u64; 32], segments: &[u8; 32], t: usize) -> Threads
     requires { ⌜ t ≤ 32 ⌝ }
     ensures { λ r. ⌜ r .at ≡ threadsTo (now (state .entry)) (now (segments .entry)) t ⌝ }
 {
-    let mut ts = no_threads();
+    let mut ts = model_effect::no_threads();
     let mut k = 0;
     while k < t {
         let segment = segments[k];
@@ -485,7 +470,7 @@ pub fn plain_run(m: Model, budget: u64) -> PlainRun
     ensures { λ r. ⌜ r ≡ plainRun m budget ⌝ }
 {
     if model_rules::model_fault(m) != 0 {
-        let threads = no_threads();
+        let threads = model_effect::no_threads();
         let variables = Variables { at: [0u32; 64] };
         return PlainRun {
             number: 11,
