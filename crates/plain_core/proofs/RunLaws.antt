@@ -12,7 +12,7 @@ use Rattle.model.specs.Record.{noThread}
 use Rattle.model.specs.Rules.{modelFault}
 use Rattle.plain.specs.Start.{freshVariables}
 use Rattle.plain.specs.Run.{plainRun}
-use Rattle.plain_core.proofs.LoopLaws.{answerOf}
+use Rattle.plain_state.proofs.LoopLaws.{answerOf}
 
 pub plainRun-fit : (m : Model) (budget : ℕ) → modelFault m ≡ 0 → answerOf m budget ≡ plainRun m budget
 unfolding plainRun

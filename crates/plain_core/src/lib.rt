@@ -18,9 +18,9 @@ ghost use Rattle.model.specs.Values.{startAt};
 ghost use Rattle.model.specs.Rules.{modelFault};
 ghost use Rattle.plain.specs.Start.{startOf};
 ghost use Rattle.plain.specs.Run.{runFor, lastStep, reported, plainRun};
-ghost use Rattle.plain_core.specs.Words.{stateFrom, threadsTo, answer, nextWord, closeWord, wakeWord, leastWord};
-ghost use Rattle.plain_core.specs.Turn.{locals, waitedBy, turnOn, turnsTo};
-ghost use Rattle.plain_core.specs.Due.{Between, Late, IsLeast, Woken, IsDue, Ends};
+ghost use Rattle.plain_state.specs.Words.{stateFrom, threadsTo, answer, nextWord, closeWord, wakeWord, leastWord};
+ghost use Rattle.plain_state.specs.Turn.{locals, waitedBy, turnOn, turnsTo};
+ghost use Rattle.plain_state.specs.Due.{Between, Late, IsLeast, Woken, IsDue, Ends};
 
 // A thread's state as a word: a ready thread's is its cycle, 1,024 for each unit of time; the others stand above these.
 const WAITING: u64 = 4611686018427387904;

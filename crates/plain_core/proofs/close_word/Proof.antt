@@ -1,6 +1,6 @@
 -- `plain_core::close_word` meets its contract.
 use mathlib.Core.Path.{_∙_}
-use Rattle.plain_core.proofs.ExitLaws.{closeWord-over, closeWord-event, closeWord-delta, closeWord-units}
+use Rattle.plain_state.proofs.ExitLaws.{closeWord-over, closeWord-event, closeWord-delta, closeWord-units}
 use borrow.Author.Needs.{needs}
 use Rattle.plain_core.proofs.close_word.Statement.{statement}
 use Rattle.plain_core.proofs.close_word.Tie as tie

@@ -6,12 +6,12 @@ use native.Mathlib.Omega.{arith}
 use borrow.Author.Needs.{needs}
 use Rattle.model.specs.declared.Model.{Model}
 use Rattle.model_rules.proofs.RuleLaws.{modelFault-horizon, modelFault-counts}
-use Rattle.plain_core.specs.Words.{limitOf}
-use Rattle.plain_core.specs.Turn.{locals}
-use Rattle.plain_core.specs.Due.{Begins}
-use Rattle.plain_core.proofs.LoopLaws.{Loop, countAt, loop-start, falls-later}
-use Rattle.plain_core.proofs.EndLaws.{due-idle, begins-start}
-use Rattle.plain_core.proofs.TurnLaws.{Runs, Cycled, cycle-small, cycle-room, cycle-out, cycle-in, cycle-ends, cycle-ahead, cycle-rest, cycle-next, cycle-later, cycle-begun}
+use Rattle.plain_state.specs.Words.{limitOf}
+use Rattle.plain_state.specs.Turn.{locals}
+use Rattle.plain_state.specs.Due.{Begins}
+use Rattle.plain_state.proofs.LoopLaws.{Loop, countAt, loop-start, falls-later}
+use Rattle.plain_state.proofs.EndLaws.{due-idle, begins-start}
+use Rattle.plain_state.proofs.TurnLaws.{Runs, Cycled, cycle-small, cycle-room, cycle-out, cycle-in, cycle-ends, cycle-ahead, cycle-rest, cycle-next, cycle-later, cycle-begun}
 use Rattle.plain_core.proofs.cycles.Statement.{statement}
 use Rattle.plain_core.proofs.cycles.Tie as tie
 

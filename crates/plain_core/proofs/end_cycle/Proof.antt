@@ -1,7 +1,7 @@
 -- `plain_core::end_cycle` meets its contract.
 use mathlib.Core.Path.{_∙_}
 use native.Mathlib.Omega.{arith}
-use Rattle.plain_core.proofs.EndLaws.{hull-of, hull-woken, hull-ahead, hull-late}
+use Rattle.plain_state.proofs.EndLaws.{hull-of, hull-woken, hull-ahead, hull-late}
 use borrow.Author.Needs.{needs}
 use Rattle.plain_core.proofs.end_cycle.Statement.{statement}
 use Rattle.plain_core.proofs.end_cycle.Tie as tie

@@ -4,8 +4,8 @@ use mathlib.Core.Path.{sym, _∙_}
 use native.Mathlib.Omega.{arith}
 use lib.ListN.{getD}
 use borrow.Author.Needs.{needs}
-use Rattle.plain_core.specs.Due.{Between, Late}
-use Rattle.plain_core.proofs.DueLaws.{isLate-not, none-more}
+use Rattle.plain_state.specs.Due.{Between, Late}
+use Rattle.plain_state.proofs.DueLaws.{isLate-not, none-more}
 use Rattle.plain_core.proofs.first_late.Statement.{statement}
 use Rattle.plain_core.proofs.first_late.Tie as tie
 

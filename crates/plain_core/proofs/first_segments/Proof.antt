@@ -4,7 +4,7 @@ use mathlib.Core.Path.{_≡_, refl}
 use native.Mathlib.Omega.{arith}
 use lib.ListN.{length, getD, replicate, length-set}
 use Rattle.model.specs.Values.{startAt}
-use Rattle.plain_core.proofs.FillLaws.{fill-none, fill-more, started-first}
+use Rattle.plain_state.proofs.FillLaws.{fill-none, fill-more, started-first}
 use Rattle.plain_core.proofs.first_segments.Statement.{statement}
 use Rattle.plain_core.proofs.first_segments.Tie as tie
 

@@ -1,7 +1,7 @@
 -- `plain_core::look_at` meets its contract. The thread is not ready in this cycle, the budget is out, or it runs.
 use mathlib.Core.Path.{_∙_}
-use Rattle.plain_core.specs.Turn.{Locals, locals}
-use Rattle.plain_core.proofs.ExitLaws.{turnOn-passed, turnOn-full, turnOn-ran, ran-as}
+use Rattle.plain_state.specs.Turn.{Locals, locals}
+use Rattle.plain_state.proofs.ExitLaws.{turnOn-passed, turnOn-full, turnOn-ran, ran-as}
 use borrow.Author.Needs.{needs}
 use Rattle.plain_core.proofs.look_at.Statement.{statement}
 use Rattle.plain_core.proofs.look_at.Tie as tie

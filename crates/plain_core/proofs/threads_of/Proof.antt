@@ -3,8 +3,8 @@ use Prim.Native.Nat.{_≤_, _-_}
 use mathlib.Core.Path.{_≡_, ap, _∙_}
 use native.Mathlib.Omega.{arith}
 use Rattle.model.specs.declared.Threads.{Threads}
-use Rattle.plain_core.specs.Words.{threadsTo}
-use Rattle.plain_core.proofs.FillLaws.{threadsTo-none, threadsTo-set}
+use Rattle.plain_state.specs.Words.{threadsTo}
+use Rattle.plain_state.proofs.FillLaws.{threadsTo-none, threadsTo-set}
 use borrow.Author.Needs.{needs}
 use Rattle.plain_core.proofs.threads_of.Statement.{statement}
 use Rattle.plain_core.proofs.threads_of.Tie as tie

@@ -5,10 +5,10 @@ use mathlib.Core.Logic.{⊎-elim}
 use native.Mathlib.Omega.{arith}
 use lib.ListN.{length, getD, length-set}
 use borrow.Author.Needs.{needs}
-use Rattle.plain_core.specs.Words.{wakeWord}
-use Rattle.plain_core.specs.Due.{IsLeast}
-use Rattle.plain_core.proofs.FillLaws.{fill-more, rest-more}
-use Rattle.plain_core.proofs.DueLaws.{least-none, least-stored, outside}
+use Rattle.plain_state.specs.Words.{wakeWord}
+use Rattle.plain_state.specs.Due.{IsLeast}
+use Rattle.plain_state.proofs.FillLaws.{fill-more, rest-more}
+use Rattle.plain_state.proofs.DueLaws.{least-none, least-stored, outside}
 use Rattle.plain_core.proofs.wake.Statement.{statement}
 use Rattle.plain_core.proofs.wake.Tie as tie
 

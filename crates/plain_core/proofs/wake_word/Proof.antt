@@ -1,7 +1,7 @@
 -- `plain_core::wake_word` meets its contract.
 use mathlib.Core.Path.{_∙_}
 use borrow.Author.Tests.{not-true, not-false}
-use Rattle.plain_core.proofs.ExitLaws.{wakeWord-ready, wakeWord-over, wakeWord-past, wakeWord-unmarked, wakeWord-later, wakeWord-wakes}
+use Rattle.plain_state.proofs.ExitLaws.{wakeWord-ready, wakeWord-over, wakeWord-past, wakeWord-unmarked, wakeWord-later, wakeWord-wakes}
 use borrow.Author.Needs.{needs}
 use Rattle.plain_core.proofs.wake_word.Statement.{statement}
 use Rattle.plain_core.proofs.wake_word.Tie as tie

@@ -36,7 +36,7 @@ use Rattle.plain_words.proofs.MarkLaws.{Tells}
 use Rattle.plain_words.proofs.CodeLaws.{end-kind, end-load}
 use Rattle.plain.specs.Wake.{isWoken, wokenState}
 use Rattle.plain.specs.Step.{isAt}
-use Rattle.plain_core.specs.Words.{waiting, ended, overrun, span, keyOf, wordOf, stateFrom, nextWord, closeWord, wakeWord}
+use Rattle.plain_state.specs.Words.{waiting, ended, overrun, span, keyOf, wordOf, stateFrom, nextWord, closeWord, wakeWord}
 
 -- the units that a closer waits for
 abbrev pub unitsOf : Closer → ℕ

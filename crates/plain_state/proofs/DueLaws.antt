@@ -21,11 +21,11 @@ use borrow.Author.Tests.{lt-ltb, le-ltb, eq-eqb, ne-eqb}
 use Rattle.plain_words.specs.Unpack.{endBy}
 use Rattle.plain_words.specs.Reach.{Inside, widened}
 use Rattle.plain_words.proofs.ReachLaws.{widened-length, widened-new, widened-keeps}
-use Rattle.plain_core.specs.Words.{waiting, ended, overrun, span, nextWord, closeWord, wakeWord, leastWord}
-use Rattle.plain_core.specs.Turn.{Locals, waitedBy, ranBy, turnOn, turnsTo}
-use Rattle.plain_core.specs.Due.{Between, Late, WaitsFor, IsLeast}
-use Rattle.plain_core.proofs.ExitLaws.{closeWord-over, closeWord-event, closeWord-delta, closeWord-units, wakeWord-ready, wakeWord-over, wakeWord-past, wakeWord-unmarked, turnOn-passed}
-use Rattle.plain_core.proofs.LeastLaws.{leastWord-≤, leastWord-most, leastWord-one}
+use Rattle.plain_state.specs.Words.{waiting, ended, overrun, span, nextWord, closeWord, wakeWord, leastWord}
+use Rattle.plain_state.specs.Turn.{Locals, waitedBy, ranBy, turnOn, turnsTo}
+use Rattle.plain_state.specs.Due.{Between, Late, WaitsFor, IsLeast}
+use Rattle.plain_state.proofs.ExitLaws.{closeWord-over, closeWord-event, closeWord-delta, closeWord-units, wakeWord-ready, wakeWord-over, wakeWord-past, wakeWord-unmarked, turnOn-passed}
+use Rattle.plain_state.proofs.LeastLaws.{leastWord-≤, leastWord-most, leastWord-one}
 
 -- the greatest word
 abbrev most : ℕ

@@ -20,10 +20,10 @@ use Rattle.plain_words.specs.Reach.{lesserOf, greaterOf, Inside}
 use Rattle.plain_words.specs.Shared.{Shared, executeBy}
 use Rattle.plain_words.proofs.MarkLaws.{tells-none}
 use Rattle.plain_words.proofs.ReachLaws.{lesserOf-≤, lesserOf-<, greaterOf-≤, Wider, executeBy-wider}
-use Rattle.plain_core.specs.Words.{span, closeWord, wakeWord}
-use Rattle.plain_core.specs.Turn.{Locals, waitedBy, ranBy, turnOn, turnsTo}
-use Rattle.plain_core.specs.Due.{Between, Late, WaitsFor, Woken, IsDue, Begins, Ends}
-use Rattle.plain_core.proofs.DueLaws.{wakeWord-ahead, wakeWord-waits, wakeWord-still, closeWord-waits, turnOn-or, turnsTo-state, turnsTo-past, waitedBy-length, waitedBy-keeps, waitedBy-new}
+use Rattle.plain_state.specs.Words.{span, closeWord, wakeWord}
+use Rattle.plain_state.specs.Turn.{Locals, waitedBy, ranBy, turnOn, turnsTo}
+use Rattle.plain_state.specs.Due.{Between, Late, WaitsFor, Woken, IsDue, Begins, Ends}
+use Rattle.plain_state.proofs.DueLaws.{wakeWord-ahead, wakeWord-waits, wakeWord-still, closeWord-waits, turnOn-or, turnsTo-state, turnsTo-past, waitedBy-length, waitedBy-keeps, waitedBy-new}
 
 pub due-all : (code : List ℕ) (now budget : ℕ) (x y : Locals) (t from to : ℕ) → IsDue t (x .state) now from to → y ≡ turnsTo code now budget to x → y ≡ turnsTo code now budget t x
 due-all code now budget x y t from to d e = e ∙ turnsTo-past code now budget x to t (d .inside) (λ k l u q. let h = d .due k u q .1 in omega arith)

@@ -21,13 +21,13 @@ use Rattle.model.specs.Values.{startAt}
 use Rattle.model.specs.Rules.{modelFault}
 use Rattle.model_rules.proofs.RuleLaws.{modelFault-counts}
 use Rattle.plain_words.specs.Pack.{IsCode}
-use Rattle.plain_core.specs.Words.{limitOf, threadsTo, answer, wakeWord, leastWord}
-use Rattle.plain_core.specs.Turn.{Locals, locals, turnOn, turnsTo}
-use Rattle.plain_core.specs.Due.{IsDue, Begins, Ends}
-use Rattle.plain_core.proofs.ExitLaws.{turnOn-passed, turnOn-full, turnOn-ran}
-use Rattle.plain_core.proofs.LeastLaws.{leastWord-≤}
-use Rattle.plain_core.proofs.LoopLaws.{Loop, countAt, answerOf, loop-small, loop-room, loop-passed, loop-ran, loop-out, loop-ahead, loop-later, loop-begun, loop-rest}
-use Rattle.plain_core.proofs.EndLaws.{due-all, ends-all, begins-next}
+use Rattle.plain_state.specs.Words.{limitOf, threadsTo, answer, wakeWord, leastWord}
+use Rattle.plain_state.specs.Turn.{Locals, locals, turnOn, turnsTo}
+use Rattle.plain_state.specs.Due.{IsDue, Begins, Ends}
+use Rattle.plain_state.proofs.ExitLaws.{turnOn-passed, turnOn-full, turnOn-ran}
+use Rattle.plain_state.proofs.LeastLaws.{leastWord-≤}
+use Rattle.plain_state.proofs.LoopLaws.{Loop, countAt, answerOf, loop-small, loop-room, loop-passed, loop-ran, loop-out, loop-ahead, loop-later, loop-begun, loop-rest}
+use Rattle.plain_state.proofs.EndLaws.{due-all, ends-all, begins-next}
 
 and-second : (b : Bool) (l k : ℕ) → b && leb l k ≡ true → k < l → ⊥
 and-second true l k g h = let e : true ≡ false = sym g ∙ lt-leb l k h in let z : _≡_ {A = ℕ} 0 1 = cc in absurd (omega arith)

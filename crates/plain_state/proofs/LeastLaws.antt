@@ -23,10 +23,10 @@ use Rattle.model.specs.declared.Thread.{Thread}
 use Rattle.model.specs.Limits.{isBeforeHorizon, isBoundBeforeHorizon}
 use Rattle.model.specs.Record.{threadAt, readyCycle}
 use Rattle.plain.specs.Wake.{floorOf}
-use Rattle.plain_core.specs.Words.{waiting, keyOf, limitOf, wordOf, leastWord}
+use Rattle.plain_state.specs.Words.{waiting, keyOf, limitOf, wordOf, leastWord}
 use Rattle.plain_laws.proofs.WakeLaws.{floorOf-≼}
-use Rattle.plain_core.proofs.FloorLaws.{floorOf-one}
-use Rattle.plain_core.proofs.WordLaws.{Small, InRange}
+use Rattle.plain_state.proofs.FloorLaws.{floorOf-one}
+use Rattle.plain_state.proofs.WordLaws.{Small, InRange}
 
 leastWord-below : (k : ℕ) (ws : List ℕ) → (leastWord (suc k) ws ≤ getD ws k 0) × (leastWord (suc k) ws ≤ leastWord k ws)
 unfolding leastWord

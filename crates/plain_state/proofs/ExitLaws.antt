@@ -11,8 +11,8 @@ use Rattle.clock.specs.Cycle.{cycleAt}
 use Rattle.model.specs.declared.State.the-variants.{Ended, Overrun, Ready, Waiting}
 use Rattle.plain_words.specs.Unpack.{endBy, followBy}
 use Rattle.plain_words.specs.Shared.{Shared, shared, executeBy}
-use Rattle.plain_core.specs.Words.{waiting, ended, overrun, span, stateFrom, nextWord, closeWord, wakeWord}
-use Rattle.plain_core.specs.Turn.{Locals, locals, waitedBy, ranBy, turnOn, turnsTo}
+use Rattle.plain_state.specs.Words.{waiting, ended, overrun, span, stateFrom, nextWord, closeWord, wakeWord}
+use Rattle.plain_state.specs.Turn.{Locals, locals, waitedBy, ranBy, turnOn, turnsTo}
 
 module _ (k : ℕ) where
   pub nextWord-ready : k % 1024 < 1023 → k + 1 ≡ nextWord k

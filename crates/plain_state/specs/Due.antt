@@ -7,7 +7,7 @@ use mathlib.Core.Bool.{Bool, true, false}
 use mathlib.Core.List.{List}
 use lib.ListN.{length, getD}
 use Rattle.plain_words.specs.Reach.{Inside}
-use Rattle.plain_core.specs.Words.{waiting, ended, span, wakeWord}
+use Rattle.plain_state.specs.Words.{waiting, ended, span, wakeWord}
 
 -- thread k is from a thread on and before another
 abbrev pub Between : ℕ → ℕ → ℕ → Type 0

@@ -17,7 +17,7 @@ use Rattle.model.specs.declared.Thread.{Thread}
 use Rattle.model.specs.declared.State.{State}
 use Rattle.model.specs.Values.{noStart, startAt}
 use Rattle.model.specs.Record.{noThread}
-use Rattle.plain_core.specs.Words.{stateFrom, threadsTo}
+use Rattle.plain_state.specs.Words.{stateFrom, threadsTo}
 
 module _ (P : ℕ → ℕ → Type 0) where
   pub fill-none : (xs : List ℕ) (i : ℕ) → i < 0 → P i (getD xs i 0)

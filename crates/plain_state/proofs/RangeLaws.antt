@@ -26,8 +26,8 @@ use Rattle.model.specs.Rules.{modelFault, closerFault}
 use Rattle.model_rules.proofs.RuleLaws.{closerFault-delay, closerFault-event}
 use Rattle.plain.specs.Start.{started, freshThreads}
 use Rattle.plain.specs.Wake.{isWoken, wokenState, wokenThread, woken}
-use Rattle.plain_core.proofs.SoundLaws.{threadAt-set, threadAt-woken, threadAt-fresh}
-use Rattle.plain_core.proofs.WordLaws.{Small, InRange}
+use Rattle.plain_state.proofs.SoundLaws.{threadAt-set, threadAt-woken, threadAt-fresh}
+use Rattle.plain_state.proofs.WordLaws.{Small, InRange}
 
 -- the units that a wait is for
 abbrev unitsOf : Wait → ℕ

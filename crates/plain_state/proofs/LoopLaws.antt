@@ -51,13 +51,13 @@ use Rattle.plain.specs.Wake.{wokenThread, woken, floorOf, someReady}
 use Rattle.plain.specs.Step.{isAt, isDue, ranOn, passedOn, begun, closedOn, stepped}
 use Rattle.plain.specs.Run.{isDone, isOut, runFor, lastStep, reported}
 use Rattle.plain_laws.proofs.RecordLaws.{<→horizon}
-use Rattle.plain_core.specs.Words.{keyOf, limitOf, wordOf, stateFrom, threadsTo, answer, closeWord, wakeWord, leastWord}
-use Rattle.plain_core.specs.Turn.{Locals, locals, ranBy}
-use Rattle.plain_core.proofs.FloorLaws.{someReady-here, someReady-rest, begun-rest, stepped-close, runFor-done, runFor-out, runFor-on}
-use Rattle.plain_core.proofs.SoundLaws.{Ahead, Sound, isDue→≡, sound-start, sound-passed, sound-ran, floor-ahead, sound-begun, threadAt-fresh, threadAt-woken, woken-length}
-use Rattle.plain_core.proofs.WordLaws.{Small, InRange, unitsOf, stateFrom-word, word-due, word-not-due, closeWord-closed, wakeWord-woken}
-use Rattle.plain_core.proofs.RangeLaws.{Ranged, past-end, small-now, closedAt-range, ranged-start, ranged-set, ranged-woken}
-use Rattle.plain_core.proofs.LeastLaws.{leastWord-one, floor-word, floor-late}
+use Rattle.plain_state.specs.Words.{keyOf, limitOf, wordOf, stateFrom, threadsTo, answer, closeWord, wakeWord, leastWord}
+use Rattle.plain_state.specs.Turn.{Locals, locals, ranBy}
+use Rattle.plain_state.proofs.FloorLaws.{someReady-here, someReady-rest, begun-rest, stepped-close, runFor-done, runFor-out, runFor-on}
+use Rattle.plain_state.proofs.SoundLaws.{Ahead, Sound, isDue→≡, sound-start, sound-passed, sound-ran, floor-ahead, sound-begun, threadAt-fresh, threadAt-woken, woken-length}
+use Rattle.plain_state.proofs.WordLaws.{Small, InRange, unitsOf, stateFrom-word, word-due, word-not-due, closeWord-closed, wakeWord-woken}
+use Rattle.plain_state.proofs.RangeLaws.{Ranged, past-end, small-now, closedAt-range, ranged-start, ranged-set, ranged-woken}
+use Rattle.plain_state.proofs.LeastLaws.{leastWord-one, floor-word, floor-late}
 
 -- how many steps lie before a turn of a cycle: T + 1 for each cycle, whether it is run or not
 abbrev pub countAt : ℕ → ℕ → ℕ → ℕ

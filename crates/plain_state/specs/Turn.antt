@@ -7,7 +7,7 @@ use lib.ListN.{getD, set}
 use Rattle.plain_words.specs.Unpack.{endBy, followBy}
 use Rattle.plain_words.specs.Reach.{widened}
 use Rattle.plain_words.specs.Shared.{Shared, shared, executeBy}
-use Rattle.plain_core.specs.Words.{closeWord}
+use Rattle.plain_state.specs.Words.{closeWord}
 
 -- what the threads share, their states as words, their segments, and how many segments have run
 pub record Locals : Type 0 where
