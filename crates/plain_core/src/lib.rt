@@ -51,7 +51,7 @@ fn close_word(end: u64, key: u64) -> u64
     }
     let k = end / 1024;
     if kind == 2 {
-        return WAITING + 17592186044416 * (k % 256) + key;
+        return WAITING + 17592186044416 * (k % 32) + key;
     }
     let units = k % 4294967296;
     if units == 0 {
@@ -62,7 +62,6 @@ fn close_word(end: u64, key: u64) -> u64
 
 // Document 01: "At the cycle's end, each thread waiting on an event notified in it, its wait begun in that cycle or before".
 fn wake_word(told: &[bool; 32], key: u64, w: u64) -> u64
-    requires { ⌜ length (now told) ≡ 32 ⌝ }
     requires { ⌜ key < 2 ^ 44 ⌝ }
     ensures { λ r. ⌜ r ≡ wakeWord (now (told .entry)) key w ⌝ }
 {
@@ -73,10 +72,7 @@ fn wake_word(told: &[bool; 32], key: u64, w: u64) -> u64
         return w;
     }
     let x = w - WAITING;
-    let e = (x / 17592186044416) as usize;
-    if 32 <= e {
-        return w;
-    }
+    let e = ((x / 17592186044416) % 32) as usize;
     if !told[e] {
         return w;
     }
@@ -91,7 +87,6 @@ fn wake(state: &mut [u64; 32], told: &[bool; 32], key: u64, from: usize, to: usi
     requires { ⌜ from ≤ to ⌝ }
     requires { ⌜ to ≤ 32 ⌝ }
     requires { ⌜ key < 2 ^ 44 ⌝ }
-    requires { ⌜ length (now told) ≡ 32 ⌝ }
     requires { ⌜ length (now state) ≡ 32 ⌝ }
     ensures { λ r. ⌜ Woken (now (told .entry)) key from to (now (state .entry)) (now (state .exit)) r ⌝ }
 {
@@ -236,7 +231,6 @@ fn end_cycle(
 ) -> Due
     requires { ⌜ t ≤ 32 ⌝ }
     requires { ⌜ due .key < 2 ^ 44 ⌝ }
-    requires { ⌜ length (now told) ≡ 32 ⌝ }
     requires { ⌜ length (now state) ≡ 32 ⌝ }
     requires { ⌜ Ends t (now state) (now told) (now ranges) (due .key) (due .from) (due .to) ⌝ }
     requires { ⌜ ((k : ℕ) → k < t → due .key < getD (now state) k 0) ⌝ }
@@ -265,7 +259,7 @@ fn state_of(w: u64) -> State
         return State::Ready(c);
     }
     if w < ENDED {
-        return State::Waiting((((w - WAITING) / 17592186044416) % 256) as u8, c);
+        return State::Waiting((((w - WAITING) / 17592186044416) % 32) as u8, c);
     }
     if w < OVERRUN {
         return State::Ended(c);

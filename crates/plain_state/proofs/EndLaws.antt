@@ -23,7 +23,7 @@ use Rattle.plain_words.proofs.ReachLaws.{lesserOf-≤, lesserOf-<, greaterOf-�
 use Rattle.plain_state.specs.Words.{span, closeWord, wakeWord}
 use Rattle.plain_state.specs.Turn.{Locals, waitedBy, ranBy, turnOn, turnsTo}
 use Rattle.plain_state.specs.Due.{Between, Late, WaitsFor, Woken, IsDue, Begins, Ends}
-use Rattle.plain_state.proofs.DueLaws.{wakeWord-ahead, wakeWord-waits, wakeWord-still, closeWord-waits, turnOn-or, turnsTo-state, turnsTo-past, waitedBy-length, waitedBy-keeps, waitedBy-new}
+use Rattle.plain_state.proofs.DueLaws.{waitsFor-word, wakeWord-ahead, wakeWord-waits, wakeWord-still, closeWord-waits, turnOn-or, turnsTo-state, turnsTo-past, waitedBy-length, waitedBy-keeps, waitedBy-new}
 
 pub due-all : (code : List ℕ) (now budget : ℕ) (x y : Locals) (t from to : ℕ) → IsDue t (x .state) now from to → y ≡ turnsTo code now budget to x → y ≡ turnsTo code now budget t x
 due-all code now budget x y t from to d e = e ∙ turnsTo-past code now budget x to t (d .inside) (λ k l u q. let h = d .due k u q .1 in omega arith)
@@ -41,7 +41,7 @@ begins-start t now from to rs few size due =
     record {
       threads = due;
       size = size;
-      awaited = λ k e h l w. let z : _≡_ {A = ℕ} (getD (replicate 32 0) k 0) 0 = getD-replicate 32 k 0 0 (omega arith) in let a = w .0 in absurd (omega arith);
+      awaited = λ k e h l w. let z : _≡_ {A = ℕ} (getD (replicate 32 0) k 0) 0 = getD-replicate 32 k 0 0 (omega arith) in let (a, b) = waitsFor-word (getD (replicate 32 0) k 0) e w in absurd (omega arith);
       quiet = λ e h. let f : false ≡ true = sym (tells-none e) ∙ h in let z : _≡_ {A = ℕ} 0 1 = cc in absurd (omega arith);
     }
 
@@ -81,7 +81,7 @@ module _ (code : List ℕ) (now budget t from to : ℕ) (few : t ≤ 32) (small 
         go : ((k ≡ j) × (getD (set (x .state) j (closeWord end now)) k 0 ≡ closeWord end now)) ⊎ ((k ≡ j → ⊥) × (getD (set (x .state) j (closeWord end now)) k 0 ≡ getD (x .state) k 0)) →
             Inside (waitedBy end j (after .ranges)) e k
         go (inl (q, f)) =
-            let (a, b) = closeWord-waits end now e small u (subst (λ (y : ℕ). WaitsFor y e) f w) in
+            let (a, b) = closeWord-waits end now e small (subst (λ (y : ℕ). WaitsFor y e) f w) in
             subst (λ (i : ℕ). Inside (waitedBy end j (after .ranges)) e i) (sym q) (waitedBy-new end j (after .ranges) (wider .size) e a b)
         go (inr (q, f)) =
             waitedBy-keeps end j (after .ranges) (wider .size) e k (omega arith)
@@ -189,7 +189,7 @@ hull-of t rs from to a b c h l ea eb ec =
     bound (no u) = let (p, p′) = lesserOf-≤ from (getD rs 32 0) in let (q, q′) = greaterOf-≤ to (getD rs 65 0) in rw (ec, le-ltb t b (omega arith)) (omega arith)
 
 module _ (t : ℕ) (ws : List ℕ) (fs : List Bool) (rs : List ℕ) (now from to a c : ℕ) (ends : Ends t ws fs rs now from to) (hull : Hull t rs from to a c)
-    (small : now < span) (size : length fs ≡ 32) (us : List ℕ) (r : ℕ) (woke : Woken fs now a c ws us r) where
+    (small : now < span) (us : List ℕ) (r : ℕ) (woke : Woken fs now a c ws us r) where
   inside-or : (k : ℕ) → Dec (Between a c k)
   inside-or k = go (decLt k a) (decLt k c)
     where
@@ -207,7 +207,7 @@ module _ (t : ℕ) (ws : List ℕ) (fs : List Bool) (rs : List ℕ) (now from to
 
       go : Dec (Between a c k) → getD us k 0 ≡ wakeWord fs now (getD ws k 0)
       go (yes b) = woke .words k b
-      go (no n) = woke .rest k n ∙ wakeWord-still fs now small (getD ws k 0) size (λ e u w q. n (there (ends .told k e l u w q)))
+      go (no n) = woke .rest k n ∙ wakeWord-still fs now small (getD ws k 0) (λ e u w q. n (there (ends .told k e l u w q)))
 
   pub hull-ahead : ((k : ℕ) → k < t → now < getD ws k 0) → (k : ℕ) → k < t → now < getD us k 0
   hull-ahead ahead k l = rw (hull-woken k l) (wakeWord-ahead fs now small (getD ws k 0) (ahead k l))

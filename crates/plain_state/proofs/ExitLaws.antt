@@ -1,87 +1,135 @@
 -- The definitions of `Words` and `Turn`, one law for each way out of the code that computes them.
 use Prim.Native.Nat.{ℕ, _+_, _-_, _*_, _/_, _%_, _<_, _≤_}
-use mathlib.Core.Path.{_≡_, refl, ap, _∙_}
-use mathlib.Core.Bool.{Bool, true, false, cond, _&&_}
+use mathlib.Core.Path.{_≡_, refl, ap, sym, _∙_}
+use mathlib.Core.Logic.{_⊎_, inl, inr}
+use mathlib.Core.Bool.{Bool, true, false, cond, not, _&&_}
 use mathlib.Core.List.{List}
 use native.Mathlib.Numerals.{add-one}
-use lib.Dec.{ltb, leb, eqb}
-use lib.ListN.{length, getD, set, List·getD-eq-default}
+use native.Mathlib.Omega.{arith}
+use native.Mathlib.Decide.{decLt}
+use lib.Dec.{T, ltb, leb, eqb}
+use lib.ListN.{getD, set}
 use borrow.Author.Tests.{lt-ltb, le-ltb, le-leb, lt-leb, eq-eqb, ne-eqb}
-use Rattle.clock.specs.Cycle.{cycleAt}
+use Rattle.base.proofs.BoolLaws.{T-case, T→true, T→false}
+use Rattle.clock.specs.declared.Delay.{Delay}
+use Rattle.clock.specs.Cycle.{isBefore}
+use Rattle.clock.specs.Order.{Before, _⊑_, sooner, same-time}
+use Rattle.clock.proofs.CycleLaws.{isBefore→Before, not-isBefore→⊑}
+use Rattle.clock.proofs.WaitLaws.{waitEnds-Event, waitEnds-none, waitEnds-more, nextDelta-ready, nextDelta-overrun}
 use Rattle.model.specs.declared.State.the-variants.{Ended, Overrun, Ready, Waiting}
+use Rattle.model.specs.Record.{nothing, awaits, awaitedBy}
 use Rattle.plain_words.specs.Unpack.{endBy, followBy}
 use Rattle.plain_words.specs.Shared.{Shared, shared, executeBy}
-use Rattle.plain_state.specs.Words.{waiting, ended, overrun, span, stateFrom, nextWord, closeWord, wakeWord}
+use Rattle.plain_state.specs.Words.{waiting, ended, overrun, span, keyOf, cycleFrom, stateFrom, nextWord, endedBy, closeWord, isTold, wakeWord}
 use Rattle.plain_state.specs.Turn.{Locals, locals, waitedBy, ranBy, turnOn, turnsTo}
+
+-- a cycle as a number, and back
+pub keyOf-from : (k : ℕ) → keyOf (cycleFrom k) ≡ k
+keyOf-from k = omega arith
 
 module _ (k : ℕ) where
   pub nextWord-ready : k % 1024 < 1023 → k + 1 ≡ nextWord k
   unfolding nextWord
-  nextWord-ready h = rw (lt-ltb (k % 1024) 1023 h) refl
+  nextWord-ready h = rw (waitEnds-Event (cycleFrom k), nextDelta-ready (cycleFrom k) h) (omega arith)
 
   pub nextWord-overrun : 1023 ≤ k % 1024 → overrun + k ≡ nextWord k
   unfolding nextWord
-  nextWord-overrun h = rw (le-ltb (k % 1024) 1023 h) refl
+  nextWord-overrun h = rw (waitEnds-Event (cycleFrom k), nextDelta-overrun (cycleFrom k) h) (omega arith)
 
   module _ (e : ℕ) where
-    pub closeWord-over : e % 4 ≡ 0 → ended + k ≡ closeWord e k
-    unfolding closeWord
-    closeWord-over h = rw (eq-eqb (e % 4) 0 h) refl
+    delay : Delay
+    delay = record { 0 = e / 1024 % 4294967296 }
 
-    pub closeWord-event : (e % 4 ≡ 0 → ⊥) → e % 4 ≡ 2 → waiting + span * (e / 1024 % 256) + k ≡ closeWord e k
-    unfolding closeWord
-    closeWord-event n h = rw (ne-eqb (e % 4) 0 n, eq-eqb (e % 4) 2 h) refl
+    pub closeWord-over : e % 4 ≡ 0 → ended + k ≡ closeWord e k
+    unfolding closeWord endedBy
+    closeWord-over h = rw (eq-eqb (e % 4) 0 h) (omega arith)
+
+    pub closeWord-event : (e % 4 ≡ 0 → ⊥) → e % 4 ≡ 2 → waiting + span * (e / 1024 % 32) + k ≡ closeWord e k
+    unfolding closeWord endedBy
+    closeWord-event n h = rw (ne-eqb (e % 4) 0 n, eq-eqb (e % 4) 2 h) (omega arith)
 
     pub closeWord-delta : (e % 4 ≡ 0 → ⊥) → (e % 4 ≡ 2 → ⊥) → e / 1024 % 4294967296 ≡ 0 → nextWord k ≡ closeWord e k
-    unfolding closeWord
-    closeWord-delta n o h = rw (ne-eqb (e % 4) 0 n, ne-eqb (e % 4) 2 o, eq-eqb (e / 1024 % 4294967296) 0 h) refl
+    unfolding closeWord endedBy nextWord delay
+    closeWord-delta n o h = rw (ne-eqb (e % 4) 0 n, ne-eqb (e % 4) 2 o, waitEnds-none delay (cycleFrom k) h, waitEnds-Event (cycleFrom k)) refl
 
     pub closeWord-units : (e % 4 ≡ 0 → ⊥) → (e % 4 ≡ 2 → ⊥) → (e / 1024 % 4294967296 ≡ 0 → ⊥) → 1024 * (k / 1024 + e / 1024 % 4294967296) ≡ closeWord e k
-    unfolding closeWord
-    closeWord-units n o h = rw (ne-eqb (e % 4) 0 n, ne-eqb (e % 4) 2 o, ne-eqb (e / 1024 % 4294967296) 0 h) refl
+    unfolding closeWord endedBy delay
+    closeWord-units n o h = rw (ne-eqb (e % 4) 0 n, ne-eqb (e % 4) 2 o, waitEnds-more delay (cycleFrom k) h) (omega arith)
 
 module _ (w : ℕ) where
-  pub stateFrom-ready : w < waiting → Ready (cycleAt (w % span / 1024) (w % span % 1024)) ≡ stateFrom w
+  pub stateFrom-ready : w < waiting → Ready (cycleFrom (w % span)) ≡ stateFrom w
   unfolding stateFrom
   stateFrom-ready h = rw (lt-ltb w waiting h) refl
 
-  pub stateFrom-waiting : waiting ≤ w → w < ended → Waiting ((w - waiting) / span % 256) (cycleAt (w % span / 1024) (w % span % 1024)) ≡ stateFrom w
-  unfolding stateFrom
-  stateFrom-waiting h l = rw (le-ltb w waiting h, lt-ltb w ended l) refl
+  module _ (h : waiting ≤ w) where
+    pub stateFrom-waiting : w < ended → Waiting ((w - waiting) / span % 32) (cycleFrom (w % span)) ≡ stateFrom w
+    unfolding stateFrom
+    stateFrom-waiting l = rw (le-ltb w waiting h, lt-ltb w ended l) refl
 
-  pub stateFrom-ended : waiting ≤ w → ended ≤ w → w < overrun → Ended (cycleAt (w % span / 1024) (w % span % 1024)) ≡ stateFrom w
-  unfolding stateFrom
-  stateFrom-ended h l o = rw (le-ltb w waiting h, le-ltb w ended l, lt-ltb w overrun o) refl
+    pub stateFrom-ended : ended ≤ w → w < overrun → Ended (cycleFrom (w % span)) ≡ stateFrom w
+    unfolding stateFrom
+    stateFrom-ended l o = rw (le-ltb w waiting h, le-ltb w ended l, lt-ltb w overrun o) refl
 
-  pub stateFrom-overrun : waiting ≤ w → ended ≤ w → overrun ≤ w → Overrun (cycleAt (w % span / 1024) (w % span % 1024)) ≡ stateFrom w
-  unfolding stateFrom
-  stateFrom-overrun h l o = rw (le-ltb w waiting h, le-ltb w ended l, le-ltb w overrun o) refl
+    pub stateFrom-overrun : ended ≤ w → overrun ≤ w → Overrun (cycleFrom (w % span)) ≡ stateFrom w
+    unfolding stateFrom
+    stateFrom-overrun l o = rw (le-ltb w waiting h, le-ltb w ended l, le-ltb w overrun o) refl
+
+  -- what a word's thread waits for
+  pub awaited-ready : w < waiting → awaitedBy (stateFrom w) ≡ nothing
+  awaited-ready h = rw (← stateFrom-ready h) refl
+
+  pub awaited-over : ended ≤ w → awaitedBy (stateFrom w) ≡ nothing
+  awaited-over l = go (decLt w overrun)
+    where
+      go : Dec (w < overrun) → awaitedBy (stateFrom w) ≡ nothing
+      go (yes o) = rw (← stateFrom-ended (omega arith) l o) refl
+      go (no o) = rw (← stateFrom-overrun (omega arith) l (omega arith)) refl
+
+  pub awaited-waiting : waiting ≤ w → w < ended → awaitedBy (stateFrom w) ≡ awaits ((w - waiting) / span % 32) (cycleFrom (w % span))
+  awaited-waiting h l = rw (← stateFrom-waiting h l) refl
+
+-- a number is before another exactly where its cycle is
+pub from-before : (k j : ℕ) → isBefore (cycleFrom k) (cycleFrom j) ≡ ltb k j
+from-before k j = go (T-case (isBefore (cycleFrom k) (cycleFrom j)))
+  where
+    earlier : Before (cycleFrom k) (cycleFrom j) → k < j
+    earlier (sooner b) = omega arith
+    earlier (same-time b l) = omega arith
+
+    later : cycleFrom j ⊑ cycleFrom k → j ≤ k
+    later (sooner b) = omega arith
+    later (same-time b l) = omega arith
+
+    go : T (isBefore (cycleFrom k) (cycleFrom j)) ⊎ T (not (isBefore (cycleFrom k) (cycleFrom j))) → isBefore (cycleFrom k) (cycleFrom j) ≡ ltb k j
+    go (inl t) = rw (T→true (isBefore (cycleFrom k) (cycleFrom j)) t) (sym (lt-ltb k j (earlier (isBefore→Before (cycleFrom k) (cycleFrom j) t))))
+    go (inr t) = rw (T→false (isBefore (cycleFrom k) (cycleFrom j)) t) (sym (le-ltb k j (later (not-isBefore→⊑ (cycleFrom k) (cycleFrom j) t))))
 
 module _ (fs : List Bool) (k w : ℕ) where
+  wakeWord-nothing : awaitedBy (stateFrom w) ≡ nothing → w ≡ wakeWord fs k w
+  unfolding wakeWord isTold
+  wakeWord-nothing e = rw e refl
+
   pub wakeWord-ready : w < waiting → w ≡ wakeWord fs k w
-  unfolding wakeWord
-  wakeWord-ready h = rw (lt-ltb w waiting h) refl
+  wakeWord-ready h = wakeWord-nothing (awaited-ready w h)
 
-  module _ (h : waiting ≤ w) where
-    pub wakeWord-over : ended ≤ w → w ≡ wakeWord fs k w
-    unfolding wakeWord
-    wakeWord-over l = rw (le-ltb w waiting h, le-leb ended w l) refl
+  pub wakeWord-over : ended ≤ w → w ≡ wakeWord fs k w
+  wakeWord-over l = wakeWord-nothing (awaited-over w l)
 
-    module _ (l : w < ended) where
-      pub wakeWord-unmarked : getD fs ((w - waiting) / span) false ≡ false → w ≡ wakeWord fs k w
-      unfolding wakeWord
-      wakeWord-unmarked e = rw (le-ltb w waiting h, lt-leb ended w l, e) refl
+  module _ (h : waiting ≤ w) (l : w < ended) where
+    same-key : (w - waiting) % span ≡ w % span
+    same-key = omega arith
 
-      pub wakeWord-past : length fs ≡ 32 → 32 ≤ (w - waiting) / span → w ≡ wakeWord fs k w
-      wakeWord-past size p = wakeWord-unmarked (List·getD-eq-default fs false (rw size p))
+    pub wakeWord-unmarked : getD fs ((w - waiting) / span % 32) false ≡ false → w ≡ wakeWord fs k w
+    unfolding wakeWord isTold
+    wakeWord-unmarked e = rw (awaited-waiting w h l, e) refl
 
-      pub wakeWord-later : getD fs ((w - waiting) / span) false ≡ true → k < (w - waiting) % span → w ≡ wakeWord fs k w
-      unfolding wakeWord
-      wakeWord-later e p = rw (le-ltb w waiting h, lt-leb ended w l, e, lt-leb ((w - waiting) % span) k p) refl
+    pub wakeWord-later : getD fs ((w - waiting) / span % 32) false ≡ true → k < (w - waiting) % span → w ≡ wakeWord fs k w
+    unfolding wakeWord isTold
+    wakeWord-later e p = let s = same-key in rw (awaited-waiting w h l, e, from-before k (w % span), lt-ltb k (w % span) (omega arith)) refl
 
-      pub wakeWord-wakes : getD fs ((w - waiting) / span) false ≡ true → (w - waiting) % span ≤ k → nextWord k ≡ wakeWord fs k w
-      unfolding wakeWord
-      wakeWord-wakes e p = rw (le-ltb w waiting h, lt-leb ended w l, e, le-leb ((w - waiting) % span) k p) refl
+    pub wakeWord-wakes : getD fs ((w - waiting) / span % 32) false ≡ true → (w - waiting) % span ≤ k → nextWord k ≡ wakeWord fs k w
+    unfolding wakeWord isTold
+    wakeWord-wakes e p = let s = same-key in rw (awaited-waiting w h l, e, from-before k (w % span), le-ltb k (w % span) (omega arith)) refl
 
 -- a thread that is looked at
 module _ (code : List ℕ) (now budget k : ℕ) where

@@ -1,5 +1,6 @@
 pub mod FillLaws
 pub mod ExitLaws
+pub mod LimitLaws
 pub mod FloorLaws
 pub mod SoundLaws
 pub mod WordLaws

@@ -29,7 +29,6 @@ use Rattle.model.specs.declared.Closer.{Closer}
 use Rattle.model.specs.declared.Closer.the-variants.{End, Time, Event}
 use Rattle.model.specs.declared.Model.{Model}
 use Rattle.model.specs.declared.State.{State}
-use Rattle.model.specs.declared.State.the-variants.{Ended, Overrun, Ready, Waiting}
 use Rattle.model.specs.declared.Thread.{Thread}
 use Rattle.model.specs.declared.Threads.{Threads}
 use Rattle.model.specs.Values.{segmentAt, startAt, bodyOf}
@@ -39,7 +38,7 @@ use Rattle.model.specs.Record.{noThread, threadAt, readyCycle}
 use Rattle.model.specs.Effect.{closedAt, effectIn, effectOf}
 use Rattle.model.specs.Footprint.{listedIn, notifiesIn}
 use Rattle.model.specs.Rules.{closerFault, modelFault}
-use Rattle.model_rules.proofs.RuleLaws.{closerFault-delay, modelFault-horizon, modelFault-counts, modelFault-statements, modelFault-closer, modelFault-notifies}
+use Rattle.model_rules.proofs.RuleLaws.{closerFault-delay, modelFault-counts, modelFault-statements, modelFault-closer, modelFault-notifies}
 use Rattle.plain_words.specs.Pack.{IsCode}
 use Rattle.plain_words.specs.Unpack.{endBy}
 use Rattle.plain_words.specs.Shared.{Shared, shared, marked, reached, executeBy}
@@ -50,12 +49,12 @@ use Rattle.plain.specs.Start.{Place, started, freshThreads, freshVariables, sta
 use Rattle.plain.specs.Wake.{wokenThread, woken, floorOf, someReady}
 use Rattle.plain.specs.Step.{isAt, isDue, ranOn, passedOn, begun, closedOn, stepped}
 use Rattle.plain.specs.Run.{isDone, isOut, runFor, lastStep, reported}
-use Rattle.plain_laws.proofs.RecordLaws.{<→horizon}
 use Rattle.plain_state.specs.Words.{keyOf, limitOf, wordOf, stateFrom, threadsTo, answer, closeWord, wakeWord, leastWord}
 use Rattle.plain_state.specs.Turn.{Locals, locals, ranBy}
+use Rattle.plain_state.proofs.LimitLaws.{horizon→limit, limit-small}
 use Rattle.plain_state.proofs.FloorLaws.{someReady-here, someReady-rest, begun-rest, stepped-close, runFor-done, runFor-out, runFor-on}
 use Rattle.plain_state.proofs.SoundLaws.{Ahead, Sound, isDue→≡, sound-start, sound-passed, sound-ran, floor-ahead, sound-begun, threadAt-fresh, threadAt-woken, woken-length}
-use Rattle.plain_state.proofs.WordLaws.{Small, InRange, unitsOf, stateFrom-word, word-due, word-not-due, closeWord-closed, wakeWord-woken}
+use Rattle.plain_state.proofs.WordLaws.{Small, InRange, unitsOf, stateFrom-word, word-after, word-due, word-not-due, closeWord-closed, wakeWord-woken}
 use Rattle.plain_state.proofs.RangeLaws.{Ranged, past-end, small-now, closedAt-range, ranged-start, ranged-set, ranged-woken}
 use Rattle.plain_state.proofs.LeastLaws.{leastWord-one, floor-word, floor-late}
 
@@ -70,10 +69,8 @@ cycle-room t a b h =
     let l : (a + 1) * (t + 1) ≤ b * (t + 1) = mul-le-mul-right (t + 1) (omega arith) in
     omega arith
 
-pub countAt-room : (t h : ℕ) (c : Cycle) (turn : ℕ) → c .time .0 < h → c .delta .0 ≤ 1023 → turn ≤ t → countAt t (keyOf c) turn < 1024 * h * (t + 1)
-countAt-room t h c turn l d u =
-    let r = cycle-room t (1024 * c .time .0 + c .delta .0) (1024 * h) (omega arith) in
-    omega arith
+pub countAt-room : (t l key turn : ℕ) → key < l → turn ≤ t → countAt t key turn < l * (t + 1)
+countAt-room t l key turn h u = let r = cycle-room t key l h in omega arith
 
 key-later : {c d : Cycle} → Before c d → c .delta .0 ≤ 1023 → 1024 * c .time .0 + c .delta .0 < 1024 * d .time .0 + d .delta .0
 key-later (sooner h) l = omega arith
@@ -98,7 +95,8 @@ stands-steps m budget s s′ p q e o f = rw (e, ← f) (runFor-on m budget s′ 
 
 pub stands-step : (m : Model) (budget : ℕ) (p q : Place) → Stands m budget p → T (not (isOut m budget p)) → stepped m p ≡ q → Sound m q → countOf m p < countOf m q → Stands m budget q
 stands-step m budget p q st o e s later =
-    let room : countOf m p < lastStep m = countAt-room (m .t) (m .horizon .0) (p .now) (p .turn) (st .sound .time) (st .sound .delta) (st .sound .turn) in
+    let key = horizon→limit m (p .now) (st .sound .time) (st .sound .delta) in
+    let room : countOf m p < lastStep m = countAt-room (m .t) (limitOf m) (keyOf (p .now)) (p .turn) key (st .sound .turn) in
     let left = st .left in
     let n : st .steps ≡ suc (st .steps - 1) = omega arith in
     record {
@@ -188,7 +186,7 @@ someReady-due : (m : Model) (p : Place) → Sound m p → p .turn < m .t → T (
 unfolding isBoundBeforeHorizon
 someReady-due m p s h d =
     T→true (someReady m (p .threads))
-    (someReady-here m (p .threads) (p .turn) h (rw (isDue→≡ p d) (<→horizon m (p .now) (s .time))))
+    (someReady-here m (p .threads) (p .turn) h (rw (isDue→≡ p d) (s .time)))
 
 -- a record and its word, set together
 set-both : (t : ℕ) (ws : List ℕ) (ts : List Thread) (i w : ℕ) (x : Thread) (f : Thread → ℕ) → i < length ws → i < length ts → w ≡ f x →
@@ -226,10 +224,7 @@ threadsTo-as ws ss t ts h size words segments r =
         past-end (tabulate t 0 f) (32 - t) k (omega (arith, tabulate-length t 0 f)) ∙ sym (r .rest k (omega arith))
 
 state-ahead : (c : Cycle) → Small c → (s : State) → Ahead c s → keyOf c < wordOf s
-state-ahead c small (Ready d) a = key-later (a d refl .0) (small .delta)
-state-ahead c small (Ended d) a = let k = small .key in omega arith
-state-ahead c small (Overrun d) a = let k = small .key in omega arith
-state-ahead c small (Waiting e d) a = let k = small .key in omega arith
+state-ahead c small s a = word-after c s (small .key) (λ d e. key-later (a d e .0) (small .delta))
 
 effect-within : (m : Model) → modelFault m ≡ 0 → (s : ℕ) → s < m .n → Within 32 (notifiedBy (bodyOf (segmentAt m s)))
 unfolding notifiesIn listedIn
@@ -271,8 +266,11 @@ module _ (m : Model) (fit : modelFault m ≡ 0) (budget : ℕ) where
     here : Place
     here = placeOf (x .shared .variables) (loop .threads) (loop .cycle) turn (loop .events) (x .n)
 
-    soon : loop .cycle .time .0 < 1000000000
-    soon = let (low, high) = modelFault-horizon m fit in omega (arith, loop .stands .sound .time)
+    below : keyOf (loop .cycle) < limitOf m
+    below = horizon→limit m (loop .cycle) (loop .stands .sound .time) (loop .stands .sound .delta)
+
+    soon : loop .cycle .time .0 ≤ 1000000000
+    soon = omega (arith, below, limit-small m fit)
 
     small : Small (loop .cycle)
     small = small-now (loop .cycle) soon (loop .stands .sound .delta)
@@ -285,7 +283,7 @@ module _ (m : Model) (fit : modelFault m ≡ 0) (budget : ℕ) where
 
     -- the measure has room to fall
     pub loop-room : countAt (m .t) now turn < lastStep m
-    loop-room = rw (loop .key) (countAt-room (m .t) (m .horizon .0) (loop .cycle) turn (loop .stands .sound .time) (loop .stands .sound .delta) (loop .stands .sound .turn))
+    loop-room = rw (loop .key) (countAt-room (m .t) (limitOf m) (keyOf (loop .cycle)) turn below (loop .stands .sound .turn))
 
     -- every thread that was looked at is ahead
     word-ahead : (k : ℕ) → k < m .t → k < turn → now < getD (x .state) k 0
@@ -408,8 +406,8 @@ module _ (m : Model) (fit : modelFault m ≡ 0) (budget : ℕ) where
 
       -- the next cycle, as a cycle
       next-cycle : leastWord (m .t) us < limitOf m →
-          (c : Cycle) × (floorOf m woke ≡ At c) × (keyOf c ≡ leastWord (m .t) us) × Small c × (c .time .0 < m .horizon .0)
-      next-cycle l = floor-word m (modelFault-horizon m fit .1) us woke woke-words (woke-ranged .range) l
+          (c : Cycle) × (floorOf m woke ≡ At c) × (keyOf c ≡ leastWord (m .t) us) × Small c × T (isBeforeHorizon m c)
+      next-cycle l = floor-word m (omega (arith, limit-small m fit)) us woke woke-words (woke-ranged .range) l
 
       count-later : (c : Cycle) → floorOf m woke ≡ At c → countAt (m .t) (keyOf (loop .cycle)) turn < countAt (m .t) (keyOf c) 0
       unfolding here woke
@@ -421,8 +419,7 @@ module _ (m : Model) (fit : modelFault m ≡ 0) (budget : ℕ) where
       pub loop-begun : (rs : List ℕ) → length us ≡ 32 → leastWord (m .t) us < limitOf m → Loop m budget (locals (x .shared .variables) us (x .segments) (replicate 32 false) rs (x .n)) (leastWord (m .t) us) 0
       unfolding here woke
       loop-begun rs size l =
-          let (c, g, e, s, t) = next-cycle l in
-          let b = <→horizon m c t in
+          let (c, g, e, s, b) = next-cycle l in
           record {
             threads = woke;
             cycle = c;
@@ -446,7 +443,7 @@ module _ (m : Model) (fit : modelFault m ≡ 0) (budget : ℕ) where
       pub loop-rest : limitOf m ≤ leastWord (m .t) us → answer (x .shared .variables) (threadsTo us (x .segments) (m .t)) (x .n) false ≡ answerOf m budget
       unfolding here woke
       loop-rest l =
-          let u : T (not (isBoundBeforeHorizon m (floorOf m woke))) = floor-late m (modelFault-horizon m fit .1) us woke woke-words (woke-ranged .range) l in
+          let u : T (not (isBoundBeforeHorizon m (floorOf m woke))) = floor-late m (omega (arith, limit-small m fit)) us woke woke-words (woke-ranged .range) l in
           let q = placeOf (x .shared .variables) woke (loop .cycle) turn [] (x .n) in
           let r : someReady m woke ≡ false = someReady-rest m woke u in
           let e : stepped m here ≡ q = stepped-close m here h ∙ (closedOn-as m here ∙ begun-rest m (floorOf m woke) q u) in

@@ -34,7 +34,7 @@ abbrev unitsOf : Wait → ℕ
 unitsOf wait.Event = 0
 unitsOf (wait.Time k) = k .0
 
-module _ (c : Cycle) (t : c .time .0 < 1000000000) (d : c .delta .0 ≤ 1023) where
+module _ (c : Cycle) (t : c .time .0 ≤ 1000000000) (d : c .delta .0 ≤ 1023) where
   pub small-now : Small c
   small-now = record { key = omega arith; delta = d }
 
@@ -86,7 +86,7 @@ ranged-set t ts i x l h r s =
       rest = λ k b. threadAt-set ts i k x l (λ (y : Thread). y ≡ noThread) (λ e. absurd (omega arith)) (λ e. s .rest k b);
     }
 
-pub ranged-woken : (t : ℕ) (es : List ℕ) (c : Cycle) (ts : List Thread) → c .time .0 < 1000000000 → c .delta .0 ≤ 1023 → Ranged t ts → Ranged t (woken es c ts)
+pub ranged-woken : (t : ℕ) (es : List ℕ) (c : Cycle) (ts : List Thread) → c .time .0 ≤ 1000000000 → c .delta .0 ≤ 1023 → Ranged t ts → Ranged t (woken es c ts)
 unfolding wokenThread wokenState isWoken
 ranged-woken t es c ts h d s =
     record {

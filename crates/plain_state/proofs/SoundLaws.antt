@@ -8,7 +8,7 @@ use mathlib.Core.Bool.{not}
 use mathlib.Core.List.{List, []}
 use native.Mathlib.Omega.{arith}
 use native.Mathlib.Decide.{ℕ-discrete}
-use lib.Dec.{T, T-not, ltb→lt}
+use lib.Dec.{T, T-not}
 use lib.ListN.{length, getD, set, replicate, length-set, length-map, length-append, length-replicate, List·getD-map, List·getD-append}
 use lib.Seq.{getD-set-same, getD-set-other}
 use Rattle.base.specs.Index.{tabulate}
@@ -38,12 +38,13 @@ use Rattle.model.specs.Limits.{isBeforeHorizon}
 use Rattle.model.specs.Record.{noThread, threadAt, readyCycle, awaitedBy, stateAfter}
 use Rattle.model.specs.Effect.{closedAt, effectIn, effectOf}
 use Rattle.model.specs.Rules.{modelFault}
-use Rattle.model_rules.proofs.RuleLaws.{modelFault-horizon, modelFault-counts, modelFault-next, modelFault-first, closedAt-segment}
+use Rattle.model_rules.proofs.RuleLaws.{modelFault-counts, modelFault-next, modelFault-first, closedAt-segment}
 use Rattle.plain.specs.Start.{Place, started, freshThreads, startOf}
 use Rattle.plain.specs.Wake.{isWoken, wokenState, wokenThread, woken, floorOf}
 use Rattle.plain.specs.Step.{isAt, isDue, ranOn, passedOn}
 use Rattle.plain_laws.proofs.RecordLaws.{Ready-same}
 use Rattle.plain_laws.proofs.WakeLaws.{floorOf-least, floorOf-attained}
+use Rattle.plain_state.proofs.LimitLaws.{limit→horizon, limit-some}
 
 -- a thread that is ready only after a cycle, at a delta in range
 abbrev pub Ahead : Cycle → State → Type 0
@@ -79,7 +80,7 @@ wokenState-ahead es now s h a =
 pub record Sound (m : Model) (p : Place) : Type 0 where
   pub size : length (p .threads) ≡ 32
   pub turn : p .turn ≤ m .t
-  pub time : p .now .time .0 < m .horizon .0
+  pub time : T (isBeforeHorizon m (p .now))
   pub delta : p .now .delta .0 ≤ 1023
   pub segment : (k : ℕ) → k < m .t → threadAt (p .threads) k .segment < m .n
   pub abreast : (k : ℕ) → k < m .t → Abreast (p .now) (threadAt (p .threads) k .state)
@@ -132,11 +133,10 @@ module _ (m : Model) (fit : modelFault m ≡ 0) where
   pub sound-start : Sound m (startOf m)
   unfolding startOf started
   sound-start =
-      let (low, high) = modelFault-horizon m fit in
       record {
         size = freshThreads-length;
         turn = omega arith;
-        time = omega arith;
+        time = limit→horizon m (cycleAt 0 0) (limit-some m fit);
         delta = omega arith;
         segment = λ k h. rw (threadAt-fresh k h) (modelFault-first m fit k h);
         abreast = λ k h c e.
@@ -215,12 +215,11 @@ module _ (m : Model) (fit : modelFault m ≡ 0) where
 
         pub sound-begun : T (isBeforeHorizon m c) →
             Sound m (record { variables = p .variables; threads = woken (p .notified) (p .now) (p .threads); now = c; turn = 0; notified = []; n = p .n })
-        unfolding isBeforeHorizon
         sound-begun t =
             record {
               size = woken-length;
               turn = omega arith;
-              time = ltb→lt (c .time .0) (m .horizon .0) t;
+              time = t;
               delta = floor-ahead .1;
               segment = woken-segment;
               abreast = λ k l d e. (floorOf-least m (woken (p .notified) (p .now) (p .threads)) c f k d l e, woken-ahead k l d e .1);

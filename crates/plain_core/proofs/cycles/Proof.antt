@@ -90,7 +90,7 @@ end-cycle-requires c κs = let ran = c .before .before .before .before .before .
     let here = begun-here at in
     let out = sym (c .before .before .before .before .is-out .ensures) ∙ c .before .before .before .if1 .left in
     let over = cycle-in here (ran .run-cycle .ensures) out in
-    (omega arith, (cycle-small here, (over .marks-size, (over .words-size, (cycle-ends here (ran .run-cycle .ensures), cycle-ahead here (ran .run-cycle .ensures) out)))))
+    (omega arith, (cycle-small here, (over .words-size, (cycle-ends here (ran .run-cycle .ensures), cycle-ahead here (ran .run-cycle .ensures) out))))
 
 result-requires-2 : tie.Need-result-requires-2 Inv-loop μ-loop
 result-requires-2 c κs = let few = few-threads (c .before .before .before .before .before .before .before .before .before .before .before .before .before .before .before .before .before .before .before .before .before .before .before .before .before .before) in
