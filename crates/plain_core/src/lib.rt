@@ -10,7 +10,7 @@ use model::Threads;
 use model::Variables;
 use plain::PlainRun;
 ghost use mathlib.Core.Path.{_≡_};
-ghost use mathlib.Core.Bool.{cond, false, not, _&&_};
+ghost use mathlib.Core.Bool.{false, not, _&&_};
 ghost use lib.Dec.{ltb, leb, eqb};
 ghost use Prim.Native.Nat.{ℕ, _+_, _*_, _%_, _≤_, _<_, _^_};
 ghost use lib.ListN.{getD, length};
@@ -18,6 +18,7 @@ ghost use Rattle.model.specs.Values.{startAt};
 ghost use Rattle.model.specs.Rules.{modelFault};
 ghost use Rattle.plain.specs.Start.{startOf};
 ghost use Rattle.plain.specs.Run.{runFor, lastStep, reported, plainRun};
+ghost use Rattle.plain_words.specs.Reach.{lesserOf};
 ghost use Rattle.plain_state.specs.Words.{stateFrom, threadsTo, answer, nextWord, closeWord, wakeWord, leastWord};
 ghost use Rattle.plain_state.specs.Turn.{locals, waitedBy, turnOn, turnsTo};
 ghost use Rattle.plain_state.specs.Due.{Between, Late, IsLeast, Woken, IsDue, Ends};
@@ -103,7 +104,7 @@ fn wake(state: &mut [u64; 32], told: &[bool; 32], key: u64, from: usize, to: usi
 }
 
 fn smaller(w: u64, least: u64) -> u64
-    ensures { λ r. ⌜ r ≡ cond (ltb w least) w least ⌝ }
+    ensures { λ r. ⌜ r ≡ lesserOf w least ⌝ }
 {
     if w < least {
         return w;

@@ -21,7 +21,7 @@ use lib.Seq.{getD-set-same, getD-set-other}
 use borrow.Author.Tests.{lt-ltb, le-ltb, eq-eqb, ne-eqb}
 use Rattle.model.specs.Record.{Awaited, nothing, awaits, awaitedBy}
 use Rattle.plain_words.specs.Unpack.{endBy}
-use Rattle.plain_words.specs.Reach.{Inside, widened}
+use Rattle.plain_words.specs.Reach.{lesserOf, Inside, widened}
 use Rattle.plain_words.proofs.ReachLaws.{widened-length, widened-new, widened-keeps}
 use Rattle.plain_state.specs.Words.{waiting, ended, overrun, span, cycleFrom, stateFrom, nextWord, closeWord, isTold, wakeWord, leastWord}
 use Rattle.plain_state.specs.Turn.{Locals, waitedBy, ranBy, turnOn, turnsTo}
@@ -37,7 +37,7 @@ pub least-none : (ws : List ℕ) (from start : ℕ) → IsLeast ws from from sta
 least-none ws from start = record { below = omega arith; each = λ k h. absurd (omega arith); one = inl refl }
 
 module _ (ws : List ℕ) (from k start b : ℕ) (h : from ≤ k) (l : IsLeast ws from k start b) where
-  pub least-more : (r : ℕ) → r ≡ cond (ltb (getD ws k 0) b) (getD ws k 0) b → IsLeast ws from (k + 1) start r
+  pub least-more : (r : ℕ) → r ≡ lesserOf (getD ws k 0) b → IsLeast ws from (k + 1) start r
   least-more r e = go (decLt (getD ws k 0) b)
     where
       at : (x : ℕ) → x ≤ getD ws k 0 → x ≤ b → (j : ℕ) → Between from (k + 1) j → x ≤ getD ws j 0
@@ -72,9 +72,9 @@ least-set ws from k start b x l =
     go (inr (j, (u, u′), q)) = inr (j, (u, u′), q ∙ sym (getD-set-other ws k j x 0 (λ p. omega arith)))
 
 -- for the code: a word is stored, and the least with it
-pub least-stored : (ws : List ℕ) (from k start b x r : ℕ) → from ≤ k → k < length ws → IsLeast ws from k start b → r ≡ cond (ltb x b) x b → IsLeast (set ws k x) from (k + 1) start r
+pub least-stored : (ws : List ℕ) (from k start b x r : ℕ) → from ≤ k → k < length ws → IsLeast ws from k start b → r ≡ lesserOf x b → IsLeast (set ws k x) from (k + 1) start r
 least-stored ws from k start b x r h l i e =
-    least-more (set ws k x) from k start b h (least-set ws from k start b x i) r (e ∙ ap (λ (y : ℕ). cond (ltb y b) y b) (sym (getD-set-same ws k x 0 l)))
+    least-more (set ws k x) from k start b h (least-set ws from k start b x i) r (e ∙ ap (λ (y : ℕ). lesserOf y b) (sym (getD-set-same ws k x 0 l)))
 
 pub least-word : (ws : List ℕ) (t r : ℕ) → IsLeast ws 0 t most r → r ≡ leastWord t ws
 least-word ws t r l = go (l .one) (leastWord-one t ws)

@@ -25,6 +25,7 @@ use Rattle.model.specs.declared.Thread.{Thread}
 use Rattle.model.specs.Limits.{isBeforeHorizon, isBoundBeforeHorizon}
 use Rattle.model.specs.Record.{threadAt, readyCycle}
 use Rattle.plain.specs.Wake.{floorOf}
+use Rattle.plain_words.proofs.ReachLaws.{lesserOf-≤}
 use Rattle.plain_state.specs.Words.{span, keyOf, limitOf, wordOf, leastWord}
 use Rattle.plain_laws.proofs.RecordLaws.{readyCycle-Ready}
 use Rattle.plain_laws.proofs.WakeLaws.{floorOf-≼}
@@ -34,11 +35,7 @@ use Rattle.plain_state.proofs.WordLaws.{Small, InRange, word-ready}
 
 leastWord-below : (k : ℕ) (ws : List ℕ) → (leastWord (suc k) ws ≤ getD ws k 0) × (leastWord (suc k) ws ≤ leastWord k ws)
 unfolding leastWord
-leastWord-below k ws = go (decLt (getD ws k 0) (leastWord k ws))
-  where
-    go : Dec (getD ws k 0 < leastWord k ws) → (leastWord (suc k) ws ≤ getD ws k 0) × (leastWord (suc k) ws ≤ leastWord k ws)
-    go (yes h) = rw (lt-ltb (getD ws k 0) (leastWord k ws) h) (omega arith, omega arith)
-    go (no h) = rw (le-ltb (getD ws k 0) (leastWord k ws) (omega arith)) (omega arith, omega arith)
+leastWord-below k ws = lesserOf-≤ (getD ws k 0) (leastWord k ws)
 
 pub leastWord-≤ : (t : ℕ) (ws : List ℕ) (k : ℕ) → k < t → leastWord t ws ≤ getD ws k 0
 leastWord-≤ zero ws k h = absurd (omega arith)

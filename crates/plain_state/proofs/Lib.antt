@@ -10,3 +10,5 @@ pub mod LoopLaws
 pub mod DueLaws
 pub mod EndLaws
 pub mod TurnLaws
+pub mod Computed
+pub mod Edges

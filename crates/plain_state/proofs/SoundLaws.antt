@@ -10,7 +10,6 @@ use native.Mathlib.Omega.{arith}
 use native.Mathlib.Decide.{ℕ-discrete}
 use lib.Dec.{T, T-not}
 use lib.ListN.{length, getD, set, replicate, length-set, length-map, length-append, length-replicate, List·getD-map, List·getD-append}
-use lib.Seq.{getD-set-same, getD-set-other}
 use Rattle.base.specs.Index.{tabulate}
 use Rattle.base.proofs.BoolLaws.{cond-case}
 use Rattle.base.proofs.IndexLaws.{tabulate-length, tabulate-at}
@@ -44,6 +43,7 @@ use Rattle.plain.specs.Wake.{isWoken, wokenState, wokenThread, woken, floorOf}
 use Rattle.plain.specs.Step.{isAt, isDue, ranOn, passedOn}
 use Rattle.plain_laws.proofs.RecordLaws.{Ready-same}
 use Rattle.plain_laws.proofs.WakeLaws.{floorOf-least, floorOf-attained}
+use Rattle.plain_words.proofs.SetLaws.{set-case}
 use Rattle.plain_state.proofs.LimitLaws.{limit→horizon, limit-some}
 
 -- a thread that is ready only after a cycle, at a delta in range
@@ -104,11 +104,7 @@ not-due p t e = T-not (isSame (p .now) (p .now)) (rw e at t) (≡→isSame refl)
 pub threadAt-set : (ts : List Thread) (i k : ℕ) (x : Thread) → i < length ts →
     (Q : Thread → Type 0) → (k ≡ i → Q x) → ((k ≡ i → ⊥) → Q (threadAt ts k)) → Q (threadAt (set ts i x) k)
 unfolding threadAt
-threadAt-set ts i k x h Q f g = go (ℕ-discrete k i)
-  where
-    go : Dec (k ≡ i) → Q (getD (set ts i x) k noThread)
-    go (yes e) = rw (e, getD-set-same ts i x noThread h) (f e)
-    go (no e) = rw (getD-set-other ts i k x noThread e) (g e)
+threadAt-set ts i k x h = set-case ts i k x noThread h
 
 pub threadAt-woken : (es : List ℕ) (c : Cycle) (ts : List Thread) (k : ℕ) → threadAt (woken es c ts) k ≡ wokenThread es c (threadAt ts k)
 unfolding threadAt woken wokenThread wokenState isWoken

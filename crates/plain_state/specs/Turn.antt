@@ -28,7 +28,12 @@ abbrev pub ranBy : List ℕ → ℕ → ℕ → Locals → Locals
 ranBy code now k x =
     let s = getD (x .segments) k 0 in
     let y = executeBy code s (x .shared) in
-    locals (y .variables) (set (x .state) k (closeWord (endBy code s) now)) (set (x .segments) k (followBy code s (y .variables))) (y .told) (waitedBy (endBy code s) k (y .ranges)) (x .n + 1)
+    record {
+      shared = shared (y .variables) (y .told) (waitedBy (endBy code s) k (y .ranges));
+      state = set (x .state) k (closeWord (endBy code s) now);
+      segments = set (x .segments) k (followBy code s (y .variables));
+      n = x .n + 1;
+    }
 
 -- thread k is looked at: it runs if it is ready in this cycle and the budget has room
 unfoldable pub turnOn : List ℕ → ℕ → ℕ → ℕ → Locals → Locals

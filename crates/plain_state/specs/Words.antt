@@ -16,6 +16,7 @@ use Rattle.model.specs.declared.State.{State}
 use Rattle.model.specs.declared.State.the-variants.{Ended, Overrun, Ready, Waiting}
 use Rattle.model.specs.declared.Thread.{Thread}
 use Rattle.model.specs.Record.{noThread, Awaited, nothing, awaits, awaitedBy, stateAfter}
+use Rattle.plain_words.specs.Reach.{lesserOf}
 use Rattle.plain.specs.declared.PlainRun.{PlainRun}
 
 abbrev pub waiting : ℕ
@@ -90,4 +91,4 @@ wakeWord fs now w = cond (isTold fs (cycleFrom now) (awaitedBy (stateFrom w))) (
 -- the least of the first k words
 unfoldable pub leastWord : ℕ → List ℕ → ℕ
 leastWord zero ws = 18446744073709551615
-leastWord (suc k) ws = cond (ltb (getD ws k 0) (leastWord k ws)) (getD ws k 0) (leastWord k ws)
+leastWord (suc k) ws = lesserOf (getD ws k 0) (leastWord k ws)
