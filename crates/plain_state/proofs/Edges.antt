@@ -1,10 +1,9 @@
 -- Every comparison and limit of `specs/Words` at, below and above its edge: closed examples.
-use Prim.Native.Nat.{ℕ, _+_, _*_}
+use Prim.Native.Nat.{_+_, _*_}
 use mathlib.Core.Path.{_≡_, refl}
 use mathlib.Core.Bool.{Bool, true, false}
 use mathlib.Core.List.{List, [], _∷_}
 use Rattle.clock.specs.Cycle.{cycleAt}
-use Rattle.model.specs.declared.State.{State}
 use Rattle.model.specs.declared.State.the-variants.{Ended, Overrun, Ready, Waiting}
 use Rattle.plain_state.specs.Words.{waiting, ended, overrun, span, wordOf, stateFrom, nextWord, closeWord, wakeWord, leastWord}
 use Rattle.plain_state.proofs.Computed.{computed}

@@ -2,9 +2,8 @@ pub mod FillLaws
 pub mod ExitLaws
 pub mod LimitLaws
 pub mod FloorLaws
-pub mod SoundLaws
 pub mod WordLaws
-pub mod RangeLaws
+pub mod SoundLaws
 pub mod LeastLaws
 pub mod LoopLaws
 pub mod DueLaws

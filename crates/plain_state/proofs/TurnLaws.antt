@@ -7,7 +7,7 @@
 --     cycle-rest, cycle-next, cycle-begun     no thread is ready before the horizon; else the next cycle begins
 --     cycle-room, cycle-later     the measure of the cycles falls
 use Prim.Native.Nat.{ℕ, zero, suc, _+_, _*_, _<_, _≤_, _^_}
-use mathlib.Core.Path.{_≡_, refl, ap, sym, _∙_, subst}
+use mathlib.Core.Path.{_≡_, ap, sym, _∙_, subst}
 use mathlib.Core.Bool.{Bool, true, false, _&&_}
 use mathlib.Core.List.{List}
 use native.Mathlib.Numerals.{add-one}

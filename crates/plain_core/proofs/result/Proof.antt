@@ -1,6 +1,5 @@
 -- `plain_core::result` meets its contract.
-use Prim.Native.Nat.{ℕ}
-use mathlib.Core.Path.{_≡_, ap}
+use mathlib.Core.Path.{ap}
 use mathlib.Core.List.{List}
 use Rattle.model.specs.declared.Thread.{Thread}
 use Rattle.plain_state.specs.Words.{answer}
