@@ -37,14 +37,14 @@ isFitWait-edges = (refl, refl, refl)
 
 -- "segment not below N", which is 2 here; "record time of 2,000,000,000 or more"; "delta above 1,023", in every state
 pub isFitThread-edges :
-    (isFitThread doers (readyIn 1 1999999999 1023) ≡ true) ×
-    (isFitThread doers (readyIn 2 1999999999 1023) ≡ false) ×
-    (isFitThread doers (readyIn 1 2000000000 1023) ≡ false) ×
-    (isFitThread doers (readyIn 1 1999999999 1024) ≡ false) ×
-    (isFitThread doers (endedIn 1 2000000000 0) ≡ false) ×
-    (isFitThread doers (overrunIn 1 2000000000 0) ≡ false) ×
-    (isFitThread doers (waitingIn 1 1 2000000000 0) ≡ false) ×
-    (isFitThread doers (waitingIn 1 2 0 0) ≡ false)
+    (isFitThread doers 0 (readyIn 1 1999999999 1023) ≡ true) ×
+    (isFitThread doers 0 (readyIn 2 1999999999 1023) ≡ false) ×
+    (isFitThread doers 0 (readyIn 1 2000000000 1023) ≡ false) ×
+    (isFitThread doers 0 (readyIn 1 1999999999 1024) ≡ false) ×
+    (isFitThread doers 0 (endedIn 1 2000000000 0) ≡ false) ×
+    (isFitThread doers 0 (overrunIn 1 2000000000 0) ≡ false) ×
+    (isFitThread doers 0 (waitingIn 1 1 2000000000 0) ≡ false) ×
+    (isFitThread doers 0 (waitingIn 1 2 0 0) ≡ false)
 unfolding computed doers withStarts segmentOf
 isFitThread-edges = (refl, refl, refl, refl, refl, refl, refl, refl)
 

@@ -12,7 +12,7 @@ use Rattle.clock.specs.Order.{_≼_}
 use Rattle.model.specs.declared.Model.{Model}
 use Rattle.model.specs.declared.State.{State}
 use Rattle.model.specs.declared.Thread.{Thread}
-use Rattle.model.specs.Record.{threadAt, isLive, readyCycle, Awaited, nothing, awaits, awaitedBy}
+use Rattle.model.specs.Record.{threadAt, isLive, liveCycle, Awaited, nothing, awaits, awaitedBy}
 use Rattle.model.specs.Footprint.{notifiesIn}
 use Rattle.tables.specs.Word.{distanceIn}
 use Rattle.early.specs.declared.Notification.{Notification}
@@ -25,7 +25,7 @@ afterHeard l (awaits e since) = leastHeard l e since ⊕ oneDelta
 
 -- where a chain begins: "at a ready thread or a logged notification"
 unfoldable pub sourceOf : List Notification → State → Bound
-sourceOf l s = least (readyCycle s) (afterHeard l (awaitedBy s))
+sourceOf l s = least (liveCycle s) (afterHeard l (awaitedBy s))
 
 -- thread k, live and no sooner than x, "plus the distance to a segment notifying the event"
 unfoldable pub soonestNotify : Model → List ℕ → List Thread → ℕ → Bound → ℕ → Bound

@@ -28,9 +28,9 @@ unfoldable pub isFitWait : Model → Awaited → Bool
 isFitWait m nothing = true
 isFitWait m (awaits e since) = ltb e (m .e)
 
--- no "segment not below N", no "record time of 2,000,000,000 or more"
-unfoldable pub isFitThread : Model → Thread → Bool
-isFitThread m t = ltb (t .segment) (m .n) && (isFitCycle recordTime (cycleOf (t .state)) && isFitWait m (awaitedBy (t .state)))
+-- the record of thread k: no "segment not below N", no "record time of 2,000,000,000 or more"
+unfoldable pub isFitThread : Model → ℕ → Thread → Bool
+isFitThread m k t = ltb (t .segment) (m .n) && (isFitCycle recordTime (cycleOf (t .state)) && isFitWait m (awaitedBy (t .state)))
 
 -- no "log time of 1,000,000,000 or more"
 unfoldable pub isFitPair : Model → Notification → Bool
@@ -42,7 +42,7 @@ isFitWord w = eqb w allOnes || ltb (w / 1024) cutTime
 
 -- "records below T": all that the threads' count asks for are lent
 unfoldable pub isUnfitThreads : Model → List Thread → Bool
-isUnfitThreads m ts = ltb (length ts) (m .t) || anyBelow (m .t) (λ k. not (isFitThread m (threadAt ts k)))
+isUnfitThreads m ts = ltb (length ts) (m .t) || anyBelow (m .t) (λ k. not (isFitThread m k (threadAt ts k)))
 
 -- no "log count above 128"; the places past the count are not judged
 unfoldable pub isUnfitLog : Model → Site → Bool
@@ -52,6 +52,10 @@ isUnfitLog m s = ltb places (s .count) || anyBelow (s .count) (λ i. not (isFitP
 unfoldable pub isUnfitWords : Model → List ℕ → Bool
 isUnfitWords m ws = ltb (length ws) (m .n * m .n) || anyBelow (m .n * m .n) (λ i. not (isFitWord (getD ws i 0)))
 
+-- whether 11 applies to the model, the records and the state
+unfoldable pub isUnfitState : Model → Site → List Thread → Bool
+isUnfitState m s ts = not (eqb (modelFault m) accepted) || (isUnfitThreads m ts || isUnfitLog m s)
+
 -- whether 11 applies
 unfoldable pub isUnfit : Model → List ℕ → Site → List Thread → Bool
-isUnfit m ws s ts = (not (eqb (modelFault m) accepted) || isUnfitThreads m ts) || (isUnfitLog m s || isUnfitWords m ws)
+isUnfit m ws s ts = isUnfitState m s ts || isUnfitWords m ws

@@ -21,8 +21,8 @@ use Rattle.early.specs.declared.Notification.{Notification}
 use Rattle.early.specs.Earliest.{earliestOf}
 
 -- whether thread i in segment r conflicts with thread j in segment s: the mark at row r, column s
-unfoldable pub marksConflict : List (List Bool) → ℕ → ℕ → ℕ → ℕ → Bool
-marksConflict marks i r j s = markAt marks r s
+unfoldable pub threadsConflict : Model → List (List Bool) → ℕ → ℕ → ℕ → ℕ → Bool
+threadsConflict m marks i r j s = markAt marks r s
 
 -- "at a smaller stamp": thread j, at bound b, before a stamp
 unfoldable pub isSooner : Bound → ℕ → Stamp → Bool
@@ -32,7 +32,7 @@ isSooner (At b) j x = isStampBefore (stampAt b j) x
 -- whether thread j, no sooner than b, could run a conflicting segment before thread i runs at c
 unfoldable pub threatens : Model → List (List Bool) → List ℕ → List Thread → ℕ → Cycle → ℕ → Bound → Bool
 threatens m marks ws ts i c j b =
-    anyBelow (m .n) (λ s. marksConflict marks i (threadAt ts i .segment) j s && isSooner (b ⊕ distanceIn m ws (threadAt ts j .segment) s) j (stampAt c i))
+    anyBelow (m .n) (λ s. threadsConflict m marks i (threadAt ts i .segment) j s && isSooner (b ⊕ distanceIn m ws (threadAt ts j .segment) s) j (stampAt c i))
 
 unfoldable pub hazard : Model → List (List Bool) → List ℕ → List Notification → List Thread → ℕ → Cycle → Bool
 hazard m marks ws l ts i c =

@@ -23,7 +23,8 @@ use Rattle.model.specs.declared.State.{State}
 use Rattle.model.specs.declared.State.the-variants.{Ended, Overrun, Ready, Waiting}
 use Rattle.model.specs.declared.Thread.{Thread}
 use Rattle.model.specs.Limits.{recordTime}
-use Rattle.model.specs.Record.{threadAt, cycleOf, awaitedBy, stateAfter}
+use Rattle.model.specs.Record as view
+use Rattle.model.specs.Record.{threadAt, cycleOf, awaitedBy, stateAfter, viewOf}
 use Rattle.tables.specs.Word.{allOnes}
 use Rattle.early.specs.declared.Notification.{Notification}
 use Rattle.early.specs.Log.{pairOf, leastHeard}
@@ -59,15 +60,15 @@ module _ (m : Model) (ws : List ℕ) (l : List Notification) where
   module _ (ts : List Thread) (fit : FitState m ws l ts) where
     firstLimit-is : (k : ℕ) → k < m .t → firstLimit l (threadAt ts k .state) ≡ limitOf (sourceOf l (threadAt ts k .state))
     unfolding limitOf
-    firstLimit-is k h = go (threadAt ts k .state) (isFitThread→ m (threadAt ts k) (fit-threads fit k h) .cycle)
+    firstLimit-is k h = go (threadAt ts k .state) (isFitThread→ m k (threadAt ts k) (fit-threads fit k h) .cycle)
       where
         go : (s : State) → FitCycle recordTime (cycleOf s) → firstLimit l s ≡ limitOf (sourceOf l s)
         go (Ended c) f = rw (sourceOf-idle l (Ended c) tt) refl
         go (Overrun c) f = rw (sourceOf-idle l (Overrun c) tt) refl
-        go (Ready c) f = rw (sourceOf-ready l c) (limitOfCycle-is c (omega (arith, f .time)))
+        go (Ready c) f = rw (sourceOf-ready l (Ready c) c refl) (limitOfCycle-is c (omega (arith, f .time)))
         go (Waiting e since) f =
             let near = leastHeard-range fit e since in
-            rw (sourceOf-waiting l e since, limitOf-oneDelta (leastHeard l e since) near, boundLimit-is (leastHeard l e since) near) refl
+            rw (sourceOf-waiting l (Waiting e since) e since refl, limitOf-oneDelta (leastHeard l e since) near, boundLimit-is (leastHeard l e since) near) refl
 
     firstLimits-is : firstLimits (m .t) l ts ≡ sourceLimits (m .t) l ts
     unfolding firstLimits sourceLimits
@@ -90,9 +91,9 @@ module _ (m : Model) (ws : List ℕ) (l : List Notification) where
     heardBy-is : (k : ℕ) → k < m .t
         → heardBy (reachOf m ws) (m .t) l (segmentsOf (m .t) ts) (aheadOf (reachOf m ws) (m .t) l ts) (awaitedBy (threadAt ts k .state)) ≡ heardAt m ws l ts k
     unfolding heardBy heardNow
-    heardBy-is k h = rw aheadOf-is (go (threadAt ts k .state) (isFitThread→ m (threadAt ts k) (fit-threads fit k h) .event))
+    heardBy-is k h = rw aheadOf-is (go (threadAt ts k .state) (isFitThread→ m k (threadAt ts k) (fit-threads fit k h) .event))
       where
-        go : (s : State) → ((e : ℕ) (since : Cycle) → s ≡ Waiting e since → e < m .e)
+        go : (s : State) → ((e : ℕ) (since : Cycle) → viewOf s ≡ view.waits e since → e < m .e)
             → heardBy (reachOf m ws) (m .t) l (segmentsOf (m .t) ts) (limitsOf m ws l ts) (awaitedBy s) ≡ heardNow m ws l ts (awaitedBy s)
         go (Ended c) f = refl
         go (Overrun c) f = refl

@@ -18,10 +18,10 @@ use Rattle.clock.specs.declared.Bound.{Bound}
 use Rattle.clock.specs.declared.Bound.the-variants.{Never, At}
 use Rattle.clock.specs.Wait.{waitEnds, heldStep}
 use Rattle.model.specs.declared.State.{State}
-use Rattle.model.specs.declared.State.the-variants.{Waiting}
 use Rattle.model.specs.declared.Thread.{Thread}
 use Rattle.model.specs.declared.Threads.{Threads}
-use Rattle.model.specs.Record.{noThread, threadAt, nothing, awaitedBy, stateAfter}
+use Rattle.model.specs.Record as view
+use Rattle.model.specs.Record.{noThread, threadAt, nothing, awaitedBy, stateAfter, viewOf}
 use Rattle.early.specs.declared.Notification.{Notification}
 use Rattle.early.specs.Log.{leastHeard}
 use Rattle.early_limits.specs.declared.Crew.{Crew}
@@ -40,7 +40,7 @@ module _ (reach : List ℕ) (t : ℕ) (l : List Notification) where
     unfolding heardBy
     heardBy-other h = rw h refl
 
-    module _ (e : ℕ) (since : Cycle) (waits : s ≡ Waiting e since) where
+    module _ (e : ℕ) (since : Cycle) (waits : viewOf s ≡ view.waits e since) where
       pub heardBy-none : leastHeard l e since ≡ Never → Never ≡ heardBy reach t l segments xs (awaitedBy s)
       unfolding heardBy
       heardBy-none h = rw (waits, h) (go (ltb (forecastAt reach segments xs t e) 18446744073709551615))

@@ -25,7 +25,7 @@ use Rattle.tables.specs.Word.{allOnes}
 use Rattle.early.specs.declared.Notification.{Notification}
 use Rattle.early.specs.declared.Site.{Site}
 use Rattle.early.specs.Log.{places}
-use Rattle.early.specs.Fit.{isFitCycle, isFitWait, isFitThread, isFitPair, isFitWord, isUnfitThreads, isUnfitLog, isUnfitWords, isUnfit}
+use Rattle.early.specs.Fit.{isFitCycle, isFitWait, isFitThread, isFitPair, isFitWord, isUnfitThreads, isUnfitLog, isUnfitWords, isUnfitState, isUnfit}
 use Rattle.early_laws.proofs.FitLaws.{placeOf, →isFitWord}
 
 module _ (limit : ℕ) (c : Cycle) where
@@ -61,12 +61,12 @@ module _ (m : Model) (s : State) (c : Cycle) where
   pub isFitState-late : cycleOf s ≡ c → isFitCycle recordTime c ≡ false → false ≡ isFitState m s
   isFitState-late q h = rw (q, h) refl
 
-module _ (m : Model) (t : Thread) where
-  pub isFitThread-below : (r : Bool) → t .segment < m .n → r ≡ isFitState m (t .state) → r ≡ isFitThread m t
+module _ (m : Model) (k : ℕ) (t : Thread) where
+  pub isFitThread-below : (r : Bool) → t .segment < m .n → r ≡ isFitState m (t .state) → r ≡ isFitThread m k t
   unfolding isFitThread
   isFitThread-below r h e = rw (lt-ltb (t .segment) (m .n) h) e
 
-  pub isFitThread-above : m .n ≤ t .segment → false ≡ isFitThread m t
+  pub isFitThread-above : m .n ≤ t .segment → false ≡ isFitThread m k t
   unfolding isFitThread
   isFitThread-above h = rw (le-ltb (t .segment) (m .n) h) refl
 
@@ -95,12 +95,12 @@ unfit-here : (a b n : ℕ) (f : ℕ → Bool) (i : ℕ) → i < n → f i ≡ fa
 unfit-here a b n f i h e = rw (anyBelow-here n (λ i. not (f i)) i h (ap not e)) (sym (or-true (ltb a b)))
 
 module _ (m : Model) (ts : List Thread) where
-  pub isFitThread-at : (k : ℕ) → isFitThread m (threadAt ts k) ≡ isFitThread m (getD ts k noThread)
-  isFitThread-at k = ap (isFitThread m) (threadAt-at ts k)
+  pub isFitThread-at : (k : ℕ) → isFitThread m k (threadAt ts k) ≡ isFitThread m k (getD ts k noThread)
+  isFitThread-at k = ap (isFitThread m k) (threadAt-at ts k)
 
-  pub isUnfitThreads-here : (k : ℕ) → k < m .t → isFitThread m (threadAt ts k) ≡ false → true ≡ isUnfitThreads m ts
+  pub isUnfitThreads-here : (k : ℕ) → k < m .t → isFitThread m k (threadAt ts k) ≡ false → true ≡ isUnfitThreads m ts
   unfolding isUnfitThreads
-  isUnfitThreads-here k h e = unfit-here (length ts) (m .t) (m .t) (λ i. isFitThread m (threadAt ts i)) k h e
+  isUnfitThreads-here k h e = unfit-here (length ts) (m .t) (m .t) (λ i. isFitThread m i (threadAt ts i)) k h e
 
 module _ (m : Model) (site : Site) where
   pub isUnfitLog-above : places < site .count → true ≡ isUnfitLog m site
@@ -124,21 +124,16 @@ module _ (m : Model) (ws : List ℕ) where
 pub square-fits : (n : ℕ) → n < 256 → n * n ≤ 65536
 square-fits n h = mul-le-mul {n₁ = n} {m₁ = n} {n₂ = 256} {m₂ = 256} (le-of-lt h) (le-of-lt h)
 
--- the parts of a state, one after the other
+-- the tests of 11, one after the other
 module _ (m : Model) (ws : List ℕ) (site : Site) (ts : List Thread) where
-  pub isUnfitState-threads : true ≡ isUnfitThreads m ts → true ≡ (isUnfitThreads m ts || (isUnfitLog m site || isUnfitWords m ws))
-  isUnfitState-threads p = rw (← p) refl
-
-  pub isUnfitState-log : false ≡ isUnfitThreads m ts → true ≡ isUnfitLog m site → true ≡ (isUnfitThreads m ts || (isUnfitLog m site || isUnfitWords m ws))
-  isUnfitState-log p q = rw (← p, ← q) refl
-
-  pub isUnfitState-words : (r : Bool) → false ≡ isUnfitThreads m ts → false ≡ isUnfitLog m site → r ≡ isUnfitWords m ws → r ≡ (isUnfitThreads m ts || (isUnfitLog m site || isUnfitWords m ws))
-  isUnfitState-words r p q e = rw (← p, ← q) e
-
   pub isUnfit-model : (modelFault m ≡ 0 → ⊥) → true ≡ isUnfit m ws site ts
-  unfolding isUnfit
+  unfolding isUnfit isUnfitState
   isUnfit-model broken = rw (ne-eqb (modelFault m) 0 broken) refl
 
-  pub isUnfit-state : (r : Bool) → modelFault m ≡ 0 → r ≡ (isUnfitThreads m ts || (isUnfitLog m site || isUnfitWords m ws)) → r ≡ isUnfit m ws site ts
-  unfolding isUnfit
-  isUnfit-state r kept e = rw (eq-eqb (modelFault m) 0 kept) e
+  pub isUnfit-state : modelFault m ≡ 0 → true ≡ (isUnfitThreads m ts || isUnfitLog m site) → true ≡ isUnfit m ws site ts
+  unfolding isUnfit isUnfitState
+  isUnfit-state kept e = rw (eq-eqb (modelFault m) 0 kept, ← e) refl
+
+  pub isUnfit-words : (r : Bool) → modelFault m ≡ 0 → false ≡ (isUnfitThreads m ts || isUnfitLog m site) → r ≡ isUnfitWords m ws → r ≡ isUnfit m ws site ts
+  unfolding isUnfit isUnfitState
+  isUnfit-words r kept e f = rw (eq-eqb (modelFault m) 0 kept, ← e) f

@@ -8,7 +8,7 @@ use model::Thread;
 use model::Threads;
 ghost use mathlib.Core.Path.{_≡_};
 ghost use mathlib.Core.Bool.{_&&_, _||_};
-ghost use Prim.Native.Nat.{_*_, _≤_};
+ghost use Prim.Native.Nat.{ℕ, _*_, _≤_};
 ghost use lib.ListN.{length};
 ghost use Rattle.model.specs.declared.Model.{Model};
 ghost use Rattle.model.specs.Limits.{recordTime};
@@ -61,7 +61,7 @@ fn is_fit_state(state: State, e: u8) -> bool
 
 // No "segment not below N".
 fn is_fit_thread(x: Thread, n: u8, e: u8) -> bool
-    ensures { λ r. ⌜ ((m : Model) → m .n ≡ n → m .e ≡ e → r ≡ isFitThread m x) ⌝ }
+    ensures { λ r. ⌜ ((m : Model) (k : ℕ) → m .n ≡ n → m .e ≡ e → r ≡ isFitThread m k x) ⌝ }
 {
     let state = x.state;
     if x.segment < n {
@@ -135,17 +135,21 @@ fn is_unfit_words(words: &[u64], count: usize) -> bool
     false
 }
 
-// The parts of a state, under a model of t threads, n segments and e events.
-fn is_unfit_state(words: &[u64], site: Site, threads: Threads, t: u8, n: u8, e: u8) -> bool
+// The records and the log, under a model of t threads, n segments and e events.
+fn is_unfit_state(site: Site, threads: Threads, t: u8, n: u8, e: u8) -> bool
     requires { ⌜ t ≤ 32 ⌝ }
-    ensures { λ r. ⌜ ((m : Model) → m .t ≡ t → m .n ≡ n → m .e ≡ e → r ≡ (isUnfitThreads m (threads .at) || (isUnfitLog m site || isUnfitWords m (now (words .entry))))) ⌝ }
+    ensures { λ r. ⌜ ((m : Model) → m .t ≡ t → m .n ≡ n → m .e ≡ e → r ≡ (isUnfitThreads m (threads .at) || isUnfitLog m site)) ⌝ }
 {
     if is_unfit_threads(threads, t, n, e) {
         return true;
     }
-    if is_unfit_log(site, e) {
-        return true;
-    }
+    is_unfit_log(site, e)
+}
+
+// The words, under a model of n segments: "distance words below N × N", then each of them.
+fn is_unfit_table(words: &[u64], n: u8) -> bool
+    ensures { λ r. ⌜ ((m : Model) → m .n ≡ n → r ≡ isUnfitWords m (now (words .entry))) ⌝ }
+{
     let row = wide(n);
     let count = row * row;
     if words.len() < count {
@@ -154,12 +158,15 @@ fn is_unfit_state(words: &[u64], site: Site, threads: Threads, t: u8, n: u8, e: 
     is_unfit_words(words, count)
 }
 
-// Whether 11 applies: a held model against the file rules, or a state that does not fit it.
+// Whether 11 applies: a held model against the file rules, a state that does not fit it, or words that do not.
 pub fn is_unfit(m: Model, words: &[u64], site: Site, threads: Threads) -> bool
     ensures { λ r. ⌜ r ≡ isUnfit m (now (words .entry)) site (threads .at) ⌝ }
 {
     if model_rules::model_fault(m) != 0 {
         return true;
     }
-    is_unfit_state(words, site, threads, m.t, m.n, m.e)
+    if is_unfit_state(site, threads, m.t, m.n, m.e) {
+        return true;
+    }
+    is_unfit_table(words, m.n)
 }

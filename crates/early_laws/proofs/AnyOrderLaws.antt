@@ -11,7 +11,7 @@ use Rattle.clock.specs.declared.Cycle.{Cycle}
 use Rattle.clock.specs.declared.Bound.the-variants.{At}
 use Rattle.model.specs.declared.Model.{Model}
 use Rattle.model.specs.declared.Thread.{Thread}
-use Rattle.model.specs.Record.{threadAt}
+use Rattle.model.specs.Record.{threadAt, viewOf}
 use Rattle.plain.specs.History.{Item}
 use Rattle.early.specs.declared.Notification.{Notification}
 use Rattle.early.specs.Deliver.{lookedAt, lookItems, settled, settledItems}
@@ -80,7 +80,7 @@ module _ (m : Model) (ws : List ℕ) (l : List Notification) where
           let (e, since, w, p) = heardAt-waits m ws l ts j y f in
           rw
           same
-          (lookItems-heard m ws l us j e since y (ap (λ (t : Thread). t .state) (lookedAt-other m ws l ts k j other) ∙ w) (heardAt-kept m ws l ts k q j y other f)
+          (lookItems-heard m ws l us j e since y (ap (λ (t : Thread). viewOf (t .state)) (lookedAt-other m ws l ts k j other) ∙ w) (heardAt-kept m ws l ts k q j y other f)
           ∙ sym (lookItems-heard m ws l ts j e since y w f))
 
   -- two threads add to different histories

@@ -20,11 +20,12 @@ use Rattle.clock.proofs.OrderLaws.{Before-trans, Before→⊑, ≡→⊑, ⊑-B
 use Rattle.clock.proofs.AdvanceLaws.{⊕-mono, Never-⊕}
 use Rattle.model.specs.declared.Model.{Model}
 use Rattle.model.specs.declared.State.{State}
-use Rattle.model.specs.declared.State.the-variants.{Ended, Overrun, Ready, Waiting}
 use Rattle.model.specs.declared.Thread.{Thread}
-use Rattle.model.specs.Record.{threadAt, isLive, nothing, awaitedBy}
+use Rattle.model.specs.Record as view
+use Rattle.model.specs.Record.{threadAt, isLive, nothing, awaitedBy, viewOf, View, awaitedOf}
 use Rattle.model.specs.Footprint.{notifiesIn}
 use Rattle.tables.specs.Word.{distanceIn}
+use Rattle.plain_laws.proofs.RecordLaws.{not-live→idle}
 use Rattle.early.specs.declared.Notification.{Notification}
 use Rattle.early.specs.Log.{pairOf, leastHeard}
 use Rattle.early.specs.Earliest.{sourceOf, soonestNotify, linkTo, Chain, source, link, IsEarliest, sources, relaxed, withLinks, earliestOf}
@@ -147,20 +148,15 @@ module _ (m : Model) (ws : List ℕ) (l : List Notification) (ts : List Thread) 
       (earliest-glb k (sourceOf l (threadAt ts k .state)) h (λ x c. chain-other c e))
 
   -- "for a ready thread its cycle"
-  pub earliest-ready : (k : ℕ) (c : Cycle) → k < m .t → threadAt ts k .state ≡ Ready c → earliestAt m ws l ts k ≡ At c
-  earliest-ready k c h e = earliest-other k h (ap awaitedBy e) ∙ ap (sourceOf l) e ∙ sourceOf-ready l c
+  pub earliest-ready : (k : ℕ) (c : Cycle) → k < m .t → viewOf (threadAt ts k .state) ≡ view.ready c → earliestAt m ws l ts k ≡ At c
+  earliest-ready k c h e = earliest-other k h (ap awaitedOf e) ∙ sourceOf-ready l (threadAt ts k .state) c e
 
   pub earliest-idle : (k : ℕ) → k < m .t → T (not (isLive (threadAt ts k .state))) → earliestAt m ws l ts k ≡ Never
-  earliest-idle k h t = earliest-other k h (unawaited (threadAt ts k .state) t) ∙ sourceOf-idle l (threadAt ts k .state) t
-    where
-      unawaited : (s : State) → T (not (isLive s)) → awaitedBy s ≡ nothing
-      unawaited (Ended c) t = refl
-      unawaited (Overrun c) t = refl
-      unawaited (Ready c) t = absurd t
-      unawaited (Waiting e c) t = absurd t
+  earliest-idle k h t =
+      earliest-other k h (ap awaitedOf (not-live→idle (viewOf (threadAt ts k .state)) t)) ∙ sourceOf-idle l (threadAt ts k .state) t
 
   -- "the delta after a logged notification of its event not before its wait began"
-  pub earliest-heard : (k e : ℕ) (since : Cycle) (x : Notification) → k < m .t → threadAt ts k .state ≡ Waiting e since → In x l → x .event ≡ e → since ⊑ x .cycle → earliestAt m ws l ts k ≼ At (x .cycle) ⊕ oneDelta
+  pub earliest-heard : (k e : ℕ) (since : Cycle) (x : Notification) → k < m .t → viewOf (threadAt ts k .state) ≡ view.waits e since → In x l → x .event ≡ e → since ⊑ x .cycle → earliestAt m ws l ts k ≼ At (x .cycle) ⊕ oneDelta
   earliest-heard k e since x h w i p q =
       ≼-trans
       (earliestAt m ws l ts k)
@@ -168,12 +164,12 @@ module _ (m : Model) (ws : List ℕ) (l : List Notification) (ts : List Thread) 
       (At (x .cycle) ⊕ oneDelta)
       (subst
       (λ (b : Bound). earliestAt m ws l ts k ≼ b)
-      (ap (sourceOf l) w ∙ sourceOf-waiting l e since)
+      (sourceOf-waiting l (threadAt ts k .state) e since w)
       (earliest-≼ (source h)))
       (⊕-mono (leastHeard l e since) (At (x .cycle)) oneDelta oneDelta (leastHeard-≼ l e since x i p q) (≼-refl oneDelta))
 
   -- "one delta after that thread's earliest plus the distance to a segment notifying the event"
-  pub earliest-link : (k e : ℕ) (since : Cycle) (j s : ℕ) → k < m .t → threadAt ts k .state ≡ Waiting e since → j < m .t → T (isLive (threadAt ts j .state)) → s < m .n → T (notifiesIn m j s e)
+  pub earliest-link : (k e : ℕ) (since : Cycle) (j s : ℕ) → k < m .t → viewOf (threadAt ts k .state) ≡ view.waits e since → j < m .t → T (isLive (threadAt ts j .state)) → s < m .n → T (notifiesIn m j s e)
       → earliestAt m ws l ts k ≼ earliestAt m ws l ts j ⊕ distanceIn m ws (threadAt ts j .segment) s ⊕ oneDelta
   earliest-link k e since j s h w p live q t = go (earliestAt m ws l ts j) refl
     where
@@ -200,7 +196,7 @@ module _ (m : Model) (ws : List ℕ) (l : List Notification) (ts : List Thread) 
           (≼-refl oneDelta))
 
   -- the same for a cycle that is not before that sum
-  pub earliest-linked : (k e : ℕ) (since : Cycle) (j s : ℕ) (x : Cycle) → k < m .t → threadAt ts k .state ≡ Waiting e since → j < m .t → T (isLive (threadAt ts j .state)) → s < m .n → T (notifiesIn m j s e) → since ⊑ x
+  pub earliest-linked : (k e : ℕ) (since : Cycle) (j s : ℕ) (x : Cycle) → k < m .t → viewOf (threadAt ts k .state) ≡ view.waits e since → j < m .t → T (isLive (threadAt ts j .state)) → s < m .n → T (notifiesIn m j s e) → since ⊑ x
       → earliestAt m ws l ts j ⊕ distanceIn m ws (threadAt ts j .segment) s ≼ At x → earliestAt m ws l ts k ≼ At x ⊕ oneDelta
   earliest-linked k e since j s x h w p live q t r b =
       let sum = earliestAt m ws l ts j ⊕ distanceIn m ws (threadAt ts j .segment) s in
@@ -213,27 +209,29 @@ module _ (m : Model) (ws : List ℕ) (l : List Notification) (ts : List Thread) 
 
   -- thread j is ready at a cycle that is not after b, and before it where thread k waits
   abbrev pub FromReady : ℕ → Cycle → Type 0
-  FromReady k b = (j : ℕ) × (c : Cycle) × (j < m .t) × (threadAt ts j .state ≡ Ready c) × (c ⊑ b) × ((e : ℕ) (since : Cycle) → threadAt ts k .state ≡ Waiting e since → Before c b)
+  FromReady k b = (j : ℕ) × (c : Cycle) × (j < m .t) × (viewOf (threadAt ts j .state) ≡ view.ready c) × (c ⊑ b) × ((e : ℕ) (since : Cycle) → viewOf (threadAt ts k .state) ≡ view.waits e since → Before c b)
 
   -- thread j waits, and can hear what is logged at a cycle before b
   abbrev pub FromLogged : Cycle → Type 0
-  FromLogged b = (j : ℕ) × (e : ℕ) × (since : Cycle) × (x : Notification) × (j < m .t) × (threadAt ts j .state ≡ Waiting e since) × In x l × (x .event ≡ e) × (since ⊑ x .cycle) × Before (x .cycle) b
+  FromLogged b = (j : ℕ) × (e : ℕ) × (since : Cycle) × (x : Notification) × (j < m .t) × (viewOf (threadAt ts j .state) ≡ view.waits e since) × In x l × (x .event ≡ e) × (since ⊑ x .cycle) × Before (x .cycle) b
 
   source-attained : (k : ℕ) (b : Cycle) → k < m .t → sourceOf l (threadAt ts k .state) ≡ At b → FromReady k b ⊎ FromLogged b
-  source-attained k b h p = go (threadAt ts k .state) refl p
+  source-attained k b h p = go (viewOf s) refl
     where
+      s : State
+      s = threadAt ts k .state
+
       no-cycle : Never ≡ At b → ⊥
       no-cycle e = let z : _≡_ {A = ℕ} 0 1 = cc in omega arith
 
-      go : (s : State) → threadAt ts k .state ≡ s → sourceOf l s ≡ At b → FromReady k b ⊎ FromLogged b
-      go (Ended c) w q = absurd (no-cycle (sym (sourceOf-idle l (Ended c) tt) ∙ q))
-      go (Overrun c) w q = absurd (no-cycle (sym (sourceOf-idle l (Overrun c) tt) ∙ q))
-      go (Ready c) w q =
-          let f : At c ≡ At b = sym (sourceOf-ready l c) ∙ q in
+      go : (v : View) → viewOf s ≡ v → FromReady k b ⊎ FromLogged b
+      go view.idle w = absurd (no-cycle (sym (sourceOf-idle l s (rw w tt)) ∙ p))
+      go (view.ready c) w =
+          let f : At c ≡ At b = sym (sourceOf-ready l s c w) ∙ p in
           let g : c ≡ b = cc in
           inl (k, c, h, w, ≡→⊑ g, λ e since u. let z : _≡_ {A = ℕ} 0 1 = cc in absurd (omega arith))
-      go (Waiting e since) w q =
-          let (c, f, before) = oneDelta-from (leastHeard l e since) b (sym (sourceOf-waiting l e since) ∙ q) in
+      go (view.waits e since) w =
+          let (c, f, before) = oneDelta-from (leastHeard l e since) b (sym (sourceOf-waiting l s e since w) ∙ p) in
           let (i, r) = leastHeard-at l e since c f in
           inr (k, e, since, pairOf e c, h, w, i, refl, r, before)
 

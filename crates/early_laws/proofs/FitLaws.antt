@@ -17,18 +17,17 @@ use Rattle.clock.specs.declared.Cycle.{Cycle}
 use Rattle.clock.specs.Cycle.{cycleAt}
 use Rattle.clock.specs.Wait.{lastDelta}
 use Rattle.model.specs.declared.Model.{Model}
-use Rattle.model.specs.declared.State.{State}
-use Rattle.model.specs.declared.State.the-variants.{Ended, Overrun, Ready, Waiting}
 use Rattle.model.specs.declared.Thread.{Thread}
 use Rattle.model.specs.Refusal.{accepted}
 use Rattle.model.specs.Limits.{cutTime, recordTime}
-use Rattle.model.specs.Record.{threadAt, cycleOf, awaitedBy}
+use Rattle.model.specs.Record as view
+use Rattle.model.specs.Record.{threadAt, cycleOf, awaitedBy, viewOf, View, awaitedOf}
 use Rattle.model.specs.Rules.{modelFault}
 use Rattle.tables.specs.Word.{allOnes}
 use Rattle.early.specs.declared.Notification.{Notification}
 use Rattle.early.specs.declared.Site.{Site}
 use Rattle.early.specs.Log.{places, pairOf, logOf, siteOf}
-use Rattle.early.specs.Fit.{isFitCycle, isFitWait, isFitThread, isFitPair, isFitWord, isUnfitThreads, isUnfitLog, isUnfitWords, isUnfit}
+use Rattle.early.specs.Fit.{isFitCycle, isFitWait, isFitThread, isFitPair, isFitWord, isUnfitThreads, isUnfitLog, isUnfitWords, isUnfit, isUnfitState}
 use Rattle.early_laws.proofs.LogLaws.{In}
 use Rattle.early_laws.proofs.OnceLaws.{getD-In, In-getD}
 
@@ -54,22 +53,22 @@ unfolding isFitCycle
 pub record FitThread (m : Model) (t : Thread) : Type 0 where
   pub segment : t .segment < m .n
   pub cycle : FitCycle recordTime (cycleOf (t .state))
-  pub event : (e : ℕ) (since : Cycle) → t .state ≡ Waiting e since → e < m .e
+  pub event : (e : ℕ) (since : Cycle) → viewOf (t .state) ≡ view.waits e since → e < m .e
 
-pub isFitThread→ : (m : Model) (t : Thread) → T (isFitThread m t) → FitThread m t
+pub isFitThread→ : (m : Model) (k : ℕ) (t : Thread) → T (isFitThread m k t) → FitThread m t
 unfolding isFitThread isFitWait
-isFitThread→ m t u =
+isFitThread→ m k t u =
     let (p, q) = and→both (ltb (t .segment) (m .n)) (isFitCycle recordTime (cycleOf (t .state)) && isFitWait m (awaitedBy (t .state))) u in
     let (r, s) = and→both (isFitCycle recordTime (cycleOf (t .state))) (isFitWait m (awaitedBy (t .state))) q in
     record {
       segment = ltb→lt (t .segment) (m .n) p;
       cycle = isFitCycle→ recordTime (cycleOf (t .state)) r;
-      event = λ e since w. ltb→lt e (m .e) (subst (λ (x : State). T (isFitWait m (awaitedBy x))) w s);
+      event = λ e since w. ltb→lt e (m .e) (subst (λ (v : View). T (isFitWait m (awaitedOf v))) w s);
     }
 
-pub →isFitThread : (m : Model) (t : Thread) → FitThread m t → T (isFitThread m t)
+pub →isFitThread : (m : Model) (k : ℕ) (t : Thread) → FitThread m t → T (isFitThread m k t)
 unfolding isFitThread isFitWait
-→isFitThread m t f =
+→isFitThread m k t f =
     both→and
     (ltb (t .segment) (m .n))
     (isFitCycle recordTime (cycleOf (t .state)) && isFitWait m (awaitedBy (t .state)))
@@ -78,13 +77,12 @@ unfolding isFitThread isFitWait
     (isFitCycle recordTime (cycleOf (t .state)))
     (isFitWait m (awaitedBy (t .state)))
     (→isFitCycle recordTime (cycleOf (t .state)) (f .cycle))
-    (wait (t .state) (f .event)))
+    (wait (viewOf (t .state)) (f .event)))
   where
-    wait : (s : State) → ((e : ℕ) (since : Cycle) → s ≡ Waiting e since → e < m .e) → T (isFitWait m (awaitedBy s))
-    wait (Ended c) h = tt
-    wait (Overrun c) h = tt
-    wait (Ready c) h = tt
-    wait (Waiting e c) h = lt→ltb e (m .e) (h e c refl)
+    wait : (v : View) → ((e : ℕ) (since : Cycle) → v ≡ view.waits e since → e < m .e) → T (isFitWait m (awaitedOf v))
+    wait view.idle h = tt
+    wait (view.ready c) h = tt
+    wait (view.waits e c) h = lt→ltb e (m .e) (h e c refl)
 
 pub record FitPair (m : Model) (x : Notification) : Type 0 where
   pub event : x .event < m .e
@@ -137,13 +135,13 @@ module _ (a b n : ℕ) (f : ℕ → Bool) where
 
 -- the parts
 
-pub isUnfitThreads→ : (m : Model) (ts : List Thread) → isUnfitThreads m ts ≡ false → (m .t ≤ length ts) × ((k : ℕ) → k < m .t → T (isFitThread m (threadAt ts k)))
+pub isUnfitThreads→ : (m : Model) (ts : List Thread) → isUnfitThreads m ts ≡ false → (m .t ≤ length ts) × ((k : ℕ) → k < m .t → T (isFitThread m k (threadAt ts k)))
 unfolding isUnfitThreads
-isUnfitThreads→ m ts e = within→ (length ts) (m .t) (m .t) (λ k. isFitThread m (threadAt ts k)) e
+isUnfitThreads→ m ts e = within→ (length ts) (m .t) (m .t) (λ k. isFitThread m k (threadAt ts k)) e
 
-pub →isUnfitThreads : (m : Model) (ts : List Thread) → m .t ≤ length ts → ((k : ℕ) → k < m .t → T (isFitThread m (threadAt ts k))) → isUnfitThreads m ts ≡ false
+pub →isUnfitThreads : (m : Model) (ts : List Thread) → m .t ≤ length ts → ((k : ℕ) → k < m .t → T (isFitThread m k (threadAt ts k))) → isUnfitThreads m ts ≡ false
 unfolding isUnfitThreads
-→isUnfitThreads m ts h all = →within (length ts) (m .t) (m .t) (λ k. isFitThread m (threadAt ts k)) h all
+→isUnfitThreads m ts h all = →within (length ts) (m .t) (m .t) (λ k. isFitThread m k (threadAt ts k)) h all
 
 -- place i of a log
 abbrev pub placeOf : Site → ℕ → Notification
@@ -174,12 +172,12 @@ pub record Fit (m : Model) (ws : List ℕ) (site : Site) (ts : List Thread) : Ty
   pub words : isUnfitWords m ws ≡ false
 
 pub isUnfit→ : (m : Model) (ws : List ℕ) (site : Site) (ts : List Thread) → isUnfit m ws site ts ≡ false → Fit m ws site ts
-unfolding isUnfit
+unfolding isUnfit isUnfitState
 isUnfit→ m ws site ts e =
     let broken = not (eqb (modelFault m) accepted) in
-    let (p, q) = not-or→both (broken || isUnfitThreads m ts) (isUnfitLog m site || isUnfitWords m ws) (false→T (isUnfit m ws site ts) e) in
-    let (a, b) = not-or→both broken (isUnfitThreads m ts) p in
-    let (c, d) = not-or→both (isUnfitLog m site) (isUnfitWords m ws) q in
+    let (p, d) = not-or→both (isUnfitState m site ts) (isUnfitWords m ws) (false→T (isUnfit m ws site ts) e) in
+    let (a, q) = not-or→both broken (isUnfitThreads m ts || isUnfitLog m site) p in
+    let (b, c) = not-or→both (isUnfitThreads m ts) (isUnfitLog m site) q in
     record {
       model = sound (modelFault m) a;
       threads = T→false (isUnfitThreads m ts) b;
@@ -191,7 +189,7 @@ isUnfit→ m ws site ts e =
     sound n t = eqb→eq n accepted (not-not (eqb n accepted) t)
 
 pub →isUnfit : (m : Model) (ws : List ℕ) (site : Site) (ts : List Thread) → Fit m ws site ts → isUnfit m ws site ts ≡ false
-unfolding isUnfit
+unfolding isUnfit isUnfitState
 →isUnfit m ws site ts f = rw (eq-eqb (modelFault m) accepted (f .model), f .threads, f .log, f .words) refl
 
 -- what is logged is fit

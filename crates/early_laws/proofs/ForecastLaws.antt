@@ -15,9 +15,9 @@ use Rattle.clock.proofs.OrderLaws.{≼-refl, ≼-trans, ≼-antisym}
 use Rattle.clock.proofs.LeastLaws.{least-left, least-right, least-glb, leastBelow-≼, leastBelow-one, leastBelow-glb}
 use Rattle.clock.proofs.AdvanceLaws.{⊕-mono, Never-⊕, least-⊕}
 use Rattle.model.specs.declared.Model.{Model}
-use Rattle.model.specs.declared.State.the-variants.{Waiting}
 use Rattle.model.specs.declared.Thread.{Thread}
-use Rattle.model.specs.Record.{threadAt, isLive}
+use Rattle.model.specs.Record as view
+use Rattle.model.specs.Record.{threadAt, isLive, viewOf}
 use Rattle.model.specs.Footprint.{notifiesIn}
 use Rattle.tables.specs.Word.{distanceIn}
 use Rattle.early.specs.declared.Notification.{Notification}
@@ -79,7 +79,7 @@ module _ (m : Model) (ws : List ℕ) (l : List Notification) (ts : List Thread) 
       (λ k h. soonestNotify-glb m ws ts k y (earliestAt m ws l ts k) e (λ s live p t. all k s h live p t)))
 
   -- A thread that waits: its source is the delta after what is logged, its links are the delta after what others may notify.
-  module _ (k e : ℕ) (since : Cycle) (h : k < m .t) (w : threadAt ts k .state ≡ Waiting e since) where
+  module _ (k e : ℕ) (since : Cycle) (h : k < m .t) (w : viewOf (threadAt ts k .state) ≡ view.waits e since) where
     -- the lesser of the two
     soonest : Bound
     soonest = least (leastHeard l e since) (forecastOf m ws l ts e)
@@ -88,7 +88,7 @@ module _ (m : Model) (ws : List ℕ) (l : List Notification) (ts : List Thread) 
     unfolding soonest
     chain-waiting (source {k = i} p) f =
         rw
-        (f, w, sourceOf-waiting l e since)
+        (f, sourceOf-waiting l (threadAt ts k .state) e since w)
         (⊕-mono soonest (leastHeard l e since) oneDelta oneDelta (least-left (leastHeard l e since) (forecastOf m ws l ts e)) (≼-refl oneDelta))
     chain-waiting (link {j = j} {k = i} {x = x} p c) f =
         rw
@@ -132,6 +132,6 @@ module _ (m : Model) (ws : List ℕ) (l : List Notification) (ts : List Thread) 
         (earliestAt m ws l ts k)
         (leastHeard l e since ⊕ oneDelta)
         (forecastOf m ws l ts e ⊕ oneDelta)
-        (subst (λ (x : Bound). earliestAt m ws l ts k ≼ x) (ap (sourceOf l) w ∙ sourceOf-waiting l e since) (earliest-≼ m ws l ts (source h)))
+        (subst (λ (x : Bound). earliestAt m ws l ts k ≼ x) (sourceOf-waiting l (threadAt ts k .state) e since w) (earliest-≼ m ws l ts (source h)))
         after-forecast))
         (earliest-glb m ws l ts k (soonest ⊕ oneDelta) h (λ x c. chain-waiting c refl))

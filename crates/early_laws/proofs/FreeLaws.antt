@@ -28,9 +28,9 @@ use Rattle.early.specs.declared.Site.{Site}
 use Rattle.early.specs.declared.Notification.{Notification}
 use Rattle.early.specs.Log.{places, pairOf, logOf, holds, withPair, withPairs, countedPlaces, dropBefore, isDropped}
 use Rattle.early.specs.Earliest.{earliestOf}
-use Rattle.early.specs.Hazard.{marksConflict, isSooner, threatens, hazard}
+use Rattle.early.specs.Hazard.{threadsConflict, isSooner, threatens, hazard}
 use Rattle.early.specs.Deliver.{swept, settledIn, settled}
-use Rattle.early.specs.Fit.{isFitPair, isUnfitThreads, isUnfitLog, isUnfitWords, isUnfit}
+use Rattle.early.specs.Fit.{isFitPair, isUnfitThreads, isUnfitLog, isUnfitWords, isUnfit, isUnfitState}
 use Rattle.early.specs.Grant.{effectAt, logAfter, closedThreads, threadsAfter, siteAfter}
 use Rattle.early.specs.Answer.{numberOf}
 use Rattle.early.specs.Request.{Requested, isFull, refusedWith, grantedTo, requestAt, requestFit, requestOf}
@@ -42,7 +42,7 @@ use Rattle.early_laws.proofs.LookLaws.{lookedAt-other}
 module _ (m : Model) (ws : List ℕ) (ts : List Thread) (k : ℕ) (marks others : List (List Bool))
     (row : (s : ℕ) → s < m .n → markAt marks (threadAt ts k .segment) s ≡ markAt others (threadAt ts k .segment) s) where
   threatens-row : (c : Cycle) (j : ℕ) (b : Bound) → threatens m marks ws ts k c j b ≡ threatens m others ws ts k c j b
-  unfolding threatens marksConflict
+  unfolding threatens threadsConflict
   threatens-row c j b =
       anyBelow-same
       (m .n)
@@ -84,8 +84,8 @@ module _ (m : Model) (marks : List (List Bool)) (ws : List ℕ) (ts : List Threa
   refused-alike n other-number = record { answer = refl; threads = refl; granted = λ e. absurd (other-number e) }
 
   isUnfit-held : isUnfit m ws site ts ≡ isUnfit m ws other ts
-  unfolding isUnfit isUnfitLog logOf
-  isUnfit-held = rw count (ap (λ (x : Bool). (not (eqb (modelFault m) accepted) || isUnfitThreads m ts) || ((ltb places (other .count) || x) || isUnfitWords m ws)) judged)
+  unfolding isUnfit isUnfitState isUnfitLog logOf
+  isUnfit-held = rw count (ap (λ (x : Bool). (not (eqb (modelFault m) accepted) || (isUnfitThreads m ts || (ltb places (other .count) || x))) || isUnfitWords m ws) judged)
     where
       at : (i : ℕ) → i < other .count → getD (site .log) i (pairOf 0 (cycleAt 0 0)) ≡ getD (other .log) i (pairOf 0 (cycleAt 0 0))
       at i h = sym (getD-take (site .count) (site .log) i (pairOf 0 (cycleAt 0 0)) (omega (arith, count))) ∙ ap (λ (l : List Notification). getD l i (pairOf 0 (cycleAt 0 0))) held ∙ getD-take (other .count) (other .log) i (pairOf 0 (cycleAt 0 0)) h

@@ -22,7 +22,7 @@ use Rattle.model.specs.declared.Thread.{Thread}
 use Rattle.model.specs.Record.{threadAt, isLive}
 use Rattle.tables.specs.Word.{distanceIn}
 use Rattle.early.specs.declared.Notification.{Notification}
-use Rattle.early.specs.Hazard.{marksConflict, isSooner, threatens, hazard}
+use Rattle.early.specs.Hazard.{threadsConflict, isSooner, threatens, hazard}
 use Rattle.early_laws.proofs.EarliestLaws.{earliestAt}
 
 -- "at a smaller stamp"
@@ -50,13 +50,13 @@ pub record Threat (m : Model) (marks : List (List Bool)) (ws : List ℕ) (l : Li
   pub other : j ≡ i → ⊥
   pub live : T (isLive (threadAt ts j .state))
   pub segment : s < m .n
-  pub marked : T (marksConflict marks i (threadAt ts i .segment) j s)
+  pub marked : T (threadsConflict m marks i (threadAt ts i .segment) j s)
   pub sooner : T (isSooner (earliestAt m ws l ts j ⊕ distanceIn m ws (threadAt ts j .segment) s) j (stampAt c i))
 
 module _ (m : Model) (marks : List (List Bool)) (ws : List ℕ) (l : List Notification) (ts : List Thread) (i : ℕ) (c : Cycle) where
   -- by one segment of thread j, and by thread j
   threatAt : ℕ → ℕ → Bool
-  threatAt j s = marksConflict marks i (threadAt ts i .segment) j s && isSooner (earliestAt m ws l ts j ⊕ distanceIn m ws (threadAt ts j .segment) s) j (stampAt c i)
+  threatAt j s = threadsConflict m marks i (threadAt ts i .segment) j s && isSooner (earliestAt m ws l ts j ⊕ distanceIn m ws (threadAt ts j .segment) s) j (stampAt c i)
 
   threatBy : ℕ → Bool
   threatBy j = (not (eqb j i) && isLive (threadAt ts j .state)) && threatens m marks ws ts i c j (earliestAt m ws l ts j)
@@ -76,7 +76,7 @@ module _ (m : Model) (marks : List (List Bool)) (ws : List ℕ) (l : List Notifi
       ∙ T→true (anyBelow (m .t) threatBy) (anyBelow-found (m .t) threatBy j (t .thread) by)
     where
       at : T (threatAt j s)
-      at = both→and (marksConflict marks i (threadAt ts i .segment) j s) (isSooner (earliestAt m ws l ts j ⊕ distanceIn m ws (threadAt ts j .segment) s) j (stampAt c i)) (t .marked) (t .sooner)
+      at = both→and (threadsConflict m marks i (threadAt ts i .segment) j s) (isSooner (earliestAt m ws l ts j ⊕ distanceIn m ws (threadAt ts j .segment) s) j (stampAt c i)) (t .marked) (t .sooner)
 
       by : T (threatBy j)
       by =
@@ -93,11 +93,11 @@ module _ (m : Model) (marks : List (List Bool)) (ws : List ℕ) (l : List Notifi
       let (p, q) = and→both (not (eqb j i) && isLive (threadAt ts j .state)) (threatens m marks ws ts i c j (earliestAt m ws l ts j)) t in
       let (a, b) = and→both (not (eqb j i)) (isLive (threadAt ts j .state)) p in
       let (s, k, u) = anyBelow-some (m .n) (threatAt j) (subst T (threatens-is j) q) in
-      let (x, y) = and→both (marksConflict marks i (threadAt ts i .segment) j s) (isSooner (earliestAt m ws l ts j ⊕ distanceIn m ws (threadAt ts j .segment) s) j (stampAt c i)) u in
+      let (x, y) = and→both (threadsConflict m marks i (threadAt ts i .segment) j s) (isSooner (earliestAt m ws l ts j ⊕ distanceIn m ws (threadAt ts j .segment) s) j (stampAt c i)) u in
       (j, s, record { thread = h; other = λ f. T-not (eqb j i) a (eq→eqb j i f); live = b; segment = k; marked = x; sooner = y })
 
   -- without a hazard
-  pub no-hazard : hazard m marks ws l ts i c ≡ false → (j s : ℕ) → j < m .t → (j ≡ i → ⊥) → T (isLive (threadAt ts j .state)) → s < m .n → T (marksConflict marks i (threadAt ts i .segment) j s)
+  pub no-hazard : hazard m marks ws l ts i c ≡ false → (j s : ℕ) → j < m .t → (j ≡ i → ⊥) → T (isLive (threadAt ts j .state)) → s < m .n → T (threadsConflict m marks i (threadAt ts i .segment) j s)
       → isSooner (earliestAt m ws l ts j ⊕ distanceIn m ws (threadAt ts j .segment) s) j (stampAt c i) ≡ false
   no-hazard e j s h other live p t = T→false sooner (not-T sooner contrary)
     where

@@ -18,9 +18,8 @@ use Rattle.clock.proofs.LeastLaws.{least-left, least-glb}
 use Rattle.clock.proofs.AdvanceLaws.{⊕-mono, advanceOf-Event}
 use Rattle.clock.proofs.WaitLaws.{waitEnds-advance}
 use Rattle.model.specs.declared.Model.{Model}
-use Rattle.model.specs.declared.State.the-variants.{Overrun, Ready}
 use Rattle.model.specs.declared.Thread.{Thread}
-use Rattle.model.specs.Record.{threadAt, nothing, awaitedBy, stateAfter}
+use Rattle.model.specs.Record.{threadAt, nothing, awaitedBy, stateAfter, awaitedOf}
 use Rattle.tables.specs.Word.{distanceIn}
 use Rattle.early.specs.declared.Notification.{Notification}
 use Rattle.early.specs.Log.{leastHeard}
@@ -57,9 +56,9 @@ module _ (m : Model) (ws : List ℕ) (l : List Notification) (ts : List Thread) 
       go : (s : Step) → waitEnds wait.Event x ≡ s → earliestAt m ws l ts k ≼ sourceOf l (stateAfter s)
       go (step.Ready d) e =
           rw
-          (sourceOf-ready l d, heard-earliest x p, ← advanceOf-Event, waitEnds-advance wait.Event x e)
+          (sourceOf-ready l (stateAfter (step.Ready d)) d refl, heard-earliest x p, ← advanceOf-Event, waitEnds-advance wait.Event x e)
           (≼-refl (At d))
-      go (step.Overrun d) e = rw (sourceOf-idle l (Overrun d) tt) tt
+      go (step.Overrun d) e = rw (sourceOf-idle l (stateAfter (step.Overrun d)) tt) tt
 
   -- the same link is not sooner after the look
   link-rises : (j i : ℕ) (x : Bound) → linkTo m ws ts j i x ≼ linkTo m ws us j i x
@@ -140,7 +139,7 @@ module _ (m : Model) (ws : List ℕ) (l : List Notification) (ts : List Thread) 
       ap
       (λ (t : Thread). heardNow m ws l us (awaitedBy (t .state)))
       (lookedAt-other m ws l ts k j other)
-      ∙ ap (λ s. heardNow m ws l us (awaitedBy s)) w
+      ∙ ap (λ v. heardNow m ws l us (awaitedOf v)) w
       ∙ heardNow-some
       m
       ws

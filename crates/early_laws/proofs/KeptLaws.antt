@@ -7,6 +7,7 @@ use native.Mathlib.Decide.{ℕ-discrete}
 use lib.Dec.{T}
 use Rattle.clock.specs.declared.Cycle.{Cycle}
 use Rattle.clock.specs.declared.Wait.the-variants as wait
+use Rattle.clock.specs.declared.Step.{Step}
 use Rattle.clock.specs.declared.Step.the-variants as step
 use Rattle.clock.specs.declared.Bound.{Bound}
 use Rattle.clock.specs.declared.Bound.the-variants.{At}
@@ -17,9 +18,9 @@ use Rattle.clock.proofs.OrderLaws.{≼-trans, ≼-antisym}
 use Rattle.clock.proofs.AdvanceLaws.{advanceOf-Event}
 use Rattle.clock.proofs.WaitLaws.{waitEnds-advance}
 use Rattle.model.specs.declared.Model.{Model}
-use Rattle.model.specs.declared.State.the-variants.{Ready}
 use Rattle.model.specs.declared.Thread.{Thread}
-use Rattle.model.specs.Record.{threadAt, isLive, awaitedBy, stateAfter}
+use Rattle.model.specs.Record as view
+use Rattle.model.specs.Record.{threadAt, isLive, awaitedBy, stateAfter, viewOf}
 use Rattle.early.specs.declared.Notification.{Notification}
 use Rattle.early.specs.Earliest.{sourceOf, linkTo, Chain, source, link}
 use Rattle.early.specs.Deliver.{lookedAt}
@@ -33,8 +34,8 @@ module _ (m : Model) (ws : List ℕ) (l : List Notification) (ts : List Thread) 
   abbrev us : List Thread
   us = lookedAt m ws l ts k
 
-  heard-ready : threadAt us k .state ≡ Ready d
-  heard-ready = ap (λ (t : Thread). t .state) (lookedAt-self m ws l ts k x p) ∙ ap stateAfter e
+  heard-ready : viewOf (threadAt us k .state) ≡ view.ready d
+  heard-ready = ap (λ (t : Thread). viewOf (t .state)) (lookedAt-self m ws l ts k x p) ∙ ap (λ (z : Step). viewOf (stateAfter z)) e
 
   heard-same : earliestAt m ws l us k ≡ earliestAt m ws l ts k
   heard-same =

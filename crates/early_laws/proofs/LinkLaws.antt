@@ -18,11 +18,12 @@ use Rattle.clock.proofs.LeastLaws.{least-Never-left, least-Never-right, leastBe
 use Rattle.clock.proofs.AdvanceLaws.{⊕-mono, ⊕-inflate, Never-⊕, oneDelta-later}
 use Rattle.model.specs.declared.Model.{Model}
 use Rattle.model.specs.declared.State.{State}
-use Rattle.model.specs.declared.State.the-variants.{Ended, Overrun, Ready, Waiting}
 use Rattle.model.specs.declared.Thread.{Thread}
-use Rattle.model.specs.Record.{threadAt, isLive, Awaited, nothing, awaits, awaitedBy}
+use Rattle.model.specs.Record as view
+use Rattle.model.specs.Record.{threadAt, isLive, Awaited, nothing, awaits, awaitedBy, viewOf}
 use Rattle.model.specs.Footprint.{notifiesIn}
 use Rattle.tables.specs.Word.{distanceIn}
+use Rattle.plain_laws.proofs.RecordLaws.{not-live→idle}
 use Rattle.early.specs.declared.Notification.{Notification}
 use Rattle.early.specs.Log.{leastHeard}
 use Rattle.early.specs.Earliest.{afterHeard, sourceOf, soonestNotify, afterNotify, linkTo}
@@ -41,20 +42,17 @@ oneDelta-from (At d) b e = (d, refl, go (⊑-total b d))
 
 -- where a chain begins
 
-pub sourceOf-ready : (l : List Notification) (c : Cycle) → sourceOf l (Ready c) ≡ At c
+pub sourceOf-ready : (l : List Notification) (s : State) (c : Cycle) → viewOf s ≡ view.ready c → sourceOf l s ≡ At c
 unfolding sourceOf afterHeard
-sourceOf-ready l c = least-Never-right (At c)
+sourceOf-ready l s c e = rw e (least-Never-right (At c))
 
-pub sourceOf-waiting : (l : List Notification) (e : ℕ) (since : Cycle) → sourceOf l (Waiting e since) ≡ leastHeard l e since ⊕ oneDelta
+pub sourceOf-waiting : (l : List Notification) (s : State) (e : ℕ) (since : Cycle) → viewOf s ≡ view.waits e since → sourceOf l s ≡ leastHeard l e since ⊕ oneDelta
 unfolding sourceOf afterHeard
-sourceOf-waiting l e since = least-Never-left (leastHeard l e since ⊕ oneDelta)
+sourceOf-waiting l s e since w = rw w (least-Never-left (leastHeard l e since ⊕ oneDelta))
 
 pub sourceOf-idle : (l : List Notification) (s : State) → T (not (isLive s)) → sourceOf l s ≡ Never
 unfolding sourceOf afterHeard
-sourceOf-idle l (Ended c) t = least-Never-left Never
-sourceOf-idle l (Overrun c) t = least-Never-left Never
-sourceOf-idle l (Ready c) t = absurd t
-sourceOf-idle l (Waiting e c) t = absurd t
+sourceOf-idle l s t = rw (not-live→idle (viewOf s) t) (least-Never-left Never)
 
 -- the soonest notification of an event by one thread, no sooner than a bound
 
@@ -142,7 +140,7 @@ module _ (m : Model) (ws : List ℕ) (ts : List Thread) (k : ℕ) where
 
 -- a link from thread j to thread k
 module _ (m : Model) (ws : List ℕ) (ts : List Thread) (j k : ℕ) where
-  pub linkTo-waiting : (e : ℕ) (since : Cycle) (x : Bound) → threadAt ts k .state ≡ Waiting e since → linkTo m ws ts j k x ≡ soonestNotify m ws ts j x e ⊕ oneDelta
+  pub linkTo-waiting : (e : ℕ) (since : Cycle) (x : Bound) → viewOf (threadAt ts k .state) ≡ view.waits e since → linkTo m ws ts j k x ≡ soonestNotify m ws ts j x e ⊕ oneDelta
   unfolding linkTo afterNotify
   linkTo-waiting e since x p = rw p refl
 

@@ -21,12 +21,11 @@ use Rattle.clock.specs.Advance.{isBoundBefore}
 use Rattle.clock.specs.Order.{_≼_}
 use Rattle.clock.proofs.LeastLaws.{not-isBoundBefore→≼, ≼→not-isBoundBefore}
 use Rattle.model.specs.declared.Model.{Model}
-use Rattle.model.specs.declared.State.{State}
-use Rattle.model.specs.declared.State.the-variants.{Ended, Overrun, Ready, Waiting}
 use Rattle.model.specs.declared.Thread.{Thread}
-use Rattle.model.specs.Record.{noThread, threadAt, isLive, Awaited, nothing, awaits, awaitedBy, stateAfter}
+use Rattle.model.specs.Record as view
+use Rattle.model.specs.Record.{noThread, threadAt, isLive, Awaited, nothing, awaits, awaitedBy, stateAfter, viewOf}
 use Rattle.plain.specs.History.{Item, heard, heardItem}
-use Rattle.plain_laws.proofs.RecordLaws.{threadAt-set, threadAt-other, threadAt-past}
+use Rattle.plain_laws.proofs.RecordLaws.{threadAt-set, threadAt-other, threadAt-past, awaits→waits}
 use Rattle.early.specs.declared.Notification.{Notification}
 use Rattle.early.specs.Log.{leastHeard}
 use Rattle.early.specs.Forecast.{forecastOf}
@@ -44,12 +43,6 @@ heardThread x t = record { segment = t .segment; state = stateAfter (waitEnds wa
 pub stateAfter-unawaited : (s : Step) → awaitedBy (stateAfter s) ≡ nothing
 stateAfter-unawaited (step.Ready c) = refl
 stateAfter-unawaited (step.Overrun c) = refl
-
-pub awaits→state : (s : State) (e : ℕ) (since : Cycle) → awaitedBy s ≡ awaits e since → s ≡ Waiting e since
-awaits→state (Ended c) e since p = let z : _≡_ {A = ℕ} 0 1 = cc in absurd (omega arith)
-awaits→state (Overrun c) e since p = let z : _≡_ {A = ℕ} 0 1 = cc in absurd (omega arith)
-awaits→state (Ready c) e since p = let z : _≡_ {A = ℕ} 0 1 = cc in absurd (omega arith)
-awaits→state (Waiting d c) e since p = cc
 
 module _ (m : Model) (ws : List ℕ) (l : List Notification) (ts : List Thread) where
   -- "it hears the least logged notification not before its wait, if the forecast of the event is not smaller"
@@ -74,13 +67,13 @@ module _ (m : Model) (ws : List ℕ) (l : List Notification) (ts : List Thread) 
   heardNow-none e since x none p h = let q = heardNow-some e since x p h in let z : _≡_ {A = ℕ} 0 1 = cc in omega arith
 
   -- who hears, waits, and its record stands among those lent
-  pub heardAt-waits : (k : ℕ) (x : Cycle) → heardAt m ws l ts k ≡ At x → (e : ℕ) × (since : Cycle) × (threadAt ts k .state ≡ Waiting e since) × (heardNow m ws l ts (awaits e since) ≡ At x)
+  pub heardAt-waits : (k : ℕ) (x : Cycle) → heardAt m ws l ts k ≡ At x → (e : ℕ) × (since : Cycle) × (viewOf (threadAt ts k .state) ≡ view.waits e since) × (heardNow m ws l ts (awaits e since) ≡ At x)
   unfolding heardNow
   heardAt-waits k x p = go (awaitedBy (threadAt ts k .state)) refl p
     where
-      go : (a : Awaited) → awaitedBy (threadAt ts k .state) ≡ a → heardNow m ws l ts a ≡ At x → (e : ℕ) × (since : Cycle) × (threadAt ts k .state ≡ Waiting e since) × (heardNow m ws l ts (awaits e since) ≡ At x)
+      go : (a : Awaited) → awaitedBy (threadAt ts k .state) ≡ a → heardNow m ws l ts a ≡ At x → (e : ℕ) × (since : Cycle) × (viewOf (threadAt ts k .state) ≡ view.waits e since) × (heardNow m ws l ts (awaits e since) ≡ At x)
       go nothing w q = let z : _≡_ {A = ℕ} 0 1 = cc in absurd (omega arith)
-      go (awaits e since) w q = (e, since, awaits→state (threadAt ts k .state) e since w, q)
+      go (awaits e since) w q = (e, since, awaits→waits (viewOf (threadAt ts k .state)) e since w, q)
 
   pub heardAt-lent : (k : ℕ) (x : Cycle) → heardAt m ws l ts k ≡ At x → k < length ts
   unfolding heardNow
@@ -176,6 +169,6 @@ module _ (m : Model) (ws : List ℕ) (l : List Notification) (ts : List Thread) 
   unfolding lookItems heardItems
   lookItems-none k j e = rw e (cond-case (λ (is : List Item). is ≡ []) (eqb j k) (λ t. refl) (λ t. refl))
 
-  pub lookItems-heard : (k e : ℕ) (since x : Cycle) → threadAt ts k .state ≡ Waiting e since → heardAt m ws l ts k ≡ At x → lookItems m ws l ts k k ≡ heard e x ∷ []
+  pub lookItems-heard : (k e : ℕ) (since x : Cycle) → viewOf (threadAt ts k .state) ≡ view.waits e since → heardAt m ws l ts k ≡ At x → lookItems m ws l ts k k ≡ heard e x ∷ []
   unfolding lookItems heardItems heardItem
   lookItems-heard k e since x w p = rw (eq-eqb k k refl, p, w) refl

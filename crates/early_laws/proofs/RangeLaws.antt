@@ -19,11 +19,12 @@ use Rattle.clock.proofs.LeastLaws.{least-case, leastBelow-one}
 use Rattle.clock.proofs.AdvanceLaws.{SmallBound, ⊕-oneDelta, Never-⊕}
 use Rattle.model.specs.declared.Model.{Model}
 use Rattle.model.specs.declared.State.{State}
-use Rattle.model.specs.declared.State.the-variants.{Ended, Overrun, Ready, Waiting}
 use Rattle.model.specs.declared.Thread.{Thread}
 use Rattle.model.specs.Limits.{cutTime, recordTime}
-use Rattle.model.specs.Record.{threadAt, cycleOf}
+use Rattle.model.specs.Record as view
+use Rattle.model.specs.Record.{threadAt, cycleOf, View, viewOf}
 use Rattle.tables.specs.Word.{allOnes, boundOf, distanceIn}
+use Rattle.plain_laws.proofs.RecordLaws.{ready-cycle}
 use Rattle.early.specs.declared.Notification.{Notification}
 use Rattle.early.specs.Log.{pairOf, leastHeard}
 use Rattle.early.specs.Earliest.{sourceOf, soonestNotify, linkTo, earliestOf}
@@ -87,7 +88,7 @@ within-word w f =
 
 -- fit records, a fit log and fit words
 module _ (m : Model) (ws : List ℕ) (l : List Notification) (ts : List Thread)
-    (fit-threads : (k : ℕ) → k < m .t → T (isFitThread m (threadAt ts k)))
+    (fit-threads : (k : ℕ) → k < m .t → T (isFitThread m k (threadAt ts k)))
     (fit-log : (x : Notification) → In x l → FitPair m x)
     (fit-words : (i : ℕ) → i < m .n * m .n → T (isFitWord (getD ws i 0)))
   where
@@ -109,15 +110,20 @@ module _ (m : Model) (ws : List ℕ) (l : List Notification) (ts : List Thread)
             (fits .cycle .time, fits .cycle .delta)
 
     within-source : (k : ℕ) → k < m .t → Within recordTime 1024 (sourceOf l (threadAt ts k .state))
-    within-source k h = go (threadAt ts k .state) (isFitThread→ m (threadAt ts k) (fit-threads k h) .cycle)
+    within-source k h = go (viewOf s) refl
       where
-        go : (s : State) → FitCycle recordTime (cycleOf s) → Within recordTime 1024 (sourceOf l s)
-        go (Ended c) f = rw (sourceOf-idle l (Ended c) tt) tt
-        go (Overrun c) f = rw (sourceOf-idle l (Overrun c) tt) tt
-        go (Ready c) f = rw (sourceOf-ready l c) (omega arith)
-        go (Waiting e since) f =
+        s : State
+        s = threadAt ts k .state
+
+        f : FitCycle recordTime (cycleOf s)
+        f = isFitThread→ m k (threadAt ts k) (fit-threads k h) .cycle
+
+        go : (v : View) → viewOf s ≡ v → Within recordTime 1024 (sourceOf l s)
+        go view.idle w = rw (sourceOf-idle l s (rw w tt)) tt
+        go (view.ready c) w = let g : FitCycle recordTime c = rw (ready-cycle s c w) at f in rw (sourceOf-ready l s c w) (g .time, omega (arith, g .delta))
+        go (view.waits e since) w =
             rw
-            (sourceOf-waiting l e since)
+            (sourceOf-waiting l s e since w)
             (within-more
             cutTime
             (lastDelta + 1)
@@ -139,7 +145,7 @@ module _ (m : Model) (ws : List ℕ) (l : List Notification) (ts : List Thread)
         x
         (distanceIn m ws (threadAt ts k .segment) s)
         w
-        (within-distance (threadAt ts k .segment) s (isFitThread→ m (threadAt ts k) (fit-threads k h) .segment) p)
+        (within-distance (threadAt ts k .segment) s (isFitThread→ m k (threadAt ts k) (fit-threads k h) .segment) p)
 
     pub within-notify : (t d : ℕ) (x : Bound) (k e : ℕ) → k < m .t → Within t d x → Within (t + cutTime) (d + lastDelta) (soonestNotify m ws ts k x e)
     within-notify t d x k e h w = go (soonestNotify m ws ts k x e) refl

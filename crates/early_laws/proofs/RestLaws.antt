@@ -9,9 +9,9 @@ use native.Mathlib.Decide.{ℕ-discrete}
 use Rattle.clock.specs.declared.Cycle.{Cycle}
 use Rattle.clock.specs.declared.Bound.the-variants.{Never, At}
 use Rattle.model.specs.declared.Model.{Model}
-use Rattle.model.specs.declared.State.the-variants.{Waiting}
 use Rattle.model.specs.declared.Thread.{Thread}
-use Rattle.model.specs.Record.{threadAt, Awaited, nothing, awaits, awaitedBy}
+use Rattle.model.specs.Record as view
+use Rattle.model.specs.Record.{threadAt, Awaited, nothing, awaits, awaitedBy, viewOf, awaitedOf}
 use Rattle.early.specs.declared.Notification.{Notification}
 use Rattle.early.specs.Deliver.{lookedAt, swept, settledIn, settled}
 use Rattle.early_laws.proofs.LookLaws.{heardAt, heardAt-waits, lookedAt-none, lookedAt-other, lookedAt-deaf, Looked, unheard, hears, looked}
@@ -67,7 +67,7 @@ module _ (m : Model) (ws : List ℕ) (l : List Notification) where
           let (e, since, w, q) = heardAt-waits m ws l ts k x p in
           let past = waiting-past ts k n (omega arith) in
           let after : waitsOf (awaitedBy (threadAt us n .state)) ≡ 0 = ap waitsOf (subst (λ (i : ℕ). awaitedBy (threadAt us i .state) ≡ nothing) same (lookedAt-deaf m ws l ts k x p)) in
-          let before : waitsOf (awaitedBy (threadAt ts n .state)) ≡ 1 = ap (λ s. waitsOf (awaitedBy s)) (subst (λ (i : ℕ). threadAt ts i .state ≡ Waiting e since) same w) in
+          let before : waitsOf (awaitedBy (threadAt ts n .state)) ≡ 1 = ap (λ v. waitsOf (awaitedOf v)) (subst (λ (i : ℕ). viewOf (threadAt ts i .state) ≡ view.waits e since) same w) in
           omega arith
 
   -- a sweep finds nobody that hears, or leaves fewer waiting

@@ -49,7 +49,7 @@ module _ (m : Model) (ts us : List Thread) (agree : Agree m ts us) where
   unfolding isUnfitThreads
   isUnfitThreads-same =
       rw (le-ltb (length ts) (m .t) (agree .left), le-ltb (length us) (m .t) (agree .right))
-      (anyBelow-same (m .t) (λ k. not (isFitThread m (threadAt ts k))) (λ k. not (isFitThread m (threadAt us k))) (λ k h. ap (λ (t : Thread). not (isFitThread m t)) (agree .same k h)))
+      (anyBelow-same (m .t) (λ k. not (isFitThread m k (threadAt ts k))) (λ k. not (isFitThread m k (threadAt us k))) (λ k h. ap (λ (t : Thread). not (isFitThread m k t)) (agree .same k h)))
 
   pub floorOf-same : floorOf m ts ≡ floorOf m us
   unfolding floorOf

@@ -24,7 +24,7 @@ use Rattle.early.specs.declared.Notification.{Notification}
 use Rattle.early.specs.Log.{leastHeard}
 use Rattle.early.specs.Earliest.{soonestNotify}
 use Rattle.early.specs.Forecast.{forecastOf}
-use Rattle.early.specs.Hazard.{marksConflict, isSooner, threatens, hazard}
+use Rattle.early.specs.Hazard.{threadsConflict, isSooner, threatens, hazard}
 use Rattle.early_laws.proofs.EarliestLaws.{earliestAt, earliest-idle}
 use Rattle.early_laws.proofs.FitLaws.{FitCycle}
 use Rattle.early_laws.proofs.RangeLaws.{within-leastBelow, within-distance, within-notify, sum-small}
@@ -42,10 +42,10 @@ unfolding threatens isSooner _⊕_
 threatens-never m marks ws ts i c j = T→false (threatens m marks ws ts i c j Never) (not-T (threatens m marks ws ts i c j Never) none)
   where
     at : ℕ → Bool
-    at s = marksConflict marks i (threadAt ts i .segment) j s && isSooner (Never ⊕ distanceIn m ws (threadAt ts j .segment) s) j (stampAt c i)
+    at s = threadsConflict m marks i (threadAt ts i .segment) j s && isSooner (Never ⊕ distanceIn m ws (threadAt ts j .segment) s) j (stampAt c i)
 
     none : T (anyBelow (m .n) at) → ⊥
-    none t = let (s, h, u) = anyBelow-some (m .n) at t in and→both (marksConflict marks i (threadAt ts i .segment) j s) false u .1
+    none t = let (s, h, u) = anyBelow-some (m .n) at t in and→both (threadsConflict m marks i (threadAt ts i .segment) j s) false u .1
 
 -- a test that may be dropped: without it the last fails anyway
 and-drop : (a b t : Bool) → (T (not b) → t ≡ false) → (a && t) ≡ ((a && b) && t)
@@ -111,7 +111,7 @@ module _ (m : Model) (ws : List ℕ) (l : List Notification) (ts : List Thread) 
     threatens-limit : (j : ℕ) → j < m .t
         → threatensLimit (getD marks (threadAt ts i .segment) []) ws (m .n) (threadAt ts j .segment) (getD (limitsOf m ws l ts) j allOnes) j (limitOfCycle c) i
         ≡ threatens m marks ws ts i c j (earliestAt m ws l ts j)
-    unfolding threatensLimit threatens marksConflict markAt
+    unfolding threatensLimit threatens threadsConflict markAt
     threatens-limit j h =
         rw
         (atMost-is 64 (m .n) (fit-counts fit .segments))

@@ -19,7 +19,7 @@ use Rattle.model.specs.declared.Thread.{Thread}
 use Rattle.model.specs.Limits.{isBeforeHorizon}
 use Rattle.model.specs.Footprint.{has}
 use Rattle.model.specs.Record.{threadAt, readyCycle, awaits}
-use Rattle.plain_laws.proofs.RecordLaws.{stateAfter-not-Waiting, horizon→<, heard-time, heard-delta}
+use Rattle.plain_laws.proofs.RecordLaws.{stateAfter-not-waits, horizon→<, heard-time, heard-delta}
 use Rattle.plain_laws.proofs.RangeLaws.{Keeps}
 use Rattle.plain_laws.proofs.KeepLaws.{modelFault-keeps}
 use Rattle.plain.specs.Wake.{floorOf}
@@ -43,10 +43,10 @@ use Rattle.early_limits.proofs.AheadLaws.{forecast-heard}
 
 -- records of which one is changed, to a fit one
 changed-fit : (m : Model) (ts us : List Thread) (k : ℕ) → isUnfitThreads m ts ≡ false → length us ≡ length ts
-    → (k < m .t → T (isFitThread m (threadAt us k))) → ((j : ℕ) → (j ≡ k → ⊥) → threadAt us j ≡ threadAt ts j) → isUnfitThreads m us ≡ false
+    → (k < m .t → T (isFitThread m k (threadAt us k))) → ((j : ℕ) → (j ≡ k → ⊥) → threadAt us j ≡ threadAt ts j) → isUnfitThreads m us ≡ false
 changed-fit m ts us k e size self other = →isUnfitThreads m us (omega (arith, isUnfitThreads→ m ts e .0)) (λ j h. go j h (ℕ-discrete j k))
   where
-    go : (j : ℕ) → j < m .t → Dec (j ≡ k) → T (isFitThread m (threadAt us j))
+    go : (j : ℕ) → j < m .t → Dec (j ≡ k) → T (isFitThread m j (threadAt us j))
     go j h (yes p) = rw p (self (omega arith))
     go j h (no p) = rw (other j p) (isUnfitThreads→ m ts e .1 j h)
 
@@ -90,17 +90,18 @@ module _ (m : Model) (ws : List ℕ) (l : List Notification) where
   -- what is fit stays fit
 
   -- a thread that has heard what is logged
-  heard-fit : (ts : List Thread) (k : ℕ) (x : Cycle) → FitState m ws l ts → k < m .t → heardAt m ws l ts k ≡ At x → T (isFitThread m (heardThread x (threadAt ts k)))
+  heard-fit : (ts : List Thread) (k : ℕ) (x : Cycle) → FitState m ws l ts → k < m .t → heardAt m ws l ts k ≡ At x → T (isFitThread m k (heardThread x (threadAt ts k)))
   heard-fit ts k x fit h p =
       let (e, since, waits, q) = heardAt-waits m ws l ts k x p in
       let pair = fit .log (pairOf e x) (leastHeard-at l e since x (heardNow-at m ws l ts e since x q .0) .0) .cycle in
       →isFitThread
       m
+      k
       (heardThread x (threadAt ts k))
       (record {
         segment = fit-segment fit k h;
         cycle = record { time = omega (arith, heard-time x, pair .time); delta = heard-delta x (pair .delta) };
-        event = λ e c w. absurd (stateAfter-not-Waiting (waitEnds wait.Event x) e c w);
+        event = λ e c w. absurd (stateAfter-not-waits (waitEnds wait.Event x) e c w);
       })
 
   pub lookedAt-fit : (ts : List Thread) (k : ℕ) → FitState m ws l ts → FitState m ws l (lookedAt m ws l ts k)
@@ -145,13 +146,14 @@ module _ (m : Model) (ws : List ℕ) (site : Site) (ts : List Thread) (fit : Fit
     now : c .time .0 < m .horizon .0
     now = horizon→< m c (true→T (isBeforeHorizon m c) before)
 
-    ran-fit : T (isFitThread m (effectAt m site ts k c .thread))
+    ran-fit : T (isFitThread m k (effectAt m site ts k c .thread))
     unfolding effectAt
     ran-fit =
         let s = threadAt ts k .segment in
         let v = site .variables .at in
         →isFitThread
         m
+        k
         (effectAt m site ts k c .thread)
         (record {
           segment = kept .next k s c v (fit-segment fit k thread);

@@ -17,7 +17,7 @@ use Rattle.clock.proofs.AdvanceLaws.{Never-⊕, ⊕-Never}
 use Rattle.model.specs.declared.Model.{Model}
 use Rattle.model.specs.declared.Thread.{Thread}
 use Rattle.model.specs.Limits.{cutTime}
-use Rattle.model.specs.Values.{segmentAt, bodyOf}
+use Rattle.model.specs.Values.{segmentAt, segmentFor, bodyOf}
 use Rattle.model.specs.Statement.{notifiedBy}
 use Rattle.model.specs.Footprint.{has, listedIn, notifiesIn}
 use Rattle.model.specs.Record.{threadAt, isLive}
@@ -47,7 +47,7 @@ nearestIn m ws r e = leastBelow (m .n) (wayTo m ws r e)
 
 soonestNotify-is : (m : Model) (ws : List ℕ) (ts : List Thread) (k e : ℕ) (x : Bound) → (T (not (isLive (threadAt ts k .state))) → x ≡ Never)
     → soonestNotify m ws ts k x e ≡ x ⊕ nearestIn m ws (threadAt ts k .segment) e
-unfolding wayTo nearestIn soonestNotify notifiesIn listedIn
+unfolding wayTo nearestIn soonestNotify notifiesIn listedIn segmentFor
 soonestNotify-is m ws ts k e x idle = go (T-case (isLive (threadAt ts k .state)))
   where
     r : ℕ

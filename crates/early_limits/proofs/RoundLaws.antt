@@ -14,16 +14,15 @@ use Rattle.clock.specs.declared.Bound.the-variants.{Never}
 use Rattle.clock.specs.Advance.{least, leastBelow, _⊕_, oneDelta}
 use Rattle.clock.proofs.LeastLaws.{least-Never-right, leastBelow-one, leastBelow-same}
 use Rattle.model.specs.declared.Model.{Model}
-use Rattle.model.specs.declared.State.{State}
-use Rattle.model.specs.declared.State.the-variants.{Ended, Overrun, Ready, Waiting}
 use Rattle.model.specs.declared.Thread.{Thread}
-use Rattle.model.specs.Record.{threadAt, isLive, Awaited, nothing, awaits, awaitedBy}
+use Rattle.model.specs.Record as view
+use Rattle.model.specs.Record.{threadAt, isLive, Awaited, nothing, awaits, awaitedBy, viewOf, awaitedOf}
 use Rattle.tables.specs.Word.{allOnes}
+use Rattle.plain_laws.proofs.RecordLaws.{not-live→idle, awaits→waits}
 use Rattle.early.specs.declared.Notification.{Notification}
 use Rattle.early.specs.Earliest.{soonestNotify, linkTo, earliestOf}
 use Rattle.early_laws.proofs.LinkLaws.{sourceOf-idle, linkTo-waiting, linkTo-other}
 use Rattle.early_laws.proofs.EarliestLaws.{earliestAt, linkedAt, withLinks-none, withLinks-more}
-use Rattle.early_laws.proofs.LookLaws.{awaits→state}
 use Rattle.early_laws.proofs.FitLaws.{isFitThread→}
 use Rattle.early_laws.proofs.RangeLaws.{Within, within-leastBelow, within-oneDelta, within-notify, links-small, earliest-small}
 use Rattle.early_limits.specs.Limit.{limitOf, lesser, sumOf}
@@ -40,12 +39,6 @@ limitsOf m ws l ts = earliestLimits (reachOf m ws) (segmentsOf (m .t) ts) (event
 -- the forecast of e, with thread k no sooner than b k
 abbrev forecastFrom : Model → List ℕ → List Thread → (ℕ → Bound) → ℕ → Bound
 forecastFrom m ws ts b e = leastBelow (m .t) (λ k. soonestNotify m ws ts k (b k) e)
-
-idle→nothing : (s : State) → T (not (isLive s)) → awaitedBy s ≡ nothing
-idle→nothing (Ended c) t = refl
-idle→nothing (Overrun c) t = refl
-idle→nothing (Ready c) t = absurd t
-idle→nothing (Waiting e c) t = absurd t
 
 -- no link leads to a thread that does not wait
 no-links : (m : Model) (ws : List ℕ) (ts : List Thread) (k : ℕ) (b : ℕ → Bound) → awaitedBy (threadAt ts k .state) ≡ nothing → leastBelow (m .t) (λ j. linkTo m ws ts j k (b j)) ≡ Never
@@ -66,7 +59,7 @@ module _ (m : Model) (ws : List ℕ) (l : List Notification) (ts : List Thread) 
   linked-idle (suc n) k h t =
       let before = linked-idle n k h t in
       withLinks-more m ws l ts n k h
-      ∙ rw (before, no-links m ws ts k (λ j. linkedAt m ws l ts n j) (idle→nothing (threadAt ts k .state) t)) (least-Never-right Never)
+      ∙ rw (before, no-links m ws ts k (λ j. linkedAt m ws l ts n j) (ap awaitedOf (not-live→idle (viewOf (threadAt ts k .state)) t))) (least-Never-right Never)
 
   -- one round: xs holds the limits after n rounds
   module _ (n : ℕ) (few : n ≤ 32) (xs : List ℕ) (same : (k : ℕ) → k < m .t → getD xs k allOnes ≡ limitOf (linkedAt m ws l ts n k)) (k : ℕ) (h : k < m .t) where
@@ -74,7 +67,7 @@ module _ (m : Model) (ws : List ℕ) (l : List Notification) (ts : List Thread) 
     small j p = links-small m ws l ts (fit-threads fit) (fit .log) (fit-words fit) n j few p
 
     -- a waiting thread, one delta after the forecast of its event
-    module _ (e : ℕ) (since : Cycle) (waits : threadAt ts k .state ≡ Waiting e since) (event : e < m .e) where
+    module _ (e : ℕ) (since : Cycle) (waits : viewOf (threadAt ts k .state) ≡ view.waits e since) (event : e < m .e) where
       links-are : leastBelow (m .t) (λ j. linkTo m ws ts j k (linkedAt m ws l ts n j)) ≡ forecastFrom m ws ts (linkedAt m ws l ts n) e ⊕ oneDelta
       links-are =
           leastBelow-same
@@ -123,8 +116,8 @@ module _ (m : Model) (ws : List ℕ) (l : List Notification) (ts : List Thread) 
             (eventsOf-at (m .t) ts k (fit-counts fit .threads) h, p, same k h, no-links m ws ts k (λ j. linkedAt m ws l ts n j) p)
             (ap limitOf (sym (least-Never-right x)))
         go (awaits e since) p =
-            let waits = awaits→state (threadAt ts k .state) e since p in
-            let event = isFitThread→ m (threadAt ts k) (fit-threads fit k h) .event e since waits in
+            let waits = awaits→waits (viewOf (threadAt ts k .state)) e since p in
+            let event = isFitThread→ m k (threadAt ts k) (fit-threads fit k h) .event e since waits in
             rw
             (eventsOf-at (m .t) ts k (fit-counts fit .threads) h, p, lt-ltb e 32 (omega (arith, fit-counts fit .events)), same k h)
             (woken-limit e since waits event)

@@ -11,13 +11,12 @@ use Rattle.clock.specs.declared.Cycle.{Cycle}
 use Rattle.clock.specs.declared.Bound.{Bound}
 use Rattle.clock.specs.declared.Bound.the-variants.{Never, At}
 use Rattle.model.specs.declared.Model.{Model}
-use Rattle.model.specs.declared.State.{State}
-use Rattle.model.specs.declared.State.the-variants.{Ended, Overrun, Ready, Waiting}
 use Rattle.model.specs.declared.Thread.{Thread}
 use Rattle.model.specs.Limits.{cutTime, recordTime}
-use Rattle.model.specs.Record.{threadAt, readyCycle, cycleOf}
+use Rattle.model.specs.Record.{threadAt, readyCycle, viewOf}
 use Rattle.model.specs.Rules.{modelFault}
 use Rattle.model_rules.proofs.RuleLaws.{Counts, modelFault-counts}
+use Rattle.plain_laws.proofs.RecordLaws.{ready-cycle, readyCycle→ready}
 use Rattle.early.specs.declared.Notification.{Notification}
 use Rattle.early.specs.declared.Site.{Site}
 use Rattle.early.specs.Log.{logOf, leastHeard}
@@ -44,24 +43,20 @@ module _ {m : Model} {ws : List ℕ} {l : List Notification} {ts : List Thread} 
   pub fit-counts : Counts m
   fit-counts = modelFault-counts m (fit .model)
 
-  pub fit-threads : (k : ℕ) → k < m .t → T (isFitThread m (threadAt ts k))
+  pub fit-threads : (k : ℕ) → k < m .t → T (isFitThread m k (threadAt ts k))
   fit-threads = isUnfitThreads→ m ts (fit .threads) .1
 
   pub fit-words : (i : ℕ) → i < m .n * m .n → T (isFitWord (getD ws i 0))
   fit-words = isUnfitWords→ m ws (fit .words) .1
 
   pub fit-segment : (k : ℕ) → k < m .t → threadAt ts k .segment < m .n
-  fit-segment k h = isFitThread→ m (threadAt ts k) (fit-threads k h) .segment
+  fit-segment k h = isFitThread→ m k (threadAt ts k) (fit-threads k h) .segment
 
   -- the cycle of a ready thread
   pub ready-fit : (i : ℕ) (c : Cycle) → i < m .t → readyCycle (threadAt ts i .state) ≡ At c → FitCycle recordTime c
-  ready-fit i c h p = go (threadAt ts i .state) (isFitThread→ m (threadAt ts i) (fit-threads i h) .cycle) p
-    where
-      go : (s : State) → FitCycle recordTime (cycleOf s) → readyCycle s ≡ At c → FitCycle recordTime c
-      go (Ended d) f q = absurd (let z : _≡_ {A = ℕ} 0 1 = cc in omega arith)
-      go (Overrun d) f q = absurd (let z : _≡_ {A = ℕ} 0 1 = cc in omega arith)
-      go (Ready d) f q = subst (FitCycle recordTime) (cc) f
-      go (Waiting e d) f q = absurd (let z : _≡_ {A = ℕ} 0 1 = cc in omega arith)
+  ready-fit i c h p =
+      let s = threadAt ts i .state in
+      subst (FitCycle recordTime) (ready-cycle s c (readyCycle→ready (viewOf s) c p)) (isFitThread→ m i (threadAt ts i) (fit-threads i h) .cycle)
 
   pub leastHeard-range : (e : ℕ) (since : Cycle) → Limited (leastHeard l e since)
   leastHeard-range e since =

@@ -125,7 +125,7 @@ module _ (m : Model) (marks : List (List Bool)) (ws : List ℕ) (site : Site) (t
       closed-is : set ts k (heldEffect (effectAt m site ts k c) .thread) ≡ closedThreads m site ts k c
       unfolding heldEffect closedThreads
       closed-is =
-          let fits = isFitThread→ m (threadAt (closedThreads m site ts k c) k) (fit-threads closed-fit k thread) .cycle .time in
+          let fits = isFitThread→ m k (threadAt (closedThreads m site ts k c) k) (fit-threads closed-fit k thread) .cycle .time in
           let here = closedThreads-self m site ts k c (omega (arith, isUnfitThreads→ m ts (fit .threads) .0)) in
           let small = ap (λ (t : Thread). cycleOf (t .state) .time .0) here in
           ap (set ts k) (heldThread-small (effectAt m site ts k c .thread) (omega arith))

@@ -21,7 +21,7 @@ use Rattle.model.specs.declared.Model.{Model}
 use Rattle.model.specs.declared.State.the-variants.{Ended, Overrun, Ready, Waiting}
 use Rattle.model.specs.Refusal as refusal
 use Rattle.model.specs.Limits.{largestTime, cutTime, recordTime, isBeforeHorizon, isBoundBeforeHorizon}
-use Rattle.model.specs.Values.{noStatement, noSegment, noStart, noModel, segmentAt, startAt, bodyOf, withHead, withSegment, withStart}
+use Rattle.model.specs.Values.{noStatement, noSegment, noStart, noModel, segmentAt, segmentFor, startAt, bodyOf, withHead, withSegment, withStart}
 use Rattle.model.specs.Statement.{executeOp, execute, notifiedBy}
 use Rattle.model.specs.Record.{threadAt, isLive, readyCycle, nothing, awaits, awaitedBy, cycleOf}
 use Rattle.model.specs.Effect.{nextOf, closedAt, effectIn, effectOf, heldState, heldEvents, withOp}
@@ -236,7 +236,7 @@ tested-after = (refl, refl)
 
 -- segment s of the model, whichever the thread
 effect-of : effectOf (model 9 1 1 (noSegment ∷ segment End (does (Set 0 4) ∷ does (Notify 0) ∷ []) ∷ []) (0 ∷ [])) 0 1 (cycleAt 3 4) (8 ∷ []) ≡ record { variables = 4 ∷ []; notified = 0 ∷ []; thread = record { segment = 1; state = Ended (cycleAt 3 4) } }
-unfolding effectOf effectIn segmentAt closedAt execute notifiedBy bodyOf
+unfolding effectOf effectIn segmentFor segmentAt closedAt execute notifiedBy bodyOf
 effect-of = refl
 
 -- a ready time at 2 ^ 64 - 1, 2 ^ 64 and 2 ^ 64 + 1; other states as they are
@@ -354,7 +354,7 @@ footprint-in :
     (notifiesIn (model 9 4 6 (noSegment ∷ reaching ∷ []) []) 0 1 5 ≡ true) ×
     (notifiesIn (model 9 4 6 (noSegment ∷ reaching ∷ []) []) 0 1 4 ≡ false) ×
     (notifiesIn (model 9 4 6 (noSegment ∷ reaching ∷ []) []) 0 0 5 ≡ false)
-unfolding writesIn usesIn writesOf usesOf writes reads tests testsNext notifiesIn listedIn has notifiedBy segmentAt bodyOf
+unfolding segmentFor writesIn usesIn writesOf usesOf writes reads tests testsNext notifiesIn listedIn has notifiedBy segmentAt bodyOf
 footprint-in = (refl, refl, refl, refl, refl, refl, refl)
 
 -- Rules

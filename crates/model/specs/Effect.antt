@@ -21,7 +21,7 @@ use Rattle.model.specs.declared.State.the-variants.{Ended, Overrun, Read
 use Rattle.model.specs.declared.Thread.{Thread}
 use Rattle.model.specs.declared.Events.{Events}
 use Rattle.model.specs.declared.Ran.{Ran}
-use Rattle.model.specs.Values.{segmentAt, bodyOf}
+use Rattle.model.specs.Values.{segmentFor, bodyOf}
 use Rattle.model.specs.Statement.{execute, notifiedBy}
 use Rattle.model.specs.Record.{stateAfter}
 
@@ -52,7 +52,7 @@ effectIn g s c v =
 
 -- what thread k does in segment s
 unfoldable pub effectOf : Model → ℕ → ℕ → Cycle → List ℕ → Effect
-effectOf m k s c v = effectIn (segmentAt m s) s c v
+effectOf m k s c v = effectIn (segmentFor m k s) s c v
 
 -- an effect as its words hold it: times modulo 2 ^ 64, the events at the front of 32 places
 abbrev pub heldState : State → State

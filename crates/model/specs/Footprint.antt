@@ -11,7 +11,7 @@ use Rattle.model.specs.declared.Closer.{Closer}
 use Rattle.model.specs.declared.Closer.the-variants.{End, Time, Event}
 use Rattle.model.specs.declared.Segment.{Segment}
 use Rattle.model.specs.declared.Model.{Model}
-use Rattle.model.specs.Values.{segmentAt, bodyOf}
+use Rattle.model.specs.Values.{segmentFor, bodyOf}
 use Rattle.model.specs.Statement.{notifiedBy}
 use Rattle.model.specs.Effect.{noTest}
 
@@ -57,14 +57,14 @@ usesOf g v = (writesOf g v || reads (bodyOf g) v) || tests (g .closer) v
 
 -- the same of thread k in segment s
 unfoldable pub writesIn : Model → ℕ → ℕ → ℕ → Bool
-writesIn m k s v = writesOf (segmentAt m s) v
+writesIn m k s v = writesOf (segmentFor m k s) v
 
 unfoldable pub usesIn : Model → ℕ → ℕ → ℕ → Bool
-usesIn m k s v = usesOf (segmentAt m s) v
+usesIn m k s v = usesOf (segmentFor m k s) v
 
 -- the events that thread k lists as notifying in segment s, whatever the variables
 unfoldable pub listedIn : Model → ℕ → ℕ → List ℕ
-listedIn m k s = notifiedBy (bodyOf (segmentAt m s))
+listedIn m k s = notifiedBy (bodyOf (segmentFor m k s))
 
 -- whether e is among them
 unfoldable pub has : List ℕ → ℕ → Bool

@@ -19,9 +19,12 @@ cutTime = 1000000000
 abbrev pub recordTime : ℕ
 recordTime = 2000000000
 
--- "A thread ready at time H or later is not run."
+-- the first time that is not run: "A thread ready at time H or later is not run."
+abbrev pub endTime : Model → ℕ
+endTime m = m .horizon .0
+
 unfoldable pub isBeforeHorizon : Model → Cycle → Bool
-isBeforeHorizon m c = ltb (c .time .0) (m .horizon .0)
+isBeforeHorizon m c = ltb (c .time .0) (endTime m)
 
 unfoldable pub isBoundBeforeHorizon : Model → Bound → Bool
 isBoundBeforeHorizon m Never = false

@@ -1,4 +1,4 @@
--- Document 01, "Early issue": thread records. A state is read through these observers alone.
+-- Document 01, "Early issue": thread records. A state is read through its view and these observers alone.
 -- Terms: thread record; live.
 use Prim.Native.Nat.{ℕ}
 use mathlib.Core.Bool.{Bool, true, false}
@@ -20,30 +20,52 @@ noThread = record { segment = 0; state = Ended (cycleAt 0 0) }
 unfoldable pub threadAt : List Thread → ℕ → Thread
 threadAt ts k = getD ts k noThread
 
+-- what a state is to the rest of a site: not live, ready at a cycle, or waiting on an event since a cycle
+pub data View : Type 0 where
+  idle : View
+  ready : Cycle → View
+  waits : ℕ → Cycle → View
+
+abbrev pub viewOf : State → View
+viewOf (Ended c) = idle
+viewOf (Overrun c) = idle
+viewOf (Ready c) = ready c
+viewOf (Waiting e c) = waits e c
+
 -- "Ready and waiting threads are live."
+abbrev pub isLiveView : View → Bool
+isLiveView idle = false
+isLiveView (ready c) = true
+isLiveView (waits e c) = true
+
 abbrev pub isLive : State → Bool
-isLive (Ended c) = false
-isLive (Overrun c) = false
-isLive (Ready c) = true
-isLive (Waiting e c) = true
+isLive s = isLiveView (viewOf s)
 
 -- its cycle, if it is ready
+abbrev pub readyCycleOf : View → Bound
+readyCycleOf idle = Never
+readyCycleOf (ready c) = At c
+readyCycleOf (waits e c) = Never
+
 abbrev pub readyCycle : State → Bound
-readyCycle (Ended c) = Never
-readyCycle (Overrun c) = Never
-readyCycle (Ready c) = At c
-readyCycle (Waiting e c) = Never
+readyCycle s = readyCycleOf (viewOf s)
+
+-- the cycle that a live thread counts at in earliest and in the floor: a ready thread's own
+abbrev pub liveCycle : State → Bound
+liveCycle s = readyCycle s
 
 -- what it waits on, and since when
 pub data Awaited : Type 0 where
   nothing : Awaited
   awaits : ℕ → Cycle → Awaited
 
+abbrev pub awaitedOf : View → Awaited
+awaitedOf idle = nothing
+awaitedOf (ready c) = nothing
+awaitedOf (waits e c) = awaits e c
+
 abbrev pub awaitedBy : State → Awaited
-awaitedBy (Ended c) = nothing
-awaitedBy (Overrun c) = nothing
-awaitedBy (Ready c) = nothing
-awaitedBy (Waiting e c) = awaits e c
+awaitedBy s = awaitedOf (viewOf s)
 
 -- the cycle that a state carries, whichever it is
 abbrev pub cycleOf : State → Cycle

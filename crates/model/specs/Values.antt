@@ -30,6 +30,10 @@ segmentAt m s = getD (m .segments) s noSegment
 unfoldable pub startAt : Model → ℕ → Start
 startAt m k = getD (m .starts) k noStart
 
+-- segment s as thread k runs it
+unfoldable pub segmentFor : Model → ℕ → ℕ → Segment
+segmentFor m k s = segmentAt m s
+
 -- the statements of a segment, in order
 unfoldable pub bodyOf : Segment → List Statement
 bodyOf g = take (g .n) (g .statements)

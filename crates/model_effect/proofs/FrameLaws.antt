@@ -26,7 +26,7 @@ use Rattle.model.specs.declared.Closer.{Closer}
 use Rattle.model.specs.declared.Closer.the-variants.{End, Time, Event}
 use Rattle.model.specs.declared.Segment.{Segment}
 use Rattle.model.specs.declared.Model.{Model}
-use Rattle.model.specs.Values.{segmentAt, bodyOf}
+use Rattle.model.specs.Values.{segmentFor, bodyOf}
 use Rattle.model.specs.Statement.{executeOp, execute}
 use Rattle.model.specs.Effect.{nextOf, closedAt, Effect, effectIn, effectOf}
 use Rattle.model.specs.Footprint.{writesOp, readsOp, writes, reads, testsNext, tests, writesOf, usesOf, writesIn, usesIn, listedIn}
@@ -191,15 +191,15 @@ module _ (g : Segment) (s : ℕ) (c : Cycle) where
 module _ (m : Model) (k s : ℕ) where
   pub writesIn→usesIn : (i : ℕ) → T (writesIn m k s i) → T (usesIn m k s i)
   unfolding usesIn writesIn
-  writesIn→usesIn i h = writesOf→usesOf (segmentAt m s) i h
+  writesIn→usesIn i h = writesOf→usesOf (segmentFor m k s) i h
 
   pub effectOf-frame : (c : Cycle) (v : List ℕ) (i : ℕ) → writesIn m k s i ≡ false → getD (effectOf m k s c v .variables) i 0 ≡ getD v i 0
   unfolding effectOf writesIn
-  effectOf-frame c v i h = effectIn-frame (segmentAt m s) s c v i h
+  effectOf-frame c v i h = effectIn-frame (segmentFor m k s) s c v i h
 
   pub effectOf-length : (c : Cycle) (v : List ℕ) → length (effectOf m k s c v .variables) ≡ length v
   unfolding effectOf
-  effectOf-length c v = effectIn-length (segmentAt m s) s c v
+  effectOf-length c v = effectIn-length (segmentFor m k s) s c v
 
   pub notified-listed : (c : Cycle) (v : List ℕ) → effectOf m k s c v .notified ≡ listedIn m k s
   unfolding effectOf effectIn listedIn
@@ -208,4 +208,4 @@ module _ (m : Model) (k s : ℕ) where
   pub effectOf-local : (c : Cycle) (v w : List ℕ) → Agree (λ i. T (usesIn m k s i)) v w
       → Alike (λ i. T (usesIn m k s i)) (effectOf m k s c v) (effectOf m k s c w)
   unfolding effectOf usesIn
-  effectOf-local c v w a = effectIn-local (segmentAt m s) s c v w a
+  effectOf-local c v w a = effectIn-local (segmentFor m k s) s c v w a

@@ -29,7 +29,7 @@ use Rattle.model.specs.declared.Closer.{Closer}
 use Rattle.model.specs.declared.Closer.the-variants.{End, Time, Event}
 use Rattle.model.specs.declared.Segment.{Segment}
 use Rattle.model.specs.declared.Model.{Model}
-use Rattle.model.specs.Values.{noStatement, segmentAt, startAt, bodyOf}
+use Rattle.model.specs.Values.{noStatement, segmentAt, segmentFor, startAt, bodyOf}
 use Rattle.model.specs.Statement.{notifiedByOp, notifiedBy}
 use Rattle.model.specs.Effect.{nextOf, closedAt}
 use Rattle.model.specs.Footprint.{writesOp, readsOp, writes, reads, testsNext, tests, writesOf, usesOf, writesIn, usesIn, has, listedIn, notifiesIn}
@@ -353,16 +353,27 @@ module _ (m : Model) (fit : modelFault m ≡ 0) where
   unfolding anyStartLeaves
   modelFault-first k l = ltb→lt (startAt m k .first) (m .n) (not-not (ltb (startAt m k .first) (m .n)) (anyBelow-none (m .t) _ (targets-kept .1) k l))
 
-  -- what thread k names in segment s
+  -- segment s as thread k runs it: it keeps the rules, and names what the model has
   module _ (k s : ℕ) (l : s < m .n) where
+    pub segmentFor-kept : segmentFault (m .v) (m .e) (segmentFor m k s) ≡ 0
+    unfolding segmentFor
+    segmentFor-kept = modelFault-segment s l
+
+    pub segmentFor-closer : closerFault (m .v) (m .e) (segmentFor m k s .closer) ≡ 0
+    segmentFor-closer = segmentFault-closer (m .v) (m .e) (segmentFor m k s) segmentFor-kept
+
+    pub segmentFor-next : leavesModel (m .n) (segmentFor m k s .closer) ≡ false
+    unfolding segmentFor
+    segmentFor-next = modelFault-next s l
+
     pub modelFault-writes : (i : ℕ) → T (writesIn m k s i) → i < m .v
     unfolding writesIn
-    modelFault-writes i t = segmentFault-writes (m .v) (m .e) (segmentAt m s) (modelFault-segment s l) i t
+    modelFault-writes i t = segmentFault-writes (m .v) (m .e) (segmentFor m k s) segmentFor-kept i t
 
     pub modelFault-uses : (i : ℕ) → T (usesIn m k s i) → i < m .v
     unfolding usesIn
-    modelFault-uses i t = segmentFault-uses (m .v) (m .e) (segmentAt m s) (modelFault-segment s l) i t
+    modelFault-uses i t = segmentFault-uses (m .v) (m .e) (segmentFor m k s) segmentFor-kept i t
 
     pub modelFault-notifies : (w : ℕ) → T (notifiesIn m k s w) → w < m .e
     unfolding notifiesIn listedIn
-    modelFault-notifies w t = segmentFault-notifies (m .v) (m .e) (segmentAt m s) (modelFault-segment s l) w t
+    modelFault-notifies w t = segmentFault-notifies (m .v) (m .e) (segmentFor m k s) segmentFor-kept w t

@@ -27,7 +27,7 @@ use Rattle.plain.specs.Step.{placeAt}
 use Rattle.plain.specs.History.{Item}
 use Rattle.tables.specs.Word.{distanceIn}
 use Rattle.early.specs.declared.Notification.{Notification}
-use Rattle.early.specs.Hazard.{marksConflict, isSooner, hazard}
+use Rattle.early.specs.Hazard.{threadsConflict, isSooner, hazard}
 use Rattle.early_laws.proofs.HazardLaws.{→isSooner}
 use Rattle.order.proofs.Places.{nowAt, recordAt, effectThere, Runs}
 use Rattle.order.proofs.PlainFacts.{PlainFacts, NextRun}
@@ -63,7 +63,7 @@ module _ (m : Model) (pf : PlainFacts m) (marks : List (List Bool)) (ws : List �
           touched : Touch m (r .place) k p a
           touched = touch-swap m p a (r .place) k touch
 
-          marked : T (marksConflict marks k (threadAt ts k .segment) a (recordAt m p a .segment))
+          marked : T (threadsConflict m marks k (threadAt ts k .segment) a (recordAt m p a .segment))
           marked = rw (same-record r) (kl .footprints .marked k (recordAt m (r .place) k .segment) a (recordAt m p a .segment) (touched .variable) (λ e. other (sym e)) (kl .footprints .reached (r .place) k (r .runs)) (kl .footprints .reached p a runs) (touched .shared))
 
           quiet : isSooner b a (stampAt c k) ≡ false

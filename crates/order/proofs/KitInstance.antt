@@ -26,7 +26,7 @@ use Rattle.model.specs.declared.Model.{Model}
 use Rattle.model.specs.declared.State.the-variants.{Ready, Waiting}
 use Rattle.model.specs.declared.Thread.{Thread}
 use Rattle.model.specs.Limits.{isBeforeHorizon}
-use Rattle.model.specs.Values.{segmentAt}
+use Rattle.model.specs.Values.{segmentAt, segmentFor}
 use Rattle.model.specs.Effect.{nextOf, closedAt, effectOf}
 use Rattle.model.specs.Footprint.{has, writesIn, usesIn, notifiesIn}
 use Rattle.model.specs.Rules.{modelFault}
@@ -42,7 +42,7 @@ use Rattle.plain_laws.proofs.RecordLaws.{stateAfter-Ready, stateAfter-not-Waiti
 use Rattle.plain_laws.proofs.RangeLaws as range
 use Rattle.plain_laws.proofs.KeepLaws.{effectOf-notifies, modelFault-keeps}
 use Rattle.early.specs.declared.Notification.{Notification}
-use Rattle.early.specs.Hazard.{marksConflict}
+use Rattle.early.specs.Hazard.{threadsConflict}
 use Rattle.early.specs.Fit.{isFitWord}
 use Rattle.early_laws.proofs.EarliestLaws.{earliestAt, earliest-ready, earliest-heard, earliest-linked, earliest-attained}
 use Rattle.early_laws.proofs.ForecastLaws as forecast
@@ -74,7 +74,7 @@ module _ (m : Model) (fit : modelFault m ≡ 0) where
   agree k s x y l h = record { same-length = l; same = h }
 
   footprints : Footprints m (marksOf m)
-  unfolding marksConflict writesIn usesIn
+  unfolding threadsConflict writesIn usesIn segmentFor
   footprints =
       record {
         Reaches = λ k s. s < m .n;
@@ -102,13 +102,13 @@ module _ (m : Model) (fit : modelFault m ≡ 0) where
   next-below k a c x h = modelFault-keeps m fit .next k a c x h
 
   edge-ready : (k a : ℕ) (c d : Cycle) (x : List ℕ) → effectOf m k a c x .thread .state ≡ Ready d → At c ⊕ edge m a (effectOf m k a c x .thread .segment) ≡ At d
-  unfolding edge
+  unfolding edge segmentFor
   edge-ready k a c d x e =
       subst (λ (t : Thread). t .state ≡ Ready d → At c ⊕ stepOf (segmentAt m a .closer) (t .segment) ≡ At d) (sym (effectOf-thread m k a c x))
       (closed-ready a (segmentAt m a .closer) c d (effectOf m k a c x .variables)) e
 
   edge-waits : (k a e : ℕ) (c since : Cycle) (x : List ℕ) → effectOf m k a c x .thread .state ≡ Waiting e since → edge m a (effectOf m k a c x .thread .segment) ≡ oneDelta
-  unfolding edge
+  unfolding edge segmentFor
   edge-waits k a e c since x f =
       subst (λ (t : Thread). t .state ≡ Waiting e since → stepOf (segmentAt m a .closer) (t .segment) ≡ oneDelta) (sym (effectOf-thread m k a c x))
       (closed-waits a (segmentAt m a .closer) c since (effectOf m k a c x .variables) e) f
@@ -150,7 +150,7 @@ module _ (m : Model) (fit : modelFault m ≡ 0) where
         threads = modelFault-counts m fit .threads;
         events = modelFault-counts m fit .events;
         horizon = modelFault-horizon m fit .1;
-        fit-record = λ i k l. let p = range.in-range m kept i in →isFitThread m (recordAt m i k) (record { segment = p .fits k l .segment; cycle = record { time = range.record-time m kept i k l; delta = p .fits k l .delta }; event = p .fits k l .event });
+        fit-record = λ i k l. let p = range.in-range m kept i in →isFitThread m k (recordAt m i k) (record { segment = p .fits k l .segment; cycle = record { time = range.record-time m kept i k l; delta = p .fits k l .delta }; event = p .fits k l .event });
         fit-now = λ i. let p = range.in-range m kept i in →isFitCycle 1000000000 (nowAt m i) (record { time = omega (arith, p .now-time, modelFault-horizon m fit .1); delta = p .now-delta });
       }
 

@@ -25,7 +25,7 @@ use Rattle.model.specs.Rules.{modelFault}
 use Rattle.tables.specs.Word.{distanceIn}
 use Rattle.early.specs.declared.Notification.{Notification}
 use Rattle.early.specs.Forecast.{forecastOf}
-use Rattle.early.specs.Hazard.{marksConflict, isSooner, hazard}
+use Rattle.early.specs.Hazard.{threadsConflict, isSooner, hazard}
 use Rattle.early.specs.Fit.{isFitCycle, isFitThread, isUnfitWords}
 use Rattle.order.proofs.Places.{Runs, nowAt, recordAt}
 
@@ -42,7 +42,7 @@ pub record Footprints (m : Model) (marks : List (List Bool)) : Type 1 where
   pub local-notified : (k s : ℕ) (c : Cycle) (x y : List ℕ) → length x ≡ length y → ((v : ℕ) → T (usesIn m k s v) → getD x v 0 ≡ getD y v 0) → effectOf m k s c x .notified ≡ effectOf m k s c y .notified
   pub local-thread : (k s : ℕ) (c : Cycle) (x y : List ℕ) → length x ≡ length y → ((v : ℕ) → T (usesIn m k s v) → getD x v 0 ≡ getD y v 0) → effectOf m k s c x .thread ≡ effectOf m k s c y .thread
   -- different threads that touch a variable which one of them writes are marked as in conflict
-  pub marked : (i r j s v : ℕ) → (i ≡ j → ⊥) → Reaches i r → Reaches j s → (T (writesIn m i r v) × T (usesIn m j s v)) ⊎ (T (usesIn m i r v) × T (writesIn m j s v)) → T (marksConflict marks i r j s)
+  pub marked : (i r j s v : ℕ) → (i ≡ j → ⊥) → Reaches i r → Reaches j s → (T (writesIn m i r v) × T (usesIn m j s v)) ⊎ (T (usesIn m i r v) × T (writesIn m j s v)) → T (threadsConflict m marks i r j s)
 
 -- L2 and L3: distances along what a thread does, below the horizon; and what it lists as notifying
 pub record Distances (m : Model) (ws : List ℕ) : Type 0 where
@@ -69,7 +69,7 @@ pub record Forecasts (m : Model) (marks : List (List Bool)) (ws : List ℕ) (l :
       ⊎ ((j : ℕ) × (e : ℕ) × (since : Cycle) × (x : Notification) × (j < m .t) × (threadAt ts j .state ≡ Waiting e since) × List·Memᴰ x l × (x .event ≡ e) × (since ⊑ x .cycle) × Before (x .cycle) b)
   pub forecast-below : (e j s : ℕ) → j < m .t → T (isLive (threadAt ts j .state)) → s < m .n → T (notifiesIn m j s e) → forecastOf m ws l ts e ≼ earliest j ⊕ distanceIn m ws (threadAt ts j .segment) s
   pub forecast-attained : (e : ℕ) (b : Cycle) → forecastOf m ws l ts e ≡ At b → (j : ℕ) × (s : ℕ) × (j < m .t) × T (isLive (threadAt ts j .state)) × (earliest j ⊕ distanceIn m ws (threadAt ts j .segment) s ≡ At b)
-  pub no-hazard : (i : ℕ) (c : Cycle) → hazard m marks ws l ts i c ≡ false → (j s : ℕ) → j < m .t → (j ≡ i → ⊥) → T (isLive (threadAt ts j .state)) → s < m .n → T (marksConflict marks i (threadAt ts i .segment) j s) → isSooner (earliest j ⊕ distanceIn m ws (threadAt ts j .segment) s) j (stampAt c i) ≡ false
+  pub no-hazard : (i : ℕ) (c : Cycle) → hazard m marks ws l ts i c ≡ false → (j s : ℕ) → j < m .t → (j ≡ i → ⊥) → T (isLive (threadAt ts j .state)) → s < m .n → T (threadsConflict m marks i (threadAt ts i .segment) j s) → isSooner (earliest j ⊕ distanceIn m ws (threadAt ts j .segment) s) j (stampAt c i) ≡ false
   pub some-hazard : (i : ℕ) (c : Cycle) → hazard m marks ws l ts i c ≡ true → (j : ℕ) × (s : ℕ) × (j < m .t) × (j ≡ i → ⊥) × T (isLive (threadAt ts j .state)) × T (isSooner (earliest j ⊕ distanceIn m ws (threadAt ts j .segment) s) j (stampAt c i))
 
 -- L6 and the ranges of number 11: what a fit state is made of
@@ -79,7 +79,7 @@ pub record Ranges (m : Model) (ws : List ℕ) : Type 0 where
   pub threads : m .t ≤ 32
   pub events : m .e ≤ 32
   pub horizon : m .horizon .0 ≤ 1000000000
-  pub fit-record : (i k : ℕ) → k < m .t → T (isFitThread m (recordAt m i k))
+  pub fit-record : (i k : ℕ) → k < m .t → T (isFitThread m k (recordAt m i k))
   pub fit-now : (i : ℕ) → T (isFitCycle cutTime (nowAt m i))
 
 pub record KitLaws (m : Model) (marks : List (List Bool)) (ws : List ℕ) : Type 1 where

@@ -68,7 +68,7 @@ module _ (m : Model) (pf : PlainFacts m) (marks : List (List Bool)) (ws : List �
         ts
         (record {
           model = kl .ranges .model;
-          threads = →isUnfitThreads m ts (ic .size) (λ k below. subst (λ (t : Thread). T (isFitThread m t)) (sym (ic .records k below)) (kl .ranges .fit-record (cut k) k below));
+          threads = →isUnfitThreads m ts (ic .size) (λ k below. subst (λ (t : Thread). T (isFitThread m k t)) (sym (ic .records k below)) (kl .ranges .fit-record (cut k) k below));
           log = siteOf-fit m x l short logged-fit;
           words = kl .ranges .words;
         })

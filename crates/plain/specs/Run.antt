@@ -5,6 +5,7 @@ use lib.Dec.{ltb, leb, eqb}
 use lib.ListN.{length, replicate}
 use Rattle.model.specs.declared.Model.{Model}
 use Rattle.model.specs.Refusal.{accepted, unfit}
+use Rattle.model.specs.Limits.{endTime}
 use Rattle.model.specs.Record.{noThread}
 use Rattle.model.specs.Rules.{modelFault}
 use Rattle.plain.specs.declared.PlainRun.{PlainRun}
@@ -27,9 +28,9 @@ runFor m budget (suc steps) p =
     let on = runFor m budget steps (stepped m p) in
     cond (isDone m p || isOut m budget p) p on
 
--- steps after which every run is done: T + 1 for each of 1,024 deltas of each time before H
+-- steps after which every run is done: T + 1 for each of 1,024 deltas of each time before the end
 abbrev pub lastStep : Model → ℕ
-lastStep m = 1024 * m .horizon .0 * (m .t + 1)
+lastStep m = 1024 * endTime m * (m .t + 1)
 
 -- what is reported of a place: "spent" if it is not done
 unfoldable pub reported : Model → Place → PlainRun

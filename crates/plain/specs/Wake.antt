@@ -13,7 +13,7 @@ use Rattle.model.specs.declared.Model.{Model}
 use Rattle.model.specs.declared.State.{State}
 use Rattle.model.specs.declared.Thread.{Thread}
 use Rattle.model.specs.Limits.{isBoundBeforeHorizon}
-use Rattle.model.specs.Record.{threadAt, readyCycle, Awaited, nothing, awaits, awaitedBy, stateAfter}
+use Rattle.model.specs.Record.{threadAt, readyCycle, liveCycle, Awaited, nothing, awaits, awaitedBy, stateAfter}
 use Rattle.model.specs.Footprint.{has}
 
 -- "each thread waiting on an event notified in it, its wait begun in that cycle or before"
@@ -34,7 +34,7 @@ woken es c ts = map (wokenThread es c) ts
 
 -- "The next cycle is the least among ready threads." In document 01's "Early issue" this is the floor.
 unfoldable pub floorOf : Model → List Thread → Bound
-floorOf m ts = leastBelow (m .t) (λ k. readyCycle (threadAt ts k .state))
+floorOf m ts = leastBelow (m .t) (λ k. liveCycle (threadAt ts k .state))
 
 -- whether some thread is ready before the horizon
 unfoldable pub someReady : Model → List Thread → Bool

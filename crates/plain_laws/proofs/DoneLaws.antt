@@ -22,10 +22,10 @@ use Rattle.clock.specs.declared.Bound.the-variants.{Never, At}
 use Rattle.clock.specs.Order.{Before}
 use Rattle.clock.proofs.OrderLaws.{Before-⊑-trans}
 use Rattle.model.specs.declared.Model.{Model}
-use Rattle.model.specs.declared.State.the-variants.{Ready}
 use Rattle.model.specs.declared.Thread.{Thread}
 use Rattle.model.specs.Limits.{isBeforeHorizon}
-use Rattle.model.specs.Record.{threadAt}
+use Rattle.model.specs.Record as view
+use Rattle.model.specs.Record.{threadAt, viewOf}
 use Rattle.plain.specs.Start.{Place}
 use Rattle.plain.specs.Wake.{floorOf, someReady}
 use Rattle.plain.specs.Step.{stepped, placeAt}
@@ -61,7 +61,7 @@ module _ (m : Model) (ts : List Thread) where
       go Never q = never q
       go (At c) q = late c q (not-T (isBeforeHorizon m c) (λ t. bad t (floorOf-attained m ts c q)))
         where
-          bad : T (isBeforeHorizon m c) → (k : ℕ) × (k < m .t) × (threadAt ts k .state ≡ Ready c) → ⊥
+          bad : T (isBeforeHorizon m c) → (k : ℕ) × (k < m .t) × (viewOf (threadAt ts k .state) ≡ view.ready c) → ⊥
           bad t (k, h, r) = T-not (someReady m ts) (false→T (someReady m ts) e) (true→T (someReady m ts) (someReady-found m ts k c h r t))
 
 -- an empty list
@@ -91,7 +91,7 @@ module _ (m : Model) (p : Place) where
       (false→T (someReady m (p .threads)) (d .none-ready)))
 
   -- no thread is ready before the horizon at a done place
-  pub isDone-ready : isDone m p ≡ true → (k : ℕ) (c : Cycle) → k < m .t → stateOf p k ≡ Ready c → T (isBeforeHorizon m c) → ⊥
+  pub isDone-ready : isDone m p ≡ true → (k : ℕ) (c : Cycle) → k < m .t → viewOf (stateOf p k) ≡ view.ready c → T (isBeforeHorizon m c) → ⊥
   isDone-ready e k c h q b =
       let f = someReady-found m (p .threads) k c h q b in
       let n = isDone-parts e .none-ready in
@@ -114,7 +114,7 @@ module _ (m : Model) (p : Place) where
       go (sees-passed q h r s) = absurd (omega (arith, d .turned))
       go (sees-begun q h c f b s) = absurd (begin (floorOf-attained m (p .threads) c (ap (floorOf m) (sym (done-woken d)) ∙ f)))
         where
-          begin : (k : ℕ) × (k < m .t) × (stateOf p k ≡ Ready c) → ⊥
+          begin : (k : ℕ) × (k < m .t) × (viewOf (stateOf p k) ≡ view.ready c) → ⊥
           begin (k, l, r) =
               let g = someReady-found m (p .threads) k c l r b in
               let n = d .none-ready in

@@ -15,12 +15,13 @@ use Rattle.clock.specs.declared.Cycle.{Cycle}
 use Rattle.clock.specs.Order.{Before, sooner, same-time}
 use Rattle.clock.specs.Wait.{lastDelta}
 use Rattle.model.specs.declared.Model.{Model}
-use Rattle.model.specs.declared.State.the-variants.{Ready}
 use Rattle.model.specs.declared.Thread.{Thread}
-use Rattle.model.specs.Limits.{isBeforeHorizon}
+use Rattle.model.specs.Limits.{endTime, isBeforeHorizon}
+use Rattle.model.specs.Record as view
+use Rattle.model.specs.Record.{viewOf}
 use Rattle.plain.specs.Step.{stepped, placeAt}
 use Rattle.plain.specs.Run.{isDone, lastStep}
-use Rattle.plain_laws.proofs.RecordLaws.{Ready-same, Ready-not-Waiting}
+use Rattle.plain_laws.proofs.RecordLaws.{ready-same, ready-not-waits}
 use Rattle.plain_laws.proofs.StepLaws.{stateOf, placeAt-more}
 use Rattle.plain_laws.proofs.StartLaws.{shape}
 use Rattle.plain_laws.proofs.HappenLaws.{Runs, Happens, idle, runs, hears, happens-at}
@@ -75,7 +76,7 @@ module _ (m : Model) (kept : Keeps m) where
       go (inl d) = d
       go (inr l) =
           let r = in-range m kept (lastStep m) in
-          absurd (last-cycle (keyOf (placeAt m (lastStep m) .now)) (m .horizon .0) (m .t) (placeAt m (lastStep m) .turn)
+          absurd (last-cycle (keyOf (placeAt m (lastStep m) .now)) (endTime m) (m .t) (placeAt m (lastStep m) .turn)
           (omega (arith, r .now-time, r .now-delta)) (shape m (lastStep m) .turns) l)
 
   pub done-at : (i : ℕ) → lastStep m ≤ i → isDone m (placeAt m i) ≡ true
@@ -90,19 +91,19 @@ pub record Running (m : Model) (k n : ℕ) (c : Cycle) : Type 0 where
 
 module _ (m : Model) (k n : ℕ) (c : Cycle) where
   -- it runs within d steps if it is not ready at c after them
-  runs-within : (d j : ℕ) → Quiet m k n j → stateOf (placeAt m n) k ≡ Ready c → (stateOf (placeAt m (j + d)) k ≡ Ready c → ⊥) → Running m k n c
-  runs-within zero j g r stop = absurd (stop (rw add-zero (ap (λ (t : Thread). t .state) (g .still j (g .forth) (omega arith)) ∙ r)))
+  runs-within : (d j : ℕ) → Quiet m k n j → viewOf (stateOf (placeAt m n) k) ≡ view.ready c → (viewOf (stateOf (placeAt m (j + d)) k) ≡ view.ready c → ⊥) → Running m k n c
+  runs-within zero j g r stop = absurd (stop (rw add-zero (ap (λ (t : Thread). viewOf (t .state)) (g .still j (g .forth) (omega arith)) ∙ r)))
   runs-within (suc d) j g r stop = go (runs-within d (suc j)) (happens-at m j k)
     where
-      here : stateOf (placeAt m j) k ≡ Ready c
-      here = ap (λ (t : Thread). t .state) (g .still j (g .forth) (omega arith)) ∙ r
+      here : viewOf (stateOf (placeAt m j) k) ≡ view.ready c
+      here = ap (λ (t : Thread). viewOf (t .state)) (g .still j (g .forth) (omega arith)) ∙ r
 
-      go : (Quiet m k n (suc j) → stateOf (placeAt m n) k ≡ Ready c → (stateOf (placeAt m (suc j + d)) k ≡ Ready c → ⊥) → Running m k n c) → Happens m (placeAt m j) k → Running m k n c
-      go ih (idle s x h i) = let e : suc j + d ≡ j + suc d = omega arith in ih (quiet-more m k n j g s x h i) r (λ f. stop (subst (λ (y : ℕ). stateOf (placeAt m y) k ≡ Ready c) e f))
-      go ih (runs x y s i) = record { place = j; quiet = g; runs = x; now = Ready-same (sym y ∙ here) }
-      go ih (hears e h s i) = absurd (Ready-not-Waiting here (h .waiting))
+      go : (Quiet m k n (suc j) → viewOf (stateOf (placeAt m n) k) ≡ view.ready c → (viewOf (stateOf (placeAt m (suc j + d)) k) ≡ view.ready c → ⊥) → Running m k n c) → Happens m (placeAt m j) k → Running m k n c
+      go ih (idle s x h i) = let e : suc j + d ≡ j + suc d = omega arith in ih (quiet-more m k n j g s x h i) r (λ f. stop (subst (λ (y : ℕ). viewOf (stateOf (placeAt m y) k) ≡ view.ready c) e f))
+      go ih (runs x y s i) = record { place = j; quiet = g; runs = x; now = ready-same (sym y ∙ here) }
+      go ih (hears e h s i) = absurd (ready-not-waits here (h .waiting))
 
-  pub will-run : Keeps m → k < m .t → stateOf (placeAt m n) k ≡ Ready c → T (isBeforeHorizon m c) → Running m k n c
+  pub will-run : Keeps m → k < m .t → viewOf (stateOf (placeAt m n) k) ≡ view.ready c → T (isBeforeHorizon m c) → Running m k n c
   will-run kept h r b =
       runs-within (lastStep m) n (quiet-none m k n) r
       (λ q. isDone-ready m (placeAt m (n + lastStep m)) (done-at m kept (n + lastStep m) (omega arith)) k c h q b)

@@ -19,8 +19,8 @@ use Rattle.clock.specs.declared.Wait.the-variants as wait
 use Rattle.clock.specs.Order.{_⊑_}
 use Rattle.clock.specs.Wait.{waitEnds}
 use Rattle.model.specs.declared.Model.{Model}
-use Rattle.model.specs.declared.State.the-variants.{Ready, Waiting}
-use Rattle.model.specs.Record.{threadAt, awaitedBy, stateAfter}
+use Rattle.model.specs.Record as view
+use Rattle.model.specs.Record.{threadAt, awaitedBy, stateAfter, viewOf}
 use Rattle.model.specs.Effect.{effectOf}
 use Rattle.model.specs.Footprint.{has}
 use Rattle.plain.specs.Start.{Place}
@@ -30,29 +30,29 @@ use Rattle.plain.specs.History.{heard, heardItem, itemsAt, historyAt}
 use Rattle.plain.specs.History as history
 use Rattle.plain_laws.proofs.RecordLaws.{thread-path, threadAt-set, threadAt-other}
 use Rattle.plain_laws.proofs.WakeLaws.{Wakes, rises, sleeps, wakes, woken-at}
-use Rattle.plain_laws.proofs.StepLaws.{recordOf, stateOf, wokenAt, effectAt, Kind, ran, passed, closed, kindOf, Sees, sees, sees-ran, sees-passed, sees-begun, sees-rested, ran-not-passed, ran-not-closed, passed-not-closed, Ready→isDue, isDue→Ready}
+use Rattle.plain_laws.proofs.StepLaws.{recordOf, stateOf, wokenAt, effectAt, Kind, ran, passed, closed, kindOf, Sees, sees, sees-ran, sees-passed, sees-begun, sees-rested, ran-not-passed, ran-not-closed, passed-not-closed, ready→isDue, isDue→ready}
 use Rattle.plain_laws.proofs.StartLaws.{shape}
 
 -- what the step adds to the history of thread k, by its kind
 module _ (m : Model) (p : Place) (k : ℕ) where
-  itemsAt-ran : p .turn < m .t → p .turn ≡ k → stateOf p (p .turn) ≡ Ready (p .now) → itemsAt m p k ≡ history.ran (recordOf p k .segment) (p .now) ∷ []
+  itemsAt-ran : p .turn < m .t → p .turn ≡ k → viewOf (stateOf p (p .turn)) ≡ view.ready (p .now) → itemsAt m p k ≡ history.ran (recordOf p k .segment) (p .now) ∷ []
   unfolding itemsAt
-  itemsAt-ran h e d = rw (lt-ltb (p .turn) (m .t) h, eq-eqb (p .turn) k e, T→true (isDue p) (Ready→isDue p d)) refl
+  itemsAt-ran h e d = rw (lt-ltb (p .turn) (m .t) h, eq-eqb (p .turn) k e, T→true (isDue p) (ready→isDue p d)) refl
 
   itemsAt-other : p .turn < m .t → (p .turn ≡ k → ⊥) → itemsAt m p k ≡ []
   unfolding itemsAt
   itemsAt-other h e = rw (lt-ltb (p .turn) (m .t) h, ne-eqb (p .turn) k e) refl
 
-  itemsAt-passed : p .turn < m .t → (stateOf p (p .turn) ≡ Ready (p .now) → ⊥) → itemsAt m p k ≡ []
+  itemsAt-passed : p .turn < m .t → (viewOf (stateOf p (p .turn)) ≡ view.ready (p .now) → ⊥) → itemsAt m p k ≡ []
   unfolding itemsAt
   itemsAt-passed h d =
-      rw (lt-ltb (p .turn) (m .t) h, T→false (isDue p) (not-T (isDue p) (λ t. d (isDue→Ready p t)))) (both (eqb (p .turn) k))
+      rw (lt-ltb (p .turn) (m .t) h, T→false (isDue p) (not-T (isDue p) (λ t. d (isDue→ready p t)))) (both (eqb (p .turn) k))
     where
       both : (b : Bool) → cond (b && false) (history.ran (recordOf p k .segment) (p .now) ∷ []) [] ≡ []
       both true = refl
       both false = refl
 
-  itemsAt-heard : m .t ≤ p .turn → (e : ℕ) (since : Cycle) → stateOf p k ≡ Waiting e since
+  itemsAt-heard : m .t ≤ p .turn → (e : ℕ) (since : Cycle) → viewOf (stateOf p k) ≡ view.waits e since
       → T (isWoken (p .notified) (p .now) (awaitedBy (stateOf p k))) → itemsAt m p k ≡ heard e (p .now) ∷ []
   unfolding itemsAt heardItem
   itemsAt-heard h e since q t =
@@ -70,13 +70,13 @@ module _ (m : Model) where
   pub record Hears (p : Place) (k e : ℕ) : Type 0 where
     pub closing : kindOf m p ≡ closed
     pub since : Cycle
-    pub waiting : stateOf p k ≡ Waiting e since
+    pub waiting : viewOf (stateOf p k) ≡ view.waits e since
     pub notified : T (has (p .notified) e)
     pub begun : since ⊑ p .now
 
   pub data Happens (p : Place) (k : ℕ) : Type 0 where
     idle : recordOf (stepped m p) k ≡ recordOf p k → (Runs p k → ⊥) → ((e : ℕ) → Hears p k e → ⊥) → itemsAt m p k ≡ [] → Happens p k
-    runs : Runs p k → stateOf p k ≡ Ready (p .now)
+    runs : Runs p k → viewOf (stateOf p k) ≡ view.ready (p .now)
         → recordOf (stepped m p) k ≡ effectOf m k (recordOf p k .segment) (p .now) (p .variables) .thread
         → itemsAt m p k ≡ history.ran (recordOf p k .segment) (p .now) ∷ [] → Happens p k
     hears : (e : ℕ) → Hears p k e
@@ -103,7 +103,7 @@ module _ (m : Model) where
     where
       go : Sees m p → Dec (p .turn ≡ k) → Happens p k
       go (sees-ran q h r s) (yes e) =
-          runs (q, e) (subst (λ (j : ℕ). stateOf p j ≡ Ready (p .now)) e r)
+          runs (q, e) (subst (λ (j : ℕ). viewOf (stateOf p j) ≡ view.ready (p .now)) e r)
           (rw s (subst (λ (j : ℕ). threadAt (set (p .threads) (p .turn) (effectAt m p .thread)) j ≡ effectOf m j (recordOf p j .segment) (p .now) (p .variables) .thread) e (threadAt-set (p .threads) (p .turn) (effectAt m p .thread) (omega arith))))
           (itemsAt-ran m p k h e r)
       go (sees-ran q h r s) (no e) =
@@ -133,10 +133,10 @@ module _ (m : Model) where
       go (sees-begun r h c f b s) = absurd (ran-not-closed q r)
       go (sees-rested r h l s) = absurd (ran-not-closed q r)
 
-  pub Runs-ready : (p : Place) (k : ℕ) → Runs p k → stateOf p k ≡ Ready (p .now)
-  Runs-ready p k (q, e) = subst (λ (j : ℕ). stateOf p j ≡ Ready (p .now)) e (go (sees m p))
+  pub Runs-ready : (p : Place) (k : ℕ) → Runs p k → viewOf (stateOf p k) ≡ view.ready (p .now)
+  Runs-ready p k (q, e) = subst (λ (j : ℕ). viewOf (stateOf p j) ≡ view.ready (p .now)) e (go (sees m p))
     where
-      go : Sees m p → stateOf p (p .turn) ≡ Ready (p .now)
+      go : Sees m p → viewOf (stateOf p (p .turn)) ≡ view.ready (p .now)
       go (sees-ran r h d s) = d
       go (sees-passed r h d s) = absurd (ran-not-passed q r)
       go (sees-begun r h c f b s) = absurd (ran-not-closed q r)

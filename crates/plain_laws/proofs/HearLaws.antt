@@ -15,12 +15,13 @@ use Rattle.clock.specs.Order.{Before, _⊑_}
 use Rattle.clock.specs.Wait.{waitEnds}
 use Rattle.clock.proofs.OrderLaws.{⊑-refl, ⊑-trans, ≡→⊑, Before-irrefl, Before→not-⊑}
 use Rattle.model.specs.declared.Model.{Model}
-use Rattle.model.specs.declared.State.the-variants.{Waiting}
 use Rattle.model.specs.declared.Thread.{Thread}
 use Rattle.model.specs.Footprint.{has}
+use Rattle.model.specs.Record as view
+use Rattle.model.specs.Record.{viewOf}
 use Rattle.plain.specs.Start.{startOf}
 use Rattle.plain.specs.Step.{placeAt}
-use Rattle.plain_laws.proofs.RecordLaws.{Ready-not-Waiting, Waiting-event, stateAfter-not-Waiting, effectOf-waits}
+use Rattle.plain_laws.proofs.RecordLaws.{ready-not-waits, waits-event, stateAfter-not-waits, effectOf-waits}
 use Rattle.plain_laws.proofs.StepLaws.{recordOf, stateOf, closed, kindOf, ran-not-closed, placeAt-more}
 use Rattle.plain_laws.proofs.StartLaws.{startOf-ready, startOf-past}
 use Rattle.plain_laws.proofs.HappenLaws.{Runs, Hears, Happens, idle, runs, hears, happens-at}
@@ -31,35 +32,35 @@ use Rattle.plain_laws.proofs.NotifyLaws.{notified-kept, Says, Pending, 
 
 module _ (m : Model) where
   -- nobody waits at the start
-  start-waits : (k e : ℕ) (c : Cycle) → stateOf (startOf m) k ≡ Waiting e c → ⊥
+  start-waits : (k e : ℕ) (c : Cycle) → viewOf (stateOf (startOf m) k) ≡ view.waits e c → ⊥
   start-waits k e c w = go (decLt k (m .t))
     where
       go : Dec (k < m .t) → ⊥
       go (yes h) = let r = startOf-ready m k h in let z : _≡_ {A = ℕ} 0 1 = cc in omega arith
-      go (no h) = let r = ap (λ (t : Thread). t .state) (startOf-past m k (omega arith)) in let z : _≡_ {A = ℕ} 0 1 = cc in omega arith
+      go (no h) = let r = ap (λ (t : Thread). viewOf (t .state)) (startOf-past m k (omega arith)) in let z : _≡_ {A = ℕ} 0 1 = cc in omega arith
 
   -- a thread that waits after a step: it did so before, or it ran and waits since this cycle
   data Waited (t k e : ℕ) (c : Cycle) : Type 0 where
-    waited : stateOf (placeAt m t) k ≡ Waiting e c → (Hears m (placeAt m t) k e → ⊥) → Waited t k e c
+    waited : viewOf (stateOf (placeAt m t) k) ≡ view.waits e c → (Hears m (placeAt m t) k e → ⊥) → Waited t k e c
     began : Runs m (placeAt m t) k → c ≡ placeAt m t .now → Waited t k e c
 
-  waits : (t k e : ℕ) (c : Cycle) → stateOf (placeAt m (suc t)) k ≡ Waiting e c → Waited t k e c
+  waits : (t k e : ℕ) (c : Cycle) → viewOf (stateOf (placeAt m (suc t)) k) ≡ view.waits e c → Waited t k e c
   unfolding placeAt
   waits t k e c w = go (happens-at m t k)
     where
       go : Happens m (placeAt m t) k → Waited t k e c
-      go (idle s r h i) = waited (ap (λ (x : Thread). x .state) (sym s) ∙ w) (h e)
+      go (idle s r h i) = waited (ap (λ (x : Thread). viewOf (x .state)) (sym s) ∙ w) (h e)
       go (runs r d s i) =
           began r
-          (effectOf-waits m k (recordOf (placeAt m t) k .segment) (placeAt m t .now) (placeAt m t .variables) e c (ap (λ (x : Thread). x .state) (sym s) ∙ w))
-      go (hears v h s i) = absurd (stateAfter-not-Waiting (waitEnds wait.Event (placeAt m t .now)) e c (ap (λ (x : Thread). x .state) (sym s) ∙ w))
+          (effectOf-waits m k (recordOf (placeAt m t) k .segment) (placeAt m t .now) (placeAt m t .variables) e c (ap (λ (x : Thread). viewOf (x .state)) (sym s) ∙ w))
+      go (hears v h s i) = absurd (stateAfter-not-waits (waitEnds wait.Event (placeAt m t .now)) e c (ap (λ (x : Thread). viewOf (x .state)) (sym s) ∙ w))
 
-  pub begun : (t k e : ℕ) (c : Cycle) → stateOf (placeAt m t) k ≡ Waiting e c → c ⊑ placeAt m t .now
+  pub begun : (t k e : ℕ) (c : Cycle) → viewOf (stateOf (placeAt m t) k) ≡ view.waits e c → c ⊑ placeAt m t .now
   unfolding placeAt
   begun zero k e c w = absurd (start-waits k e c w)
   begun (suc t) k e c w = go (begun t k e c) (waits t k e c w)
     where
-      go : (stateOf (placeAt m t) k ≡ Waiting e c → c ⊑ placeAt m t .now) → Waited t k e c → c ⊑ placeAt m (suc t) .now
+      go : (viewOf (stateOf (placeAt m t) k) ≡ view.waits e c → c ⊑ placeAt m t .now) → Waited t k e c → c ⊑ placeAt m (suc t) .now
       go ih (waited v n) = ⊑-trans (ih v) (now-mono m t (suc t) (omega arith))
       go ih (began r f) = ⊑-trans (≡→⊑ f) (now-mono m t (suc t) (omega arith))
 
@@ -88,7 +89,7 @@ module _ (m : Model) where
       go (no l) = z .unclosed x (omega arith) h y
 
   -- A wait that lasts over the step: had the cycle of q closed in it, the thread would have heard.
-  unheard-waited : (t k q e : ℕ) (c : Cycle) → stateOf (placeAt m t) k ≡ Waiting e c → (Hears m (placeAt m t) k e → ⊥)
+  unheard-waited : (t k q e : ℕ) (c : Cycle) → viewOf (stateOf (placeAt m t) k) ≡ view.waits e c → (Hears m (placeAt m t) k e → ⊥)
       → (q < t → Unheard q e c t) → q < suc t → Says m q e → Unheard q e c (suc t)
   unheard-waited t k q e c w n old h s = go (pending m (suc t) q e h s)
     where
@@ -107,11 +108,11 @@ module _ (m : Model) where
               before-t (inl b) = inl b
               before-t (inr (j, v)) = absurd (closed-source x t e (omega arith) y (sym i ∙ j) (source m t e v))
 
-  pub unheard : (t k e : ℕ) (c : Cycle) → stateOf (placeAt m t) k ≡ Waiting e c → (q : ℕ) → q < t → Says m q e → Unheard q e c t
+  pub unheard : (t k e : ℕ) (c : Cycle) → viewOf (stateOf (placeAt m t) k) ≡ view.waits e c → (q : ℕ) → q < t → Says m q e → Unheard q e c t
   unheard zero k e c w q h s = absurd (omega arith)
   unheard (suc t) k e c w q h s = go (unheard t k e c) (waits t k e c w)
     where
-      go : (stateOf (placeAt m t) k ≡ Waiting e c → (q : ℕ) → q < t → Says m q e → Unheard q e c t) → Waited t k e c → Unheard q e c (suc t)
+      go : (viewOf (stateOf (placeAt m t) k) ≡ view.waits e c → (q : ℕ) → q < t → Says m q e → Unheard q e c t) → Waited t k e c → Unheard q e c (suc t)
       go ih (waited v n) = unheard-waited t k q e c v n (λ l. ih v q l s) h s
       go ih (began r f) = unheard-began t k q e c r f h s
 
@@ -122,13 +123,13 @@ pub record Hearing (m : Model) (k n e : ℕ) (c : Cycle) : Type 0 where
   pub hears : Hears m (placeAt m place) k e
   pub not-after : placeAt m place .now ⊑ c
 
-module _ (m : Model) (k n e : ℕ) (since : Cycle) (waits : stateOf (placeAt m n) k ≡ Waiting e since) where
-  here : (j : ℕ) → Quiet m k n j → stateOf (placeAt m j) k ≡ Waiting e since
-  here j g = ap (λ (t : Thread). t .state) (g .still j (g .forth) (omega arith)) ∙ waits
+module _ (m : Model) (k n e : ℕ) (since : Cycle) (waits : viewOf (stateOf (placeAt m n) k) ≡ view.waits e since) where
+  here : (j : ℕ) → Quiet m k n j → viewOf (stateOf (placeAt m j) k) ≡ view.waits e since
+  here j g = ap (λ (t : Thread). viewOf (t .state)) (g .still j (g .forth) (omega arith)) ∙ waits
 
   -- whoever hears hears the event that he waits on
   same-event : (j v : ℕ) → Quiet m k n j → Hears m (placeAt m j) k v → Hears m (placeAt m j) k e
-  same-event j v g h = subst (Hears m (placeAt m j) k) (Waiting-event (h .waiting) (here j g)) h
+  same-event j v g h = subst (Hears m (placeAt m j) k) (waits-event (h .waiting) (here j g)) h
 
   -- the next place, where it still waits and the event is still to be heard
   record Waits-on (j : ℕ) : Type 0 where
@@ -144,7 +145,7 @@ module _ (m : Model) (k n e : ℕ) (since : Cycle) (waits : stateOf (placeAt m n
     where
       go : Happens m (placeAt m j) k → Hearing m k n e (placeAt m j .now) ⊎ Waits-on j
       go (hears v h s i) = inl (record { place = j; quiet = g; hears = same-event j v g h; not-after = ⊑-refl })
-      go (runs x r s i) = absurd (Ready-not-Waiting r (here j g))
+      go (runs x r s i) = absurd (ready-not-waits r (here j g))
       go (idle s x h i) = on (moves-at m j)
         where
           closing : kindOf m (placeAt m j) ≡ closed → ⊥
@@ -195,7 +196,7 @@ module _ (m : Model) (k n e : ℕ) (since : Cycle) (waits : stateOf (placeAt m n
           → Hearing m k n e (placeAt m q .now)
       go (yes a) x on = heard-after q j a s b g
       go (no a) (hears v h y i) on = record { place = j; quiet = g; hears = same-event j v g h; not-after = now-mono m j q (omega arith) }
-      go (no a) (runs x r y i) on = absurd (Ready-not-Waiting r (here j g))
+      go (no a) (runs x r y i) on = absurd (ready-not-waits r (here j g))
       go (no a) (idle y x z i) on = on (omega arith) (omega arith) s b (quiet-more m k n j g y x z i)
 
   -- A notification of the event, made before place n or after it, in a cycle not before the wait: the thread hears by then.

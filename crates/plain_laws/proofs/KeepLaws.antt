@@ -13,24 +13,24 @@ use Rattle.model.specs.declared.Next.{Next}
 use Rattle.model.specs.declared.Closer.{Closer}
 use Rattle.model.specs.declared.Closer.the-variants.{End, Time, Event}
 use Rattle.model.specs.declared.Model.{Model}
-use Rattle.model.specs.declared.State.the-variants.{Waiting}
 use Rattle.model.specs.declared.Thread.{Thread}
 use Rattle.model.specs.Limits.{largestTime}
-use Rattle.model.specs.Values.{segmentAt}
-use Rattle.model.specs.Record.{cycleOf}
+use Rattle.model.specs.Values.{segmentFor}
+use Rattle.model.specs.Record as view
+use Rattle.model.specs.Record.{cycleOf, viewOf}
 use Rattle.model.specs.Effect.{closedAt, effectOf}
 use Rattle.model.specs.Footprint.{has, notifiesIn}
 use Rattle.model.specs.Rules.{modelFault}
 use Rattle.model_effect.proofs.EffectLaws.{delayOf, closedAt-cycle}
 use Rattle.model_effect.proofs.FrameLaws.{notified-listed, effectOf-length}
-use Rattle.model_rules.proofs.RuleLaws.{closerFault-delay, closerFault-event, closedAt-segment, modelFault-horizon, modelFault-counts, modelFault-closer, modelFault-next, modelFault-first, modelFault-notifies}
-use Rattle.plain_laws.proofs.RecordLaws.{stateAfter-not-Waiting, stateAfter-delta, effectOf-thread}
+use Rattle.model_rules.proofs.RuleLaws.{closerFault-delay, closerFault-event, closedAt-segment, modelFault-horizon, modelFault-counts, segmentFor-closer, segmentFor-next, modelFault-first, modelFault-notifies}
+use Rattle.plain_laws.proofs.RecordLaws.{stateAfter-not-waits, stateAfter-delta, effectOf-thread}
 use Rattle.plain_laws.proofs.RangeLaws.{Keeps}
 
-closedAt-waits-on : (s : ℕ) (g : Closer) (c d : Cycle) (v : List ℕ) (e : ℕ) → closedAt s g c v .state ≡ Waiting e d → (x : Next) × (g ≡ Event e x)
+closedAt-waits-on : (s : ℕ) (g : Closer) (c d : Cycle) (v : List ℕ) (e : ℕ) → viewOf (closedAt s g c v .state) ≡ view.waits e d → (x : Next) × (g ≡ Event e x)
 unfolding closedAt
 closedAt-waits-on s End c d v w e = absurd (let z : _≡_ {A = ℕ} 0 1 = cc in omega arith)
-closedAt-waits-on s (Time k x) c d v w e = absurd (stateAfter-not-Waiting (waitEnds (wait.Time k) c) w d e)
+closedAt-waits-on s (Time k x) c d v w e = absurd (stateAfter-not-waits (waitEnds (wait.Time k) c) w d e)
 closedAt-waits-on s (Event u x) c d v w e = let f : u ≡ w = cc in (x, rw f refl)
 
 closedAt-delta : (s : ℕ) (g : Closer) (c : Cycle) (v : List ℕ) → c .delta .0 ≤ lastDelta → cycleOf (closedAt s g c v .state) .delta .0 ≤ lastDelta
@@ -41,15 +41,15 @@ closedAt-delta s (Event w x) c v h = h
 
 module _ (m : Model) (k s : ℕ) (c : Cycle) (v : List ℕ) where
   -- its closer names the event that it waits on
-  pub effectOf-waits-on : (e : ℕ) (d : Cycle) → effectOf m k s c v .thread .state ≡ Waiting e d → (x : Next) × (segmentAt m s .closer ≡ Event e x)
+  pub effectOf-waits-on : (e : ℕ) (d : Cycle) → viewOf (effectOf m k s c v .thread .state) ≡ view.waits e d → (x : Next) × (segmentFor m k s .closer ≡ Event e x)
   effectOf-waits-on e d f =
-      closedAt-waits-on s (segmentAt m s .closer) c d (effectOf m k s c v .variables) e (ap (λ (t : Thread). t .state) (sym (effectOf-thread m k s c v)) ∙ f)
+      closedAt-waits-on s (segmentFor m k s .closer) c d (effectOf m k s c v .variables) e (ap (λ (t : Thread). viewOf (t .state)) (sym (effectOf-thread m k s c v)) ∙ f)
 
-  pub effectOf-time : cycleOf (effectOf m k s c v .thread .state) .time .0 ≤ c .time .0 + delayOf (segmentAt m s .closer)
-  effectOf-time = rw (effectOf-thread m k s c v) (closedAt-cycle s (segmentAt m s .closer) c (effectOf m k s c v .variables))
+  pub effectOf-time : cycleOf (effectOf m k s c v .thread .state) .time .0 ≤ c .time .0 + delayOf (segmentFor m k s .closer)
+  effectOf-time = rw (effectOf-thread m k s c v) (closedAt-cycle s (segmentFor m k s .closer) c (effectOf m k s c v .variables))
 
   pub effectOf-delta : c .delta .0 ≤ lastDelta → cycleOf (effectOf m k s c v .thread .state) .delta .0 ≤ lastDelta
-  effectOf-delta h = rw (effectOf-thread m k s c v) (closedAt-delta s (segmentAt m s .closer) c (effectOf m k s c v .variables) h)
+  effectOf-delta h = rw (effectOf-thread m k s c v) (closedAt-delta s (segmentFor m k s .closer) c (effectOf m k s c v .variables) h)
 
   -- what it notifies is listed
   pub effectOf-notifies : (e : ℕ) → T (has (effectOf m k s c v .notified) e) → T (notifiesIn m k s e)
@@ -76,13 +76,13 @@ modelFault-keeps m fit =
     next : (k s : ℕ) (c : Cycle) (v : List ℕ) → s < m .n → effectOf m k s c v .thread .segment < m .n
     next k s c v h =
         rw (effectOf-thread m k s c v)
-        (closedAt-segment (m .n) s (segmentAt m s .closer) c (effectOf m k s c v .variables) h (modelFault-next m fit s h))
+        (closedAt-segment (m .n) s (segmentFor m k s .closer) c (effectOf m k s c v .variables) h (segmentFor-next m fit k s h))
 
-    event : (k s : ℕ) (c : Cycle) (v : List ℕ) (e : ℕ) (d : Cycle) → s < m .n → effectOf m k s c v .thread .state ≡ Waiting e d → e < m .e
+    event : (k s : ℕ) (c : Cycle) (v : List ℕ) (e : ℕ) (d : Cycle) → s < m .n → viewOf (effectOf m k s c v .thread .state) ≡ view.waits e d → e < m .e
     event k s c v e d h w =
         let (x, q) = effectOf-waits-on m k s c v e d w in
-        closerFault-event (m .v) (m .e) e x (rw q at (modelFault-closer m fit s h))
+        closerFault-event (m .v) (m .e) e x (rw q at (segmentFor-closer m fit k s h))
 
     time : (k s : ℕ) (c : Cycle) (v : List ℕ) → s < m .n → cycleOf (effectOf m k s c v .thread .state) .time .0 ≤ c .time .0 + largestTime
     time k s c v h =
-        omega (arith, effectOf-time m k s c v, closerFault-delay (m .v) (m .e) (segmentAt m s .closer) (modelFault-closer m fit s h))
+        omega (arith, effectOf-time m k s c v, closerFault-delay (m .v) (m .e) (segmentFor m k s .closer) (segmentFor-closer m fit k s h))

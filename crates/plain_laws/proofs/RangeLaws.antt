@@ -15,16 +15,16 @@ use Rattle.clock.specs.declared.Cycle.{Cycle}
 use Rattle.clock.specs.declared.Wait.the-variants as wait
 use Rattle.clock.specs.Wait.{lastDelta, waitEnds}
 use Rattle.model.specs.declared.Model.{Model}
-use Rattle.model.specs.declared.State.the-variants.{Ready, Waiting}
 use Rattle.model.specs.declared.Thread.{Thread}
-use Rattle.model.specs.Limits.{largestTime, recordTime, isBeforeHorizon}
+use Rattle.model.specs.Limits.{endTime, largestTime, recordTime, isBeforeHorizon}
 use Rattle.model.specs.Values.{startAt}
-use Rattle.model.specs.Record.{cycleOf}
+use Rattle.model.specs.Record as view
+use Rattle.model.specs.Record.{cycleOf, viewOf}
 use Rattle.model.specs.Effect.{effectOf}
 use Rattle.model.specs.Footprint.{has}
 use Rattle.plain.specs.Start.{Place, started, startOf}
 use Rattle.plain.specs.Step.{stepped, placeAt}
-use Rattle.plain_laws.proofs.RecordLaws.{stateAfter-not-Waiting, horizon→<, <→horizon, has-append, has-none, heard-time, heard-delta}
+use Rattle.plain_laws.proofs.RecordLaws.{ready-cycle, stateAfter-not-waits, horizon→<, <→horizon, has-append, has-none, heard-time, heard-delta}
 use Rattle.plain_laws.proofs.WakeLaws.{floorOf-attained}
 use Rattle.plain_laws.proofs.StepLaws.{recordOf, stateOf, wokenAt, effectAt, Sees, sees, sees-ran, sees-passed, sees-begun, sees-rested, stepped-threads-length}
 use Rattle.plain_laws.proofs.StartLaws.{startOf-record, startOf-now, startOf-notified, startOf-length, shape}
@@ -38,7 +38,7 @@ pub record Keeps (m : Model) : Type 0 where
   pub first : (k : ℕ) → k < m .t → startAt m k .first < m .n
   -- a thread k that runs segment s at cycle c
   pub next : (k s : ℕ) (c : Cycle) (v : List ℕ) → s < m .n → effectOf m k s c v .thread .segment < m .n
-  pub event : (k s : ℕ) (c : Cycle) (v : List ℕ) (e : ℕ) (d : Cycle) → s < m .n → effectOf m k s c v .thread .state ≡ Waiting e d → e < m .e
+  pub event : (k s : ℕ) (c : Cycle) (v : List ℕ) (e : ℕ) (d : Cycle) → s < m .n → viewOf (effectOf m k s c v .thread .state) ≡ view.waits e d → e < m .e
   pub notifies : (k s : ℕ) (c : Cycle) (v : List ℕ) (e : ℕ) → s < m .n → T (has (effectOf m k s c v .notified) e) → e < m .e
   pub time : (k s : ℕ) (c : Cycle) (v : List ℕ) → s < m .n → cycleOf (effectOf m k s c v .thread .state) .time .0 ≤ c .time .0 + largestTime
   pub delta : (k s : ℕ) (c : Cycle) (v : List ℕ) → c .delta .0 ≤ lastDelta → cycleOf (effectOf m k s c v .thread .state) .delta .0 ≤ lastDelta
@@ -47,13 +47,13 @@ pub record Keeps (m : Model) : Type 0 where
 -- one record in range
 pub record Fits (m : Model) (t : Thread) : Type 0 where
   pub segment : t .segment < m .n
-  pub event : (e : ℕ) (c : Cycle) → t .state ≡ Waiting e c → e < m .e
-  pub time : cycleOf (t .state) .time .0 < m .horizon .0 + largestTime
+  pub event : (e : ℕ) (c : Cycle) → viewOf (t .state) ≡ view.waits e c → e < m .e
+  pub time : cycleOf (t .state) .time .0 < endTime m + largestTime
   pub delta : cycleOf (t .state) .delta .0 ≤ lastDelta
 
 pub record InRange (m : Model) (p : Place) : Type 0 where
   pub fits : (k : ℕ) → k < m .t → Fits m (recordOf p k)
-  pub now-time : p .now .time .0 < m .horizon .0
+  pub now-time : p .now .time .0 < endTime m
   pub now-delta : p .now .delta .0 ≤ lastDelta
   pub notified : (e : ℕ) → T (has (p .notified) e) → e < m .e
 
@@ -87,7 +87,7 @@ module _ (m : Model) (kept : Keeps m) where
           subst (Fits m) (sym s)
           (record {
             segment = old .segment;
-            event = λ e c w. absurd (stateAfter-not-Waiting (waitEnds wait.Event (p .now)) e c w);
+            event = λ e c w. absurd (stateAfter-not-waits (waitEnds wait.Event (p .now)) e c w);
             time = omega (arith, heard-time (p .now), g .now-time);
             delta = heard-delta (p .now) (g .now-delta);
           })
@@ -109,8 +109,8 @@ module _ (m : Model) (kept : Keeps m) where
           let (k, l, r) = floorOf-attained m (wokenAt p) f e in
           record { fits = fits; now-time = rw s (horizon→< m f b); now-delta = rw s (begins k l (rw s r)); notified = λ v t. absurd (has-none v (rw s at t)) }
         where
-          begins : (k : ℕ) → k < m .t → stateOf (stepped m p) k ≡ Ready f → f .delta .0 ≤ lastDelta
-          begins k l r = rw r at (fits k l .delta)
+          begins : (k : ℕ) → k < m .t → viewOf (stateOf (stepped m p) k) ≡ view.ready f → f .delta .0 ≤ lastDelta
+          begins k l r = rw (ready-cycle (stateOf (stepped m p) k) f r) at (fits k l .delta)
       go (sees-rested q h l s) = record { fits = fits; now-time = rw s (g .now-time); now-delta = rw s (g .now-delta); notified = λ v t. absurd (has-none v (rw s at t)) }
 
   pub in-range : (i : ℕ) → InRange m (placeAt m i)
@@ -122,12 +122,12 @@ module _ (m : Model) (kept : Keeps m) where
   pub now-before : (i : ℕ) → T (isBeforeHorizon m (placeAt m i .now))
   now-before i = <→horizon m (placeAt m i .now) (in-range i .now-time)
 
-  -- "record time of 2,000,000,000 or more" does not occur
+  -- no record is out of range
   pub record-time : (i k : ℕ) → k < m .t → cycleOf (stateOf (placeAt m i) k) .time .0 < recordTime
   record-time i k h = omega (arith, in-range i .fits k h .time, kept .horizon-most)
 
-  pub ready-time : (i k : ℕ) (c : Cycle) → k < m .t → stateOf (placeAt m i) k ≡ Ready c → c .time .0 < m .horizon .0 + largestTime
-  ready-time i k c h r = rw r at (in-range i .fits k h .time)
+  pub ready-time : (i k : ℕ) (c : Cycle) → k < m .t → viewOf (stateOf (placeAt m i) k) ≡ view.ready c → c .time .0 < endTime m + largestTime
+  ready-time i k c h r = rw (ready-cycle (stateOf (placeAt m i) k) c r) at (in-range i .fits k h .time)
 
   pub threads-length : (i : ℕ) → length (placeAt m i .threads) ≡ 32
   unfolding placeAt

@@ -1,7 +1,7 @@
 -- What the plain run uses of the model's definitions beside the model's own laws: records, effects, the horizon and lists of events.
 -- They are opened here and in no later file.
 --     thread-path, threadAt-at, threadAt-set, threadAt-other, threadAt-past, threadAt-map     one record of a list
---     readyCycle-Ready, stateAfter-Ready, stateAfter-not-Waiting     which state it is
+--     readyCycle→ready, ready→state, waits→state, stateAfter-ready, stateAfter-not-waits     which state it is
 --     effectOf-later, effectOf-waits     a thread that has run is ready later, or waits since now
 --     stateAfter-delta, heard-time, heard-delta     what stays in range
 --     horizon→<, <→horizon, horizon-mono     before the horizon
@@ -9,7 +9,7 @@
 use Prim.Native.Nat.{ℕ, _<_, _≤_}
 use mathlib.Core.Path.{_≡_, refl, ap, sym, _∙_, subst}
 use mathlib.Core.Logic.{_⊎_, inl, inr}
-use mathlib.Core.Bool.{_||_}
+use mathlib.Core.Bool.{not, _||_}
 use mathlib.Core.List.{List, [], _∷_, _++_, map}
 use native.Mathlib.Omega.{arith}
 use lib.Dec.{T, eqb, ltb→lt, lt→ltb}
@@ -31,9 +31,10 @@ use Rattle.model.specs.declared.Model.{Model}
 use Rattle.model.specs.declared.State.{State}
 use Rattle.model.specs.declared.State.the-variants.{Ended, Overrun, Ready, Waiting}
 use Rattle.model.specs.declared.Thread.{Thread}
-use Rattle.model.specs.Limits.{isBeforeHorizon, isBoundBeforeHorizon}
-use Rattle.model.specs.Record.{noThread, threadAt, readyCycle, cycleOf, stateAfter}
-use Rattle.model.specs.Values.{segmentAt}
+use Rattle.model.specs.Limits.{endTime, isBeforeHorizon, isBoundBeforeHorizon}
+use Rattle.model.specs.Record as view
+use Rattle.model.specs.Record.{awaits, noThread, threadAt, cycleOf, stateAfter, View, viewOf, readyCycleOf, isLiveView, awaitedOf}
+use Rattle.model.specs.Values.{segmentFor}
 use Rattle.model.specs.Effect.{closedAt, effectIn, effectOf}
 use Rattle.model.specs.Footprint.{has}
 
@@ -61,42 +62,71 @@ module _ (ts : List Thread) where
   unfolding threadAt
   threadAt-map f e k = ap (λ (d : Thread). getD (map f ts) k d) (sym e) ∙ List·getD-map f ts k noThread
 
-pub Ready-same : {c d : Cycle} → Ready c ≡ Ready d → c ≡ d
-Ready-same e = cc
+pub ready-same : {c d : Cycle} → view.ready c ≡ view.ready d → c ≡ d
+ready-same e = cc
 
-pub Ready-not-Waiting : {s : State} {e : ℕ} {c d : Cycle} → s ≡ Ready c → s ≡ Waiting e d → ⊥
-Ready-not-Waiting p q = let z : _≡_ {A = ℕ} 0 1 = cc in omega arith
+pub ready-not-waits : {v : View} {e : ℕ} {c d : Cycle} → v ≡ view.ready c → v ≡ view.waits e d → ⊥
+ready-not-waits p q = let z : _≡_ {A = ℕ} 0 1 = cc in omega arith
 
-pub Waiting-event : {s : State} {v e : ℕ} {c d : Cycle} → s ≡ Waiting v c → s ≡ Waiting e d → v ≡ e
-Waiting-event p q = cc
+pub waits-event : {v : View} {f e : ℕ} {c d : Cycle} → v ≡ view.waits f c → v ≡ view.waits e d → f ≡ e
+waits-event p q = cc
 
-pub Waiting-since : {s : State} {v e : ℕ} {c d : Cycle} → s ≡ Waiting v c → s ≡ Waiting e d → c ≡ d
-Waiting-since p q = cc
+pub waits-since : {v : View} {f e : ℕ} {c d : Cycle} → v ≡ view.waits f c → v ≡ view.waits e d → c ≡ d
+waits-since p q = cc
 
-pub readyCycle-Ready : (s : State) (c : Cycle) → readyCycle s ≡ At c → s ≡ Ready c
-readyCycle-Ready (Ended d) c e = absurd (let z : _≡_ {A = ℕ} 0 1 = cc in omega arith)
-readyCycle-Ready (Overrun d) c e = absurd (let z : _≡_ {A = ℕ} 0 1 = cc in omega arith)
-readyCycle-Ready (Ready d) c e = cc
-readyCycle-Ready (Waiting v d) c e = absurd (let z : _≡_ {A = ℕ} 0 1 = cc in omega arith)
+pub readyCycle→ready : (v : View) (c : Cycle) → readyCycleOf v ≡ At c → v ≡ view.ready c
+readyCycle→ready view.idle c e = absurd (let z : _≡_ {A = ℕ} 0 1 = cc in omega arith)
+readyCycle→ready (view.ready d) c e = cc
+readyCycle→ready (view.waits f d) c e = absurd (let z : _≡_ {A = ℕ} 0 1 = cc in omega arith)
 
-pub stateAfter-Ready : (z : Step) (c : Cycle) → stateAfter z ≡ Ready c → z ≡ step.Ready c
-stateAfter-Ready (step.Ready d) c e = cc
-stateAfter-Ready (step.Overrun d) c e = absurd (let z : _≡_ {A = ℕ} 0 1 = cc in omega arith)
+pub awaits→waits : (v : View) (e : ℕ) (since : Cycle) → awaitedOf v ≡ awaits e since → v ≡ view.waits e since
+awaits→waits view.idle e since p = absurd (let z : _≡_ {A = ℕ} 0 1 = cc in omega arith)
+awaits→waits (view.ready d) e since p = absurd (let z : _≡_ {A = ℕ} 0 1 = cc in omega arith)
+awaits→waits (view.waits f d) e since p = cc
 
-pub stateAfter-not-Waiting : (z : Step) (e : ℕ) (c : Cycle) → stateAfter z ≡ Waiting e c → ⊥
-stateAfter-not-Waiting (step.Ready d) v c e = let z : _≡_ {A = ℕ} 0 1 = cc in omega arith
-stateAfter-not-Waiting (step.Overrun d) v c e = let z : _≡_ {A = ℕ} 0 1 = cc in omega arith
+pub not-live→idle : (v : View) → T (not (isLiveView v)) → v ≡ view.idle
+not-live→idle view.idle t = refl
+not-live→idle (view.ready c) t = absurd t
+not-live→idle (view.waits e c) t = absurd t
 
-closedAt-later : (s : ℕ) (g : Closer) (c d : Cycle) (v : List ℕ) → closedAt s g c v .state ≡ Ready d → Before c d
+-- a ready state, and a waiting one, are those that their view shows
+pub ready→state : (s : State) (c : Cycle) → viewOf s ≡ view.ready c → s ≡ Ready c
+ready→state (Ended d) c e = absurd (let z : _≡_ {A = ℕ} 0 1 = cc in omega arith)
+ready→state (Overrun d) c e = absurd (let z : _≡_ {A = ℕ} 0 1 = cc in omega arith)
+ready→state (Ready d) c e = cc
+ready→state (Waiting f d) c e = absurd (let z : _≡_ {A = ℕ} 0 1 = cc in omega arith)
+
+pub waits→state : (s : State) (f : ℕ) (c : Cycle) → viewOf s ≡ view.waits f c → s ≡ Waiting f c
+waits→state (Ended d) f c e = absurd (let z : _≡_ {A = ℕ} 0 1 = cc in omega arith)
+waits→state (Overrun d) f c e = absurd (let z : _≡_ {A = ℕ} 0 1 = cc in omega arith)
+waits→state (Ready d) f c e = absurd (let z : _≡_ {A = ℕ} 0 1 = cc in omega arith)
+waits→state (Waiting g d) f c e = cc
+
+-- the cycle that such a state carries
+pub ready-cycle : (s : State) (c : Cycle) → viewOf s ≡ view.ready c → cycleOf s ≡ c
+ready-cycle s c e = ap cycleOf (ready→state s c e)
+
+pub waits-cycle : (s : State) (f : ℕ) (c : Cycle) → viewOf s ≡ view.waits f c → cycleOf s ≡ c
+waits-cycle s f c e = ap cycleOf (waits→state s f c e)
+
+pub stateAfter-ready : (z : Step) (c : Cycle) → viewOf (stateAfter z) ≡ view.ready c → z ≡ step.Ready c
+stateAfter-ready (step.Ready d) c e = cc
+stateAfter-ready (step.Overrun d) c e = absurd (let z : _≡_ {A = ℕ} 0 1 = cc in omega arith)
+
+pub stateAfter-not-waits : (z : Step) (e : ℕ) (c : Cycle) → viewOf (stateAfter z) ≡ view.waits e c → ⊥
+stateAfter-not-waits (step.Ready d) v c e = let z : _≡_ {A = ℕ} 0 1 = cc in omega arith
+stateAfter-not-waits (step.Overrun d) v c e = let z : _≡_ {A = ℕ} 0 1 = cc in omega arith
+
+closedAt-later : (s : ℕ) (g : Closer) (c d : Cycle) (v : List ℕ) → viewOf (closedAt s g c v .state) ≡ view.ready d → Before c d
 unfolding closedAt
 closedAt-later s End c d v e = absurd (let z : _≡_ {A = ℕ} 0 1 = cc in omega arith)
-closedAt-later s (Time k x) c d v e = waitEnds-later (wait.Time k) c (stateAfter-Ready (waitEnds (wait.Time k) c) d e)
+closedAt-later s (Time k x) c d v e = waitEnds-later (wait.Time k) c (stateAfter-ready (waitEnds (wait.Time k) c) d e)
 closedAt-later s (Event w x) c d v e = absurd (let z : _≡_ {A = ℕ} 0 1 = cc in omega arith)
 
-closedAt-waits : (s : ℕ) (g : Closer) (c d : Cycle) (v : List ℕ) (e : ℕ) → closedAt s g c v .state ≡ Waiting e d → d ≡ c
+closedAt-waits : (s : ℕ) (g : Closer) (c d : Cycle) (v : List ℕ) (e : ℕ) → viewOf (closedAt s g c v .state) ≡ view.waits e d → d ≡ c
 unfolding closedAt
 closedAt-waits s End c d v w e = absurd (let z : _≡_ {A = ℕ} 0 1 = cc in omega arith)
-closedAt-waits s (Time k x) c d v w e = absurd (stateAfter-not-Waiting (waitEnds (wait.Time k) c) w d e)
+closedAt-waits s (Time k x) c d v w e = absurd (stateAfter-not-waits (waitEnds (wait.Time k) c) w d e)
 closedAt-waits s (Event u x) c d v w e = cc
 
 -- where the end of a wait leaves a thread: its delta in range, and after an event its time
@@ -118,45 +148,44 @@ heard-time c = go (waitEnds wait.Event c) refl
     go (step.Overrun d) e = ap (λ (x : Cycle). x .time .0) (waitEnds-overrun wait.Event c e)
 
 module _ (m : Model) (k s : ℕ) (c : Cycle) (v : List ℕ) where
-  pub effectOf-thread : effectOf m k s c v .thread ≡ closedAt s (segmentAt m s .closer) c (effectOf m k s c v .variables)
+  pub effectOf-thread : effectOf m k s c v .thread ≡ closedAt s (segmentFor m k s .closer) c (effectOf m k s c v .variables)
   unfolding effectOf effectIn
   effectOf-thread = refl
 
   -- a thread that has run is ready in a later cycle
-  pub effectOf-later : (d : Cycle) → effectOf m k s c v .thread .state ≡ Ready d → Before c d
+  pub effectOf-later : (d : Cycle) → viewOf (effectOf m k s c v .thread .state) ≡ view.ready d → Before c d
   effectOf-later d e =
-      closedAt-later s (segmentAt m s .closer) c d (effectOf m k s c v .variables) (ap (λ (t : Thread). t .state) (sym effectOf-thread) ∙ e)
+      closedAt-later s (segmentFor m k s .closer) c d (effectOf m k s c v .variables) (ap (λ (t : Thread). viewOf (t .state)) (sym effectOf-thread) ∙ e)
 
   -- one that now waits has begun to in this cycle
-  pub effectOf-waits : (e : ℕ) (d : Cycle) → effectOf m k s c v .thread .state ≡ Waiting e d → d ≡ c
+  pub effectOf-waits : (e : ℕ) (d : Cycle) → viewOf (effectOf m k s c v .thread .state) ≡ view.waits e d → d ≡ c
   effectOf-waits e d f =
-      closedAt-waits s (segmentAt m s .closer) c d (effectOf m k s c v .variables) e (ap (λ (t : Thread). t .state) (sym effectOf-thread) ∙ f)
+      closedAt-waits s (segmentFor m k s .closer) c d (effectOf m k s c v .variables) e (ap (λ (t : Thread). viewOf (t .state)) (sym effectOf-thread) ∙ f)
 
 -- "ready before H"
 module _ (m : Model) where
-  pub horizon→< : (c : Cycle) → T (isBeforeHorizon m c) → c .time .0 < m .horizon .0
+  pub horizon→< : (c : Cycle) → T (isBeforeHorizon m c) → c .time .0 < endTime m
   unfolding isBeforeHorizon
-  horizon→< c t = ltb→lt (c .time .0) (m .horizon .0) t
+  horizon→< c t = ltb→lt (c .time .0) (endTime m) t
 
-  pub <→horizon : (c : Cycle) → c .time .0 < m .horizon .0 → T (isBeforeHorizon m c)
+  pub <→horizon : (c : Cycle) → c .time .0 < endTime m → T (isBeforeHorizon m c)
   unfolding isBeforeHorizon
-  <→horizon c h = lt→ltb (c .time .0) (m .horizon .0) h
+  <→horizon c h = lt→ltb (c .time .0) (endTime m) h
 
   -- a cycle not after one before the horizon is before it
   pub horizon-mono : {c d : Cycle} → c ⊑ d → T (isBeforeHorizon m d) → T (isBeforeHorizon m c)
   horizon-mono {c} {d} (sooner p) t = <→horizon c (omega (arith, horizon→< d t))
   horizon-mono {c} {d} (same-time p q) t = <→horizon c (omega (arith, horizon→< d t))
 
-  pub readyCycle-before : (s : State) → T (isBoundBeforeHorizon m (readyCycle s)) → (c : Cycle) × (s ≡ Ready c) × T (isBeforeHorizon m c)
+  pub readyCycle-before : (v : View) → T (isBoundBeforeHorizon m (readyCycleOf v)) → (c : Cycle) × (v ≡ view.ready c) × T (isBeforeHorizon m c)
   unfolding isBoundBeforeHorizon
-  readyCycle-before (Ended d) t = absurd t
-  readyCycle-before (Overrun d) t = absurd t
-  readyCycle-before (Ready d) t = (d, refl, t)
-  readyCycle-before (Waiting e d) t = absurd t
+  readyCycle-before view.idle t = absurd t
+  readyCycle-before (view.ready d) t = (d, refl, t)
+  readyCycle-before (view.waits e d) t = absurd t
 
-  pub before-readyCycle : (s : State) (c : Cycle) → s ≡ Ready c → T (isBeforeHorizon m c) → T (isBoundBeforeHorizon m (readyCycle s))
+  pub before-readyCycle : (v : View) (c : Cycle) → v ≡ view.ready c → T (isBeforeHorizon m c) → T (isBoundBeforeHorizon m (readyCycleOf v))
   unfolding isBoundBeforeHorizon
-  before-readyCycle s c e t = subst (λ (x : State). T (isBoundBeforeHorizon m (readyCycle x))) (sym e) t
+  before-readyCycle v c e t = rw e t
 
 pub has-append : (a b : List ℕ) (e : ℕ) → T (has (a ++ b) e) → T (has a e) ⊎ T (has b e)
 unfolding has

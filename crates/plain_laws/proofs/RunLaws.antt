@@ -13,11 +13,12 @@ use native.Mathlib.Decide.{ℕ-discrete}
 use lib.Dec.{T, ltb, leb, ltb→lt, lt→ltb, leb→le, le→leb, T-not}
 use Rattle.base.proofs.BoolLaws.{T-case, T→true, T→false, true→T, and→both, both→and, either→or}
 use Rattle.model.specs.declared.Model.{Model}
-use Rattle.model.specs.declared.State.the-variants.{Ready}
+use Rattle.model.specs.Record as view
+use Rattle.model.specs.Record.{viewOf}
 use Rattle.plain.specs.Start.{Place}
 use Rattle.plain.specs.Step.{isDue, stepped, placeAt}
 use Rattle.plain.specs.Run.{isDone, isOut, runFor}
-use Rattle.plain_laws.proofs.StepLaws.{stateOf, isDue→Ready, Ready→isDue, Sees, sees, sees-ran, sees-passed, sees-begun, sees-rested, placeAt-more}
+use Rattle.plain_laws.proofs.StepLaws.{stateOf, isDue→ready, ready→isDue, Sees, sees, sees-ran, sees-passed, sees-begun, sees-rested, placeAt-more}
 use Rattle.plain_laws.proofs.StartLaws.{startOf-n}
 
 module _ (m : Model) (budget : ℕ) (p : Place) where
@@ -36,7 +37,7 @@ module _ (m : Model) (budget : ℕ) (p : Place) where
   -- the next segment has no place in the budget
   pub record Out : Type 0 where
     pub turn : p .turn < m .t
-    pub due : stateOf p (p .turn) ≡ Ready (p .now)
+    pub due : viewOf (stateOf p (p .turn)) ≡ view.ready (p .now)
     pub spent : budget ≤ p .n
 
   pub isOut-parts : isOut m budget p ≡ true → Out
@@ -44,14 +45,14 @@ module _ (m : Model) (budget : ℕ) (p : Place) where
   isOut-parts e =
       let (a, n) = and→both (ltb (p .turn) (m .t) && isDue p) (leb budget (p .n)) (true→T (isOut m budget p) e) in
       let (h, d) = and→both (ltb (p .turn) (m .t)) (isDue p) a in
-      record { turn = ltb→lt (p .turn) (m .t) h; due = isDue→Ready p d; spent = leb→le budget (p .n) n }
+      record { turn = ltb→lt (p .turn) (m .t) h; due = isDue→ready p d; spent = leb→le budget (p .n) n }
 
   pub isOut-made : Out → isOut m budget p ≡ true
   unfolding isOut
   isOut-made o =
       T→true (isOut m budget p)
       (both→and (ltb (p .turn) (m .t) && isDue p) (leb budget (p .n))
-      (both→and (ltb (p .turn) (m .t)) (isDue p) (lt→ltb (p .turn) (m .t) (o .turn)) (Ready→isDue p (o .due)))
+      (both→and (ltb (p .turn) (m .t)) (isDue p) (lt→ltb (p .turn) (m .t) (o .turn)) (ready→isDue p (o .due)))
       (le→leb budget (p .n) (o .spent)))
 
 -- a larger budget is not out sooner
@@ -128,7 +129,7 @@ module _ (m : Model) (budget : ℕ) where
   n-step : (p : Place) → p .n ≤ budget → GoesOn m budget p → stepped m p .n ≤ budget
   n-step p h (d, o) = go (sees m p)
     where
-      less : p .turn < m .t → stateOf p (p .turn) ≡ Ready (p .now) → Dec (p .n ≡ budget) → p .n < budget
+      less : p .turn < m .t → viewOf (stateOf p (p .turn)) ≡ view.ready (p .now) → Dec (p .n ≡ budget) → p .n < budget
       less l r (no e) = omega arith
       less l r (yes e) = absurd (T-not (isOut m budget p) o (true→T (isOut m budget p) (isOut-made m budget p (record { turn = l; due = r; spent = omega arith }))))
 

@@ -11,14 +11,14 @@ use Rattle.base.specs.Index.{tabulate}
 use Rattle.base.proofs.IndexLaws.{tabulate-length, tabulate-at}
 use Rattle.clock.specs.Cycle.{cycleAt}
 use Rattle.model.specs.declared.Model.{Model}
-use Rattle.model.specs.declared.State.the-variants.{Ready}
 use Rattle.model.specs.declared.Thread.{Thread}
 use Rattle.model.specs.Values.{startAt}
-use Rattle.model.specs.Record.{noThread, threadAt}
+use Rattle.model.specs.Record as view
+use Rattle.model.specs.Record.{noThread, threadAt, viewOf}
 use Rattle.plain.specs.Start.{Place, started, freshThreads, startOf}
 use Rattle.plain.specs.Step.{stepped, placeAt}
 use Rattle.plain_laws.proofs.RecordLaws.{threadAt-at, threadAt-other, thread-path}
-use Rattle.plain_laws.proofs.WakeLaws.{woken-at, wokenState-ended}
+use Rattle.plain_laws.proofs.WakeLaws.{woken-at, wokenState-idle}
 use Rattle.plain_laws.proofs.StepLaws.{recordOf, stateOf, effectAt, wokenAt, Sees, sees, sees-ran, sees-passed, sees-begun, sees-rested, stepped-threads-length}
 
 replicate-any : {A : Type 0} (n i : ℕ) (a : A) → getD (replicate n a) i a ≡ a
@@ -42,9 +42,9 @@ module _ (m : Model) where
       ∙ tabulate-at (m .t) 0 k (λ j. started (startAt m j)) noThread h
       ∙ ap (λ (j : ℕ). started (startAt m j)) (omega arith)
 
-  pub startOf-ready : (k : ℕ) → k < m .t → stateOf (startOf m) k ≡ Ready (cycleAt 0 0)
+  pub startOf-ready : (k : ℕ) → k < m .t → viewOf (stateOf (startOf m) k) ≡ view.ready (cycleAt 0 0)
   unfolding started
-  startOf-ready k h = ap (λ (t : Thread). t .state) (startOf-record k h)
+  startOf-ready k h = ap (λ (t : Thread). viewOf (t .state)) (startOf-record k h)
 
   pub startOf-now : startOf m .now ≡ cycleAt 0 0
   unfolding startOf
@@ -91,7 +91,7 @@ module _ (m : Model) where
   pub woken-past : (p : Place) → Shape p → (k : ℕ) → m .t ≤ k → threadAt (wokenAt p) k ≡ noThread
   woken-past p g k h =
       woken-at (p .notified) (p .now) (p .threads) k
-      ∙ rw (g .past k h) (thread-path refl (wokenState-ended (p .notified) (p .now) _))
+      ∙ rw (g .past k h) (thread-path refl (wokenState-idle (p .notified) (p .now) _ refl))
 
   shape-step : (p : Place) → Shape p → Shape (stepped m p)
   shape-step p g = record { enough = omega (arith, g .enough, stepped-threads-length m p); past = λ k h. past k h (sees m p); turns = turns (sees m p) }

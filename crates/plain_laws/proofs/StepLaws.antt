@@ -19,10 +19,10 @@ use Rattle.clock.specs.declared.Bound.the-variants.{Never, At}
 use Rattle.clock.proofs.CycleLaws.{isSame→≡, ≡→isSame}
 use Rattle.model.specs.declared.Model.{Model}
 use Rattle.model.specs.declared.State.{State}
-use Rattle.model.specs.declared.State.the-variants.{Ended, Overrun, Ready, Waiting}
 use Rattle.model.specs.declared.Thread.{Thread}
 use Rattle.model.specs.Limits.{isBeforeHorizon}
-use Rattle.model.specs.Record.{threadAt, readyCycle}
+use Rattle.model.specs.Record as view
+use Rattle.model.specs.Record.{threadAt, View, viewOf, readyCycleOf}
 use Rattle.model.specs.Effect.{Effect, effectOf}
 use Rattle.plain.specs.Start.{Place}
 use Rattle.plain.specs.Wake.{woken, floorOf}
@@ -78,29 +78,28 @@ pub data Late (m : Model) (f : Bound) : Type 0 where
 
 -- the kind of a step, and what it tells; a close begins the next cycle, or rests
 pub data Sees (m : Model) (p : Place) : Type 0 where
-  sees-ran : kindOf m p ≡ ran → p .turn < m .t → stateOf p (p .turn) ≡ Ready (p .now) → stepped m p ≡ ranAt m p → Sees m p
-  sees-passed : kindOf m p ≡ passed → p .turn < m .t → (stateOf p (p .turn) ≡ Ready (p .now) → ⊥) → stepped m p ≡ passedAt p → Sees m p
+  sees-ran : kindOf m p ≡ ran → p .turn < m .t → viewOf (stateOf p (p .turn)) ≡ view.ready (p .now) → stepped m p ≡ ranAt m p → Sees m p
+  sees-passed : kindOf m p ≡ passed → p .turn < m .t → (viewOf (stateOf p (p .turn)) ≡ view.ready (p .now) → ⊥) → stepped m p ≡ passedAt p → Sees m p
   sees-begun : kindOf m p ≡ closed → m .t ≤ p .turn → (c : Cycle) → floorOf m (wokenAt p) ≡ At c → T (isBeforeHorizon m c) → stepped m p ≡ begunAt p c → Sees m p
   sees-rested : kindOf m p ≡ closed → m .t ≤ p .turn → Late m (floorOf m (wokenAt p)) → stepped m p ≡ restedAt p → Sees m p
 
-isAt→Ready : (c : Cycle) (s : State) → T (isAt c (readyCycle s)) → s ≡ Ready c
+isAt→ready : (c : Cycle) (v : View) → T (isAt c (readyCycleOf v)) → v ≡ view.ready c
 unfolding isAt
-isAt→Ready c (Ended d) t = absurd t
-isAt→Ready c (Overrun d) t = absurd t
-isAt→Ready c (Ready d) t = ap Ready (isSame→≡ d c t)
-isAt→Ready c (Waiting e d) t = absurd t
+isAt→ready c view.idle t = absurd t
+isAt→ready c (view.ready d) t = ap view.ready (isSame→≡ d c t)
+isAt→ready c (view.waits e d) t = absurd t
 
-Ready→isAt : (c : Cycle) (s : State) → s ≡ Ready c → T (isAt c (readyCycle s))
+ready→isAt : (c : Cycle) (v : View) → v ≡ view.ready c → T (isAt c (readyCycleOf v))
 unfolding isAt
-Ready→isAt c s e = subst (λ (x : State). T (isAt c (readyCycle x))) (sym e) (≡→isSame refl)
+ready→isAt c v e = subst (λ (x : View). T (isAt c (readyCycleOf x))) (sym e) (≡→isSame refl)
 
-pub isDue→Ready : (p : Place) → T (isDue p) → stateOf p (p .turn) ≡ Ready (p .now)
+pub isDue→ready : (p : Place) → T (isDue p) → viewOf (stateOf p (p .turn)) ≡ view.ready (p .now)
 unfolding isDue
-isDue→Ready p t = isAt→Ready (p .now) (stateOf p (p .turn)) t
+isDue→ready p t = isAt→ready (p .now) (viewOf (stateOf p (p .turn))) t
 
-pub Ready→isDue : (p : Place) → stateOf p (p .turn) ≡ Ready (p .now) → T (isDue p)
+pub ready→isDue : (p : Place) → viewOf (stateOf p (p .turn)) ≡ view.ready (p .now) → T (isDue p)
 unfolding isDue
-Ready→isDue p e = Ready→isAt (p .now) (stateOf p (p .turn)) e
+ready→isDue p e = ready→isAt (p .now) (viewOf (stateOf p (p .turn))) e
 
 closes : (m : Model) (p : Place) → kindOf m p ≡ closed → m .t ≤ p .turn → stepped m p ≡ closedOn m p → Sees m p
 unfolding closedOn begun
@@ -122,11 +121,11 @@ sees m p = go (T-case (ltb (p .turn) (m .t))) (T-case (isDue p))
     go (inl h) (inl d) =
         let q = T→true (ltb (p .turn) (m .t)) h in
         let r = T→true (isDue p) d in
-        sees-ran (rw (q, r) refl) (ltb→lt (p .turn) (m .t) h) (isDue→Ready p d) (rw (q, r) refl)
+        sees-ran (rw (q, r) refl) (ltb→lt (p .turn) (m .t) h) (isDue→ready p d) (rw (q, r) refl)
     go (inl h) (inr d) =
         let q = T→true (ltb (p .turn) (m .t)) h in
         let r = T→false (isDue p) d in
-        sees-passed (rw (q, r) refl) (ltb→lt (p .turn) (m .t) h) (λ e. T-not (isDue p) d (Ready→isDue p e)) (rw (q, r) refl)
+        sees-passed (rw (q, r) refl) (ltb→lt (p .turn) (m .t) h) (λ e. T-not (isDue p) d (ready→isDue p e)) (rw (q, r) refl)
     go (inr h) d =
         let q = T→false (ltb (p .turn) (m .t)) h in
         closes m p (rw q refl) (nltb→le (p .turn) (m .t) h) (rw q refl)
@@ -166,7 +165,7 @@ module _ (m : Model) (p : Place) where
       go (sees-begun q h c f b s) = q
       go (sees-rested q h l s) = q
 
-  pub ready→ran : p .turn < m .t → stateOf p (p .turn) ≡ Ready (p .now) → kindOf m p ≡ ran
+  pub ready→ran : p .turn < m .t → viewOf (stateOf p (p .turn)) ≡ view.ready (p .now) → kindOf m p ≡ ran
   ready→ran l e = go (sees m p)
     where
       go : Sees m p → kindOf m p ≡ ran

@@ -4,9 +4,9 @@
 --     floorOf-≼, floorOf-attained     the floor is the least ready cycle, and some thread's
 --     someReady-some, someReady-found     whether some thread is ready before the horizon
 use Prim.Native.Nat.{ℕ, _<_}
-use mathlib.Core.Path.{_≡_, refl, sym, _∙_, subst}
+use mathlib.Core.Path.{_≡_, refl, ap, sym, _∙_, subst}
 use mathlib.Core.Logic.{_⊎_, inl, inr}
-use mathlib.Core.Bool.{true, not, _&&_}
+use mathlib.Core.Bool.{true, false, not, _&&_}
 use mathlib.Core.List.{List, [], _∷_}
 use native.Mathlib.Omega.{arith}
 use lib.Dec.{T, T-not}
@@ -25,19 +25,19 @@ use Rattle.clock.proofs.LeastLaws.{leastBelow-≼, leastBelow-one}
 use Rattle.clock.proofs.WaitLaws.{waitEnds-later}
 use Rattle.model.specs.declared.Model.{Model}
 use Rattle.model.specs.declared.State.{State}
-use Rattle.model.specs.declared.State.the-variants.{Ended, Overrun, Ready, Waiting}
 use Rattle.model.specs.declared.Thread.{Thread}
 use Rattle.model.specs.Limits.{isBeforeHorizon, isBoundBeforeHorizon}
-use Rattle.model.specs.Record.{threadAt, readyCycle, awaitedBy, stateAfter}
+use Rattle.model.specs.Record as view
+use Rattle.model.specs.Record.{threadAt, readyCycle, awaitedBy, stateAfter, View, viewOf, awaitedOf, readyCycleOf}
 use Rattle.model.specs.Footprint.{has}
 use Rattle.plain.specs.Wake.{isWoken, wokenState, wokenThread, woken, floorOf, someReady}
-use Rattle.plain_laws.proofs.RecordLaws.{thread-path, threadAt-map, readyCycle-Ready, readyCycle-before, before-readyCycle, stateAfter-Ready}
+use Rattle.plain_laws.proofs.RecordLaws.{thread-path, threadAt-map, readyCycle→ready, readyCycle-before, before-readyCycle, stateAfter-ready}
 
 -- a state where the events es were notified in cycle c
 pub data Wakes (es : List ℕ) (c : Cycle) (s : State) : Type 0 where
-  rises : (e : ℕ) (since : Cycle) → s ≡ Waiting e since → T (has es e) → since ⊑ c → T (isWoken es c (awaitedBy s))
+  rises : (e : ℕ) (since : Cycle) → viewOf s ≡ view.waits e since → T (has es e) → since ⊑ c → T (isWoken es c (awaitedBy s))
       → wokenState es c s ≡ stateAfter (waitEnds wait.Event c) → Wakes es c s
-  sleeps : ((e : ℕ) (since : Cycle) → s ≡ Waiting e since → T (has es e) → since ⊑ c → ⊥) → T (not (isWoken es c (awaitedBy s)))
+  sleeps : ((e : ℕ) (since : Cycle) → viewOf s ≡ view.waits e since → T (has es e) → since ⊑ c → ⊥) → T (not (isWoken es c (awaitedBy s)))
       → wokenState es c s ≡ s → Wakes es c s
 
 module _ (es : List ℕ) (c : Cycle) where
@@ -49,37 +49,32 @@ module _ (es : List ℕ) (c : Cycle) where
   unfolding wokenState
   slept-state s t = rw (T→false (isWoken es c (awaitedBy s)) t) refl
 
-  waiting-wakes : (e : ℕ) (since : Cycle) → Wakes es c (Waiting e since)
+  isWoken→waits : (v : View) → T (isWoken es c (awaitedOf v)) → (e : ℕ) × (since : Cycle) × (v ≡ view.waits e since) × T (has es e) × (since ⊑ c)
   unfolding isWoken
-  waiting-wakes e since = go (T-case (has es e && not (isBefore c since)))
-    where
-      go : T (has es e && not (isBefore c since)) ⊎ T (not (has es e && not (isBefore c since))) → Wakes es c (Waiting e since)
-      go (inl t) =
-          let (h, b) = and→both (has es e) (not (isBefore c since)) t in
-          rises e since refl h (not-isBefore→⊑ c since b) t (woken-state (Waiting e since) t)
-      go (inr t) = sleeps asleep t (slept-state (Waiting e since) t)
-        where
-          asleep : (v : ℕ) (b : Cycle) → Waiting e since ≡ Waiting v b → T (has es v) → b ⊑ c → ⊥
-          asleep v b q h l =
-              let f : v ≡ e = cc in
-              let g : b ≡ since = cc in
-              T-not (has es e && not (isBefore c since)) t
-              (both→and (has es e) (not (isBefore c since)) (rw f at h) (⊑→not-isBefore (rw g at l)))
+  isWoken→waits view.idle t = absurd t
+  isWoken→waits (view.ready d) t = absurd t
+  isWoken→waits (view.waits e since) t =
+      let (h, b) = and→both (has es e) (not (isBefore c since)) t in
+      (e, since, refl, h, not-isBefore→⊑ c since b)
+
+  waits→isWoken : (v : View) (e : ℕ) (since : Cycle) → v ≡ view.waits e since → T (has es e) → since ⊑ c → T (isWoken es c (awaitedOf v))
+  unfolding isWoken
+  waits→isWoken v e since q h l = rw q (both→and (has es e) (not (isBefore c since)) h (⊑→not-isBefore l))
 
   pub wakes : (s : State) → Wakes es c s
-  unfolding isWoken
-  wakes (Ended d) = sleeps (λ e b q h l. let z : _≡_ {A = ℕ} 0 1 = cc in omega arith) tt (slept-state (Ended d) tt)
-  wakes (Overrun d) = sleeps (λ e b q h l. let z : _≡_ {A = ℕ} 0 1 = cc in omega arith) tt (slept-state (Overrun d) tt)
-  wakes (Ready d) = sleeps (λ e b q h l. let z : _≡_ {A = ℕ} 0 1 = cc in omega arith) tt (slept-state (Ready d) tt)
-  wakes (Waiting e since) = waiting-wakes e since
+  wakes s = go (T-case (isWoken es c (awaitedBy s)))
+    where
+      go : T (isWoken es c (awaitedBy s)) ⊎ T (not (isWoken es c (awaitedBy s))) → Wakes es c s
+      go (inl t) = let (e, since, q, h, l) = isWoken→waits (viewOf s) t in rises e since q h l t (woken-state s t)
+      go (inr t) = sleeps (λ e since q h l. T-not (isWoken es c (awaitedBy s)) t (waits→isWoken (viewOf s) e since q h l)) t (slept-state s t)
 
   -- who is ready after the wakes was so before, or is ready later than this cycle
-  pub wokenState-ready : (s : State) (d : Cycle) → wokenState es c s ≡ Ready d → (s ≡ Ready d) ⊎ Before c d
+  pub wokenState-ready : (s : State) (d : Cycle) → viewOf (wokenState es c s) ≡ view.ready d → (viewOf s ≡ view.ready d) ⊎ Before c d
   wokenState-ready s d e = go (wakes s)
     where
-      go : Wakes es c s → (s ≡ Ready d) ⊎ Before c d
-      go (rises v b q h l t f) = inr (waitEnds-later wait.Event c (stateAfter-Ready (waitEnds wait.Event c) d (sym f ∙ e)))
-      go (sleeps a t f) = inl (sym f ∙ e)
+      go : Wakes es c s → (viewOf s ≡ view.ready d) ⊎ Before c d
+      go (rises v b q h l t f) = inr (waitEnds-later wait.Event c (stateAfter-ready (waitEnds wait.Event c) d (ap viewOf (sym f) ∙ e)))
+      go (sleeps a t f) = inl (ap viewOf (sym f) ∙ e)
 
   pub woken-at : (ts : List Thread) (k : ℕ)
       → threadAt (woken es c ts) k ≡ record { segment = threadAt ts k .segment; state = wokenState es c (threadAt ts k .state) }
@@ -90,18 +85,21 @@ module _ (es : List ℕ) (c : Cycle) where
   unfolding woken
   woken-length ts = length-map ts (wokenThread es c)
 
--- an ended thread stays so
-pub wokenState-ended : (es : List ℕ) (c d : Cycle) → wokenState es c (Ended d) ≡ Ended d
+-- who is not live stays so
+pub wokenState-idle : (es : List ℕ) (c : Cycle) (s : State) → viewOf s ≡ view.idle → wokenState es c s ≡ s
 unfolding wokenState isWoken
-wokenState-ended es c d = refl
+wokenState-idle es c s e = rw e refl
 
 -- with no event notified nobody wakes
+isWoken-none : (c : Cycle) (v : View) → isWoken [] c (awaitedOf v) ≡ false
+unfolding isWoken has
+isWoken-none c view.idle = refl
+isWoken-none c (view.ready d) = refl
+isWoken-none c (view.waits e d) = refl
+
 wokenState-none : (c : Cycle) (s : State) → wokenState [] c s ≡ s
-unfolding wokenState isWoken has
-wokenState-none c (Ended d) = refl
-wokenState-none c (Overrun d) = refl
-wokenState-none c (Ready d) = refl
-wokenState-none c (Waiting e d) = refl
+unfolding wokenState
+wokenState-none c s = rw (isWoken-none c (viewOf s)) refl
 
 pub woken-none : (c : Cycle) (ts : List Thread) → woken [] c ts ≡ ts
 unfolding woken wokenThread
@@ -114,33 +112,33 @@ module _ (m : Model) (ts : List Thread) where
   floorOf-≼ k h = leastBelow-≼ (m .t) (λ j. readyCycle (threadAt ts j .state)) k h
 
   -- no ready thread is before the floor
-  pub floorOf-least : (f : Cycle) → floorOf m ts ≡ At f → (k : ℕ) (c : Cycle) → k < m .t → threadAt ts k .state ≡ Ready c → f ⊑ c
-  floorOf-least f e k c h q = subst (λ (s : State). At f ≼ readyCycle s) q (subst (λ (b : Bound). b ≼ readyCycle (threadAt ts k .state)) e (floorOf-≼ k h))
+  pub floorOf-least : (f : Cycle) → floorOf m ts ≡ At f → (k : ℕ) (c : Cycle) → k < m .t → viewOf (threadAt ts k .state) ≡ view.ready c → f ⊑ c
+  floorOf-least f e k c h q = subst (λ (v : View). At f ≼ readyCycleOf v) q (subst (λ (b : Bound). b ≼ readyCycle (threadAt ts k .state)) e (floorOf-≼ k h))
 
   -- some thread is ready at it
-  pub floorOf-attained : (f : Cycle) → floorOf m ts ≡ At f → (k : ℕ) × (k < m .t) × (threadAt ts k .state ≡ Ready f)
+  pub floorOf-attained : (f : Cycle) → floorOf m ts ≡ At f → (k : ℕ) × (k < m .t) × (viewOf (threadAt ts k .state) ≡ view.ready f)
   unfolding floorOf
   floorOf-attained f e = go (leastBelow-one (m .t) (λ j. readyCycle (threadAt ts j .state)))
     where
       go : (floorOf m ts ≡ Never) ⊎ ((k : ℕ) × (k < m .t) × (floorOf m ts ≡ readyCycle (threadAt ts k .state)))
-          → (k : ℕ) × (k < m .t) × (threadAt ts k .state ≡ Ready f)
+          → (k : ℕ) × (k < m .t) × (viewOf (threadAt ts k .state) ≡ view.ready f)
       go (inl n) = absurd (let z : _≡_ {A = ℕ} 0 1 = cc in omega arith)
-      go (inr (k, h, q)) = (k, h, readyCycle-Ready (threadAt ts k .state) f (sym q ∙ e))
+      go (inr (k, h, q)) = (k, h, readyCycle→ready (viewOf (threadAt ts k .state)) f (sym q ∙ e))
 
-  pub floorOf-never : floorOf m ts ≡ Never → (k : ℕ) (c : Cycle) → k < m .t → threadAt ts k .state ≡ Ready c → ⊥
-  floorOf-never e k c h q = subst (λ (s : State). Never ≼ readyCycle s) q (subst (λ (b : Bound). b ≼ readyCycle (threadAt ts k .state)) e (floorOf-≼ k h))
+  pub floorOf-never : floorOf m ts ≡ Never → (k : ℕ) (c : Cycle) → k < m .t → viewOf (threadAt ts k .state) ≡ view.ready c → ⊥
+  floorOf-never e k c h q = subst (λ (v : View). Never ≼ readyCycleOf v) q (subst (λ (b : Bound). b ≼ readyCycle (threadAt ts k .state)) e (floorOf-≼ k h))
 
 -- "ready before H"
 module _ (m : Model) where
-  pub someReady-some : (ts : List Thread) → someReady m ts ≡ true → (k : ℕ) × (c : Cycle) × (k < m .t) × (threadAt ts k .state ≡ Ready c) × T (isBeforeHorizon m c)
+  pub someReady-some : (ts : List Thread) → someReady m ts ≡ true → (k : ℕ) × (c : Cycle) × (k < m .t) × (viewOf (threadAt ts k .state) ≡ view.ready c) × T (isBeforeHorizon m c)
   unfolding someReady
   someReady-some ts e =
       let (k, h, t) = anyBelow-some (m .t) (λ j. isBoundBeforeHorizon m (readyCycle (threadAt ts j .state))) (true→T (someReady m ts) e) in
-      let (c, q, b) = readyCycle-before m (threadAt ts k .state) t in
+      let (c, q, b) = readyCycle-before m (viewOf (threadAt ts k .state)) t in
       (k, c, h, q, b)
 
-  pub someReady-found : (ts : List Thread) (k : ℕ) (c : Cycle) → k < m .t → threadAt ts k .state ≡ Ready c → T (isBeforeHorizon m c) → someReady m ts ≡ true
+  pub someReady-found : (ts : List Thread) (k : ℕ) (c : Cycle) → k < m .t → viewOf (threadAt ts k .state) ≡ view.ready c → T (isBeforeHorizon m c) → someReady m ts ≡ true
   unfolding someReady
   someReady-found ts k c h q t =
       T→true (someReady m ts)
-      (anyBelow-found (m .t) (λ j. isBoundBeforeHorizon m (readyCycle (threadAt ts j .state))) k h (before-readyCycle m (threadAt ts k .state) c q t))
+      (anyBelow-found (m .t) (λ j. isBoundBeforeHorizon m (readyCycle (threadAt ts j .state))) k h (before-readyCycle m (viewOf (threadAt ts k .state)) c q t))

@@ -23,11 +23,11 @@ use Rattle.model.specs.declared.State.{State}
 use Rattle.model.specs.declared.State.the-variants.{Ready}
 use Rattle.model.specs.declared.Thread.{Thread}
 use Rattle.model.specs.Limits.{isBeforeHorizon, isBoundBeforeHorizon}
-use Rattle.model.specs.Record.{threadAt, readyCycle}
+use Rattle.model.specs.Record.{threadAt, viewOf, readyCycle}
 use Rattle.plain.specs.Wake.{floorOf}
 use Rattle.plain_words.proofs.ReachLaws.{lesserOf-≤}
 use Rattle.plain_state.specs.Words.{span, keyOf, limitOf, wordOf, leastWord}
-use Rattle.plain_laws.proofs.RecordLaws.{readyCycle-Ready}
+use Rattle.plain_laws.proofs.RecordLaws.{readyCycle→ready, ready→state}
 use Rattle.plain_laws.proofs.WakeLaws.{floorOf-≼}
 use Rattle.plain_state.proofs.LimitLaws.{horizon→limit, limit→horizon}
 use Rattle.plain_state.proofs.FloorLaws.{floorOf-one}
@@ -80,7 +80,7 @@ module _ (m : Model) (small : limitOf m ≤ span) (ws : List ℕ) (us : List Thr
       go : (b : Bound) → readyCycle (threadAt us k .state) ≡ b → At c ≼ b
       go Never f = tt
       go (At x) f =
-          let r = readyCycle-Ready (threadAt us k .state) x f in
+          let r = ready→state (threadAt us k .state) x (readyCycle→ready (viewOf (threadAt us k .state)) x f) in
           let g : getD ws k 0 ≡ keyOf x = words k h ∙ ap wordOf r in
           key-⊑ c x d (ready-range k h x r .delta) (omega (arith, leastWord-≤ (m .t) ws k h))
 
@@ -114,7 +114,7 @@ module _ (m : Model) (small : limitOf m ≤ span) (ws : List ℕ) (us : List Thr
       late : (k : ℕ) → k < m .t → (b : Bound) → readyCycle (threadAt us k .state) ≡ b → T (not (isBoundBeforeHorizon m b))
       late k l Never f = tt
       late k l (At x) f =
-          let r = readyCycle-Ready (threadAt us k .state) x f in
+          let r = ready→state (threadAt us k .state) x (readyCycle→ready (viewOf (threadAt us k .state)) x f) in
           let g : getD ws k 0 ≡ keyOf x = words k l ∙ ap wordOf r in
           past x (ready-range k l x r .delta) (omega (arith, leastWord-≤ (m .t) ws k l)) (T-case (isBeforeHorizon m x))
 

@@ -29,10 +29,10 @@ use Rattle.model.specs.declared.Closer.{Closer}
 use Rattle.model.specs.declared.Closer.the-variants.{End, Time, Event}
 use Rattle.model.specs.declared.Model.{Model}
 use Rattle.model.specs.declared.Thread.{Thread}
-use Rattle.model.specs.Values.{segmentAt, startAt, bodyOf}
+use Rattle.model.specs.Values.{segmentAt, segmentFor, startAt, bodyOf}
 use Rattle.model.specs.Statement.{execute, notifiedBy}
 use Rattle.model.specs.Limits.{isBeforeHorizon, isBoundBeforeHorizon}
-use Rattle.model.specs.Record.{noThread, threadAt, readyCycle}
+use Rattle.model.specs.Record.{noThread, threadAt, viewOf, readyCycle}
 use Rattle.model.specs.Effect.{closedAt, effectIn, effectOf}
 use Rattle.model.specs.Footprint.{listedIn, notifiesIn}
 use Rattle.model.specs.Rules.{closerFault, modelFault}
@@ -48,7 +48,7 @@ use Rattle.plain.specs.Wake.{wokenThread, woken, floorOf, someReady}
 use Rattle.plain.specs.Step.{isAt, isDue, ranOn, passedOn, begun, closedOn, stepped, placeAt}
 use Rattle.plain.specs.Run.{isDone, isOut, runFor, lastStep, reported}
 use Rattle.plain_laws.proofs.RecordLaws.{threadAt-set}
-use Rattle.plain_laws.proofs.StepLaws.{effectAt, isDue→Ready, placeAt-more}
+use Rattle.plain_laws.proofs.StepLaws.{effectAt, isDue→ready, placeAt-more}
 use Rattle.plain_laws.proofs.StartLaws.{startOf-record}
 use Rattle.plain_laws.proofs.WakeLaws.{woken-at, woken-length, floorOf-attained, someReady-found}
 use Rattle.plain_state.specs.Words.{keyOf, limitOf, wordOf, stateFrom, threadsTo, answer, closeWord, wakeWord, leastWord}
@@ -197,7 +197,7 @@ begun-at m f c p e t = rw (e, T→true (isBeforeHorizon m c) t) refl
 
 -- a due thread is ready before the horizon
 someReady-due : (m : Model) (p : Place) → Sound m p → p .turn < m .t → T (isDue p) → someReady m (p .threads) ≡ true
-someReady-due m p s h d = someReady-found m (p .threads) (p .turn) (p .now) h (isDue→Ready p d) (s .time)
+someReady-due m p s h d = someReady-found m (p .threads) (p .turn) (p .now) h (isDue→ready p d) (s .time)
 
 begun-threads : (m : Model) (f : Bound) (p : Place) → begun m f p .threads ≡ p .threads
 unfolding begun
@@ -251,7 +251,7 @@ threadsTo-as ws ss t ts h size words segments r =
         past-end (tabulate t 0 f) (32 - t) k (omega (arith, tabulate-length t 0 f)) ∙ sym (r .rest k (omega arith))
 
 effect-within : (m : Model) → modelFault m ≡ 0 → (s : ℕ) → s < m .n → Within 32 (notifiedBy (bodyOf (segmentAt m s)))
-unfolding notifiesIn listedIn
+unfolding notifiesIn listedIn segmentFor
 effect-within m fit s l e t = let few = modelFault-counts m fit .events in omega (arith, modelFault-notifies m fit 0 s l e t)
 
 closes : (m : Model) (fit : modelFault m ≡ 0) (code : List ℕ) → IsCode m 64 code → (s : ℕ) → s < m .n → (c : Cycle) → Small c → (x : List ℕ) →
@@ -313,7 +313,7 @@ module _ (m : Model) (fit : modelFault m ≡ 0) (budget : ℕ) where
 
     -- every thread that was looked at is ahead
     word-ahead : (k : ℕ) → k < m .t → k < turn → now < getD (x .state) k 0
-    word-ahead k h l = rw (loop .key, loop .words k h) (word-after (loop .cycle) (threadAt (loop .threads) k .state) (small .key) (λ d e. key-later (sound .ahead k d l e) (small .delta)))
+    word-ahead k h l = rw (loop .key, loop .words k h) (word-after (loop .cycle) (threadAt (loop .threads) k .state) (small .key) (λ d e. key-later (sound .ahead k d l (ap viewOf e)) (small .delta)))
 
     pub loop-ahead : m .t ≤ turn → now < leastWord (m .t) (x .state)
     loop-ahead h = go (leastWord-one (m .t) (x .state))
@@ -374,7 +374,7 @@ module _ (m : Model) (fit : modelFault m ≡ 0) (budget : ℕ) where
 
       -- "the ready threads of that cycle run their segment whole"
       pub loop-ran : x .n < budget → (code : List ℕ) → IsCode m 64 code → Loop m budget (ranBy code now turn x) now (turn + 1)
-      unfolding ranOn effectOf effectIn
+      unfolding ranOn effectOf effectIn segmentFor
       loop-ran room code is =
           let s = getD (x .segments) turn 0 in
           let p : s ≡ threadAt (loop .threads) turn .segment = loop .segments turn h in

@@ -26,14 +26,14 @@ use Rattle.model.specs.declared.Closer.{Closer}
 use Rattle.model.specs.declared.Closer.the-variants.{End, Time, Event}
 use Rattle.model.specs.declared.State.{State}
 use Rattle.model.specs.declared.State.the-variants.{Ended, Overrun, Ready, Waiting}
-use Rattle.model.specs.Record.{readyCycle, Awaited, nothing, awaits, awaitedBy, stateAfter}
+use Rattle.model.specs.Record.{viewOf, readyCycle, Awaited, nothing, awaits, awaitedBy, stateAfter}
 use Rattle.model.specs.Effect.{closedAt}
 use Rattle.plain_words.specs.Pack.{packEnd}
 use Rattle.plain_words.proofs.MarkLaws.{Tells}
 use Rattle.plain_words.proofs.CodeLaws.{end-kind, end-load}
 use Rattle.plain.specs.Wake.{isWoken, wokenState}
 use Rattle.plain.specs.Step.{isAt}
-use Rattle.plain_laws.proofs.RecordLaws.{readyCycle-Ready}
+use Rattle.plain_laws.proofs.RecordLaws.{readyCycle→ready, ready→state}
 use Rattle.plain_state.specs.Words.{waiting, ended, overrun, span, keyOf, cycleFrom, wordOf, stateFrom, nextWord, endedBy, closeWord, isTold, wakeWord}
 
 -- the units that a closer waits for
@@ -116,7 +116,7 @@ module _ (c : Cycle) (small : Small c) where
       go (At d) e = T-elim (T-case (isSame d c))
         where
           T-elim : T (isSame d c) ⊎ T (not (isSame d c)) → isSame d c ≡ false
-          T-elim (inl t) = absurd (n (ap wordOf (readyCycle-Ready s d e) ∙ ap keyOf (isSame→≡ d c t)))
+          T-elim (inl t) = absurd (n (ap wordOf (ready→state s d (readyCycle→ready (viewOf s) d e)) ∙ ap keyOf (isSame→≡ d c t)))
           T-elim (inr t) = T→false (isSame d c) t
 
   here : cycleFrom (keyOf c) ≡ c

@@ -15,6 +15,7 @@ use Rattle.model.specs.declared.Model.{Model}
 use Rattle.model.specs.declared.State.{State}
 use Rattle.model.specs.declared.State.the-variants.{Ended, Overrun, Ready, Waiting}
 use Rattle.model.specs.declared.Thread.{Thread}
+use Rattle.model.specs.Limits.{endTime}
 use Rattle.model.specs.Record.{noThread, Awaited, nothing, awaits, awaitedBy, stateAfter}
 use Rattle.plain_words.specs.Reach.{lesserOf}
 use Rattle.plain.specs.declared.PlainRun.{PlainRun}
@@ -41,7 +42,7 @@ cycleFrom k = cycleAt (k / 1024) (k % 1024)
 
 -- the first cycle that is not run: "A thread ready at time H or later is not run."
 abbrev pub limitOf : Model → ℕ
-limitOf m = 1024 * m .horizon .0
+limitOf m = 1024 * endTime m
 
 abbrev pub wordOf : State → ℕ
 wordOf (Ended c) = ended + keyOf c

@@ -9,10 +9,10 @@ is-fit-state-requires : tie.Need-is-fit-state-requires
 is-fit-state-requires c κs = search needs
 
 returns : tie.Need-returns
-returns c = λ m p q. isFitThread-below m (c .before .before .before .args .x) _ (omega arith) (c .is-fit-state .ensures m q)
+returns c = λ m k p q. isFitThread-below m k (c .before .before .before .args .x) _ (omega arith) (c .is-fit-state .ensures m q)
 
 returns-2 : tie.Need-returns-2
-returns-2 c = λ m p q. isFitThread-above m (c .before .before .args .x) (omega arith)
+returns-2 c = λ m k p q. isFitThread-above m k (c .before .before .args .x) (omega arith)
 
 pub is-fit-thread-spec : {M : Type 1} → statement M
 is-fit-thread-spec = tie.close (tie.spec is-fit-state-requires returns returns-2)

@@ -17,7 +17,7 @@ use Rattle.early_fit.proofs.is_unfit_threads.Statement.{statement}
 use Rattle.early_fit.proofs.is_unfit_threads.Tie as tie
 
 abbrev Inv-loop : tie.InvT-loop
-Inv-loop t n e threads count k₀ k = (k ≤ count) × ((m : Model) → m .n ≡ n → m .e ≡ e → (i : ℕ) → i < k → T (isFitThread m (threadAt (threads .at) i)))
+Inv-loop t n e threads count k₀ k = (k ≤ count) × ((m : Model) → m .n ≡ n → m .e ≡ e → (i : ℕ) → i < k → T (isFitThread m i (threadAt (threads .at) i)))
 
 abbrev μ-loop : tie.MeasureT-loop
 μ-loop t n e threads count k₀ k = count - k
@@ -44,7 +44,7 @@ returns : tie.Need-returns Inv-loop μ-loop
 returns c =
     let x = c .before .before .before .before .before .before .args in
     let k = c .before .before .before .before .loop .k in
-    λ m o p q. isUnfitThreads-here m (x .t1 .at) k (omega arith) (isFitThread-at m (x .t1 .at) k ∙ sym (c .before .is-fit-thread .ensures m p q) ∙ not-true _ (c .if1 .taken))
+    λ m o p q. isUnfitThreads-here m (x .t1 .at) k (omega arith) (isFitThread-at m (x .t1 .at) k ∙ sym (c .before .is-fit-thread .ensures m k p q) ∙ not-true _ (c .if1 .taken))
 
 loop-less : tie.Need-loop-less Inv-loop μ-loop
 loop-less c = search needs
@@ -53,7 +53,7 @@ loop-again : tie.Need-loop-again Inv-loop μ-loop
 loop-again c =
     let x = c .before .before .before .before .before .before .args in
     let l = c .before .before .before .before .loop in
-    (omega arith, λ m p q. below-more _ _ (l .inv .1 m p q) (true→T _ (isFitThread-at m (x .t1 .at) (l .k) ∙ sym (c .before .is-fit-thread .ensures m p q) ∙ not-false _ (c .if1 .left))))
+    (omega arith, λ m p q. below-more _ _ (l .inv .1 m p q) (true→T _ (isFitThread-at m (x .t1 .at) (l .k) ∙ sym (c .before .is-fit-thread .ensures m (l .k) p q) ∙ not-false _ (c .if1 .left))))
 
 returns-2 : tie.Need-returns-2 Inv-loop μ-loop
 returns-2 c =
