@@ -420,7 +420,7 @@ fn result(
     }
 }
 
-// The cycles of a model that keeps the file rules, one after the other.
+// The cycles of a model that keeps the file rules, one after the other. A ready word at or past the limit is not run.
 fn cycles(m: Model, budget: u64) -> PlainRun
     requires { ⌜ modelFault m ≡ 0 ⌝ }
     ensures { λ r. ⌜ r ≡ reported m (runFor m budget (lastStep m) (startOf m)) ⌝ }
