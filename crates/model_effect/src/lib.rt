@@ -2,7 +2,9 @@
 use clock::Bound;
 use clock::Cycle;
 use clock::Delay;
+use clock::Delta;
 use clock::Step;
+use clock::Time;
 use clock::Wait;
 use model::Closer;
 use model::Events;
@@ -12,14 +14,15 @@ use model::Ran;
 use model::Segment;
 use model::State;
 use model::Thread;
+use model::Threads;
 use model::Variables;
 ghost use mathlib.Core.Path.{_≡_};
 ghost use Prim.Native.Nat.{_<_, _+_, _-_, _%_, _^_};
-ghost use lib.ListN.{length, getD, set};
+ghost use lib.ListN.{length, getD, set, replicate};
 ghost use Rattle.clock.specs.Wait.{waitEnds, heldStep};
 ghost use Rattle.model.specs.Values.{noStatement, bodyOf};
 ghost use Rattle.model.specs.Statement.{executeOp, execute, notifiedBy};
-ghost use Rattle.model.specs.Record.{isLive, readyCycle, stateAfter};
+ghost use Rattle.model.specs.Record.{noThread, isLive, readyCycle, stateAfter};
 ghost use Rattle.model.specs.Effect.{nextOf, closedAt, effectIn, withOp, heldThread, heldEvents, heldEffect};
 
 // The value of variable a; 0 past the places.
@@ -213,4 +216,19 @@ pub fn ready_cycle(s: State) -> Bound
         return Bound::Never;
     };
     Bound::At(c)
+}
+
+// 32 thread records, all zero.
+pub fn no_threads() -> Threads
+    ensures { λ r. ⌜ r ≡ record { at = replicate 32 noThread } ⌝ }
+{
+    let c = Cycle {
+        time: Time(0),
+        delta: Delta(0),
+    };
+    let x = Thread {
+        segment: 0,
+        state: State::Ended(c),
+    };
+    Threads { at: [x; 32] }
 }

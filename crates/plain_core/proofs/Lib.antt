@@ -1,12 +1,1 @@
-pub mod FillLaws
-pub mod ExitLaws
-pub mod FloorLaws
-pub mod SoundLaws
-pub mod WordLaws
-pub mod RangeLaws
-pub mod LeastLaws
-pub mod LoopLaws
-pub mod DueLaws
-pub mod EndLaws
-pub mod TurnLaws
 pub mod RunLaws

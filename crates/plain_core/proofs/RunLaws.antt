@@ -12,16 +12,15 @@ use Rattle.model.specs.Record.{noThread}
 use Rattle.model.specs.Rules.{modelFault}
 use Rattle.plain.specs.Start.{freshVariables}
 use Rattle.plain.specs.Run.{plainRun}
-use Rattle.plain_core.proofs.LoopLaws.{answerOf}
+use Rattle.plain_state.proofs.LoopLaws.{answerOf}
 
 pub plainRun-fit : (m : Model) (budget : ℕ) → modelFault m ≡ 0 → answerOf m budget ≡ plainRun m budget
 unfolding plainRun
 plainRun-fit m budget e = rw (eq-eqb (modelFault m) 0 e) refl
 
-pub plainRun-fault : (m : Model) (budget : ℕ) (v : Variables) (ts : Threads) → (modelFault m ≡ 0 → ⊥) → v .at ≡ freshVariables → ts .at ≡ replicate 32 noThread →
+pub plainRun-fault : (m : Model) (budget : ℕ) (v : Variables) (ts : Threads) → (modelFault m ≡ 0 → ⊥) → v .at ≡ freshVariables → ts ≡ record { at = replicate 32 noThread } →
     record { number = 11; variables = v; threads = ts; n = 0; spent = false } ≡ plainRun m budget
 unfolding plainRun
 plainRun-fault m budget v ts e p q =
     let a : v ≡ record { at = freshVariables } = λ i. record { at = p i } in
-    let b : ts ≡ record { at = replicate 32 noThread } = λ i. record { at = q i } in
-    rw (ne-eqb (modelFault m) 0 e, a, b) refl
+    rw (ne-eqb (modelFault m) 0 e, a, q) refl

@@ -10,18 +10,18 @@ use model::Threads;
 use model::Variables;
 use plain::PlainRun;
 ghost use mathlib.Core.Path.{_≡_};
-ghost use mathlib.Core.Bool.{cond, false, not, _&&_};
+ghost use mathlib.Core.Bool.{false, not, _&&_};
 ghost use lib.Dec.{ltb, leb, eqb};
 ghost use Prim.Native.Nat.{ℕ, _+_, _*_, _%_, _≤_, _<_, _^_};
-ghost use lib.ListN.{getD, replicate, length};
+ghost use lib.ListN.{getD, length};
 ghost use Rattle.model.specs.Values.{startAt};
-ghost use Rattle.model.specs.Record.{noThread};
 ghost use Rattle.model.specs.Rules.{modelFault};
 ghost use Rattle.plain.specs.Start.{startOf};
 ghost use Rattle.plain.specs.Run.{runFor, lastStep, reported, plainRun};
-ghost use Rattle.plain_core.specs.Words.{stateFrom, threadsTo, answer, nextWord, closeWord, wakeWord, leastWord};
-ghost use Rattle.plain_core.specs.Turn.{locals, waitedBy, turnOn, turnsTo};
-ghost use Rattle.plain_core.specs.Due.{Between, Late, IsLeast, Woken, IsDue, Ends};
+ghost use Rattle.plain_words.specs.Reach.{lesserOf};
+ghost use Rattle.plain_state.specs.Words.{stateFrom, threadsTo, answer, nextWord, closeWord, wakeWord, leastWord};
+ghost use Rattle.plain_state.specs.Turn.{locals, waitedBy, turnOn, turnsTo};
+ghost use Rattle.plain_state.specs.Due.{Between, Late, IsLeast, Woken, IsDue, Ends};
 
 // A thread's state as a word: a ready thread's is its cycle, 1,024 for each unit of time; the others stand above these.
 const WAITING: u64 = 4611686018427387904;
@@ -52,7 +52,7 @@ fn close_word(end: u64, key: u64) -> u64
     }
     let k = end / 1024;
     if kind == 2 {
-        return WAITING + 17592186044416 * (k % 256) + key;
+        return WAITING + 17592186044416 * (k % 32) + key;
     }
     let units = k % 4294967296;
     if units == 0 {
@@ -63,7 +63,6 @@ fn close_word(end: u64, key: u64) -> u64
 
 // Document 01: "At the cycle's end, each thread waiting on an event notified in it, its wait begun in that cycle or before".
 fn wake_word(told: &[bool; 32], key: u64, w: u64) -> u64
-    requires { ⌜ length (now told) ≡ 32 ⌝ }
     requires { ⌜ key < 2 ^ 44 ⌝ }
     ensures { λ r. ⌜ r ≡ wakeWord (now (told .entry)) key w ⌝ }
 {
@@ -74,10 +73,7 @@ fn wake_word(told: &[bool; 32], key: u64, w: u64) -> u64
         return w;
     }
     let x = w - WAITING;
-    let e = (x / 17592186044416) as usize;
-    if 32 <= e {
-        return w;
-    }
+    let e = ((x / 17592186044416) % 32) as usize;
     if !told[e] {
         return w;
     }
@@ -92,7 +88,6 @@ fn wake(state: &mut [u64; 32], told: &[bool; 32], key: u64, from: usize, to: usi
     requires { ⌜ from ≤ to ⌝ }
     requires { ⌜ to ≤ 32 ⌝ }
     requires { ⌜ key < 2 ^ 44 ⌝ }
-    requires { ⌜ length (now told) ≡ 32 ⌝ }
     requires { ⌜ length (now state) ≡ 32 ⌝ }
     ensures { λ r. ⌜ Woken (now (told .entry)) key from to (now (state .entry)) (now (state .exit)) r ⌝ }
 {
@@ -109,7 +104,7 @@ fn wake(state: &mut [u64; 32], told: &[bool; 32], key: u64, from: usize, to: usi
 }
 
 fn smaller(w: u64, least: u64) -> u64
-    ensures { λ r. ⌜ r ≡ cond (ltb w least) w least ⌝ }
+    ensures { λ r. ⌜ r ≡ lesserOf w least ⌝ }
 {
     if w < least {
         return w;
@@ -237,7 +232,6 @@ fn end_cycle(
 ) -> Due
     requires { ⌜ t ≤ 32 ⌝ }
     requires { ⌜ due .key < 2 ^ 44 ⌝ }
-    requires { ⌜ length (now told) ≡ 32 ⌝ }
     requires { ⌜ length (now state) ≡ 32 ⌝ }
     requires { ⌜ Ends t (now state) (now told) (now ranges) (due .key) (due .from) (due .to) ⌝ }
     requires { ⌜ ((k : ℕ) → k < t → due .key < getD (now state) k 0) ⌝ }
@@ -266,7 +260,7 @@ fn state_of(w: u64) -> State
         return State::Ready(c);
     }
     if w < ENDED {
-        return State::Waiting((((w - WAITING) / 17592186044416) % 256) as u8, c);
+        return State::Waiting((((w - WAITING) / 17592186044416) % 32) as u8, c);
     }
     if w < OVERRUN {
         return State::Ended(c);
@@ -274,25 +268,11 @@ fn state_of(w: u64) -> State
     State::Overrun(c)
 }
 
-fn no_threads() -> Threads
-    ensures { λ r. ⌜ r .at ≡ replicate 32 noThread ⌝ }
-{
-    let c = Cycle {
-        time: Time(0),
-        delta: Delta(0),
-    };
-    let x = Thread {
-        segment: 0,
-        state: State::Ended(c),
-    };
-    Threads { at: [x; 32] }
-}
-
 fn threads_of(state: &[u64; 32], segments: &[u8; 32], t: usize) -> Threads
     requires { ⌜ t ≤ 32 ⌝ }
     ensures { λ r. ⌜ r .at ≡ threadsTo (now (state .entry)) (now (segments .entry)) t ⌝ }
 {
-    let mut ts = no_threads();
+    let mut ts = model_effect::no_threads();
     let mut k = 0;
     while k < t {
         let segment = segments[k];
@@ -440,7 +420,7 @@ fn result(
     }
 }
 
-// The cycles of a model that keeps the file rules, one after the other.
+// The cycles of a model that keeps the file rules, one after the other. A ready word at or past the limit is not run.
 fn cycles(m: Model, budget: u64) -> PlainRun
     requires { ⌜ modelFault m ≡ 0 ⌝ }
     ensures { λ r. ⌜ r ≡ reported m (runFor m budget (lastStep m) (startOf m)) ⌝ }
@@ -485,7 +465,7 @@ pub fn plain_run(m: Model, budget: u64) -> PlainRun
     ensures { λ r. ⌜ r ≡ plainRun m budget ⌝ }
 {
     if model_rules::model_fault(m) != 0 {
-        let threads = no_threads();
+        let threads = model_effect::no_threads();
         let variables = Variables { at: [0u32; 64] };
         return PlainRun {
             number: 11,

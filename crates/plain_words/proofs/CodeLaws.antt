@@ -1,8 +1,8 @@
 -- A model's segments as words: what is read from them is what the model says.
 --     end-kind, end-load     how a segment closes: its kind, and its delay or its event
---     code-end, code-execute, code-marked, code-follow     a segment's closer, its statements and the next segment
+--     code-end, code-execute, code-follow     a segment's closer, its statements and the next segment
 use Prim.Native.Nat.{ℕ, zero, suc, _+_, _*_, _/_, _%_, _<_, _≤_, _^_}
-use mathlib.Core.Path.{_≡_, refl, ap, sym, _∙_}
+use mathlib.Core.Path.{_≡_, refl, ap, _∙_}
 use mathlib.Core.Logic.{_⊎_, inl, inr}
 use mathlib.Core.Bool.{Bool, false, cond}
 use mathlib.Core.List.{List, []}
@@ -10,7 +10,7 @@ use native.Mathlib.Nat.{add-mul-mod-self-left, mul-mod-right, mod-eq-of-lt}
 use native.Mathlib.Omega.{arith}
 use native.Mathlib.Decide.{decLt}
 use lib.Dec.{eqb, eqb-refl}
-use lib.ListN.{getD, take}
+use lib.ListN.{length, getD, take}
 use borrow.Author.Tests.{lt-ltb, le-ltb, eq-eqb, ne-eqb}
 use Rattle.base.proofs.BoolLaws.{either→or}
 use Rattle.clock.specs.declared.Cycle.{Cycle}
@@ -20,6 +20,7 @@ use Rattle.model.specs.declared.Next.{Next}
 use Rattle.model.specs.declared.Closer.{Closer}
 use Rattle.model.specs.declared.Closer.the-variants.{End, Time, Event}
 use Rattle.model.specs.declared.Model.{Model}
+use Rattle.model.specs.declared.Statement.{Statement}
 use Rattle.model.specs.Values.{noStatement, segmentAt, bodyOf}
 use Rattle.model.specs.Statement.{execute, notifiedByOp, notifiedBy}
 use Rattle.model.specs.Effect.{nextOf, closedAt}
@@ -27,8 +28,10 @@ use Rattle.model.specs.Rules.{opFault, closerFault, leavesModel, modelFault}
 use Rattle.model_effect.proofs.StatementLaws.{execute-none, execute-more, notifiedBy-none, notifiedBy-more}
 use Rattle.model_rules.proofs.RuleLaws.{opFault-writes, opFault-reads, opFault-notifies, closerFault-time-test, closerFault-event-test, leavesModel-time, leavesModel-event, modelFault-counts, modelFault-statements, modelFault-closer, modelFault-next, modelFault-op}
 use Rattle.plain_words.specs.Pack.{Held, packEnd, packNext, packChoice, IsCode}
-use Rattle.plain_words.specs.Unpack.{opOf, markedOp, marked, endBy, sizeBy, executeTo, executeBy, markedTo, markedBy, nextBy, followBy}
+use Rattle.plain_words.specs.Unpack.{opOf, endBy, sizeBy, nextBy, followBy}
+use Rattle.plain_words.specs.Shared.{Shared, shared, marked, reached, executeWord, executeTo, executeBy}
 use Rattle.plain_words.proofs.MarkLaws.{marked-append}
+use Rattle.plain_words.proofs.ReachLaws.{reached-append}
 
 -- a word taken apart
 module _ (i a b : ℕ) where
@@ -101,19 +104,6 @@ held-holds (AddVariable a b) w h = holds-add-variable a b w (h .word)
 held-holds (SubVariable a b) w h = holds-sub-variable a b w (h .word)
 held-holds (Notify a) w h = holds-notify a w (h .word)
 
-marked-nil : (fs : List Bool) → fs ≡ marked fs []
-unfolding marked
-marked-nil fs = refl
-
-markedOp-as : (o : Op) (fs : List Bool) → markedOp o fs ≡ marked fs (notifiedByOp o [])
-unfolding marked
-markedOp-as (Set a b) fs = refl
-markedOp-as (Add a b) fs = refl
-markedOp-as (Copy a b) fs = refl
-markedOp-as (AddVariable a b) fs = refl
-markedOp-as (SubVariable a b) fs = refl
-markedOp-as (Notify w) fs = refl
-
 -- how a segment of n statements closes: its kind, and its delay or its event
 pub end-kind : (i n k : ℕ) → i < 4 → (i + 4 * n + 1024 * k) % 4 ≡ i
 end-kind i n k h =
@@ -179,21 +169,19 @@ module _ (m : Model) (fit : modelFault m ≡ 0) (code : List ℕ) (is : IsCode m
       let few = modelFault-statements m fit s l in
       held-holds _ _ (is .held s j below (omega arith)) (m .v) (m .e) (modelFault-counts m fit .variables) (modelFault-counts m fit .events) (modelFault-op m fit s j l h)
 
-  execute-to : (j : ℕ) → j ≤ segmentAt m s .n → (v : List ℕ) → executeTo code (34 * s + 2) j v ≡ execute (take j (segmentAt m s .statements)) v
-  unfolding executeTo
-  execute-to zero h v = execute-none (segmentAt m s .statements) v
-  execute-to (suc j) h v =
-      let few = modelFault-statements m fit s l in
-      rw (op-read j (omega arith), execute-to j (omega arith) v) (sym (execute-more (segmentAt m s .statements) j noStatement v (omega (arith, is .places s below))))
+  -- a segment whose statements are xs
+  after : List Statement → List ℕ → List Bool → List ℕ → Shared
+  after xs v fs rs = shared (execute xs v) (marked fs (notifiedBy xs)) (reached rs (notifiedBy xs))
 
-  marked-to : (j : ℕ) → j ≤ segmentAt m s .n → (fs : List Bool) → markedTo code (34 * s + 2) j fs ≡ marked fs (notifiedBy (take j (segmentAt m s .statements)))
-  unfolding markedTo
-  marked-to zero h fs = rw (notifiedBy-none (segmentAt m s .statements)) (marked-nil fs)
-  marked-to (suc j) h fs =
+  execute-to : (j : ℕ) → j ≤ segmentAt m s .n → (v : List ℕ) (fs : List Bool) (rs : List ℕ) → executeTo code (34 * s + 2) j (shared v fs rs) ≡ after (take j (segmentAt m s .statements)) v fs rs
+  unfolding executeTo executeWord after marked reached
+  execute-to zero h v fs rs = rw (← execute-none (segmentAt m s .statements) v, notifiedBy-none (segmentAt m s .statements)) refl
+  execute-to (suc j) h v fs rs =
       let few = modelFault-statements m fit s l in
-      let o = getD (segmentAt m s .statements) j noStatement .op in
-      rw (op-read j (omega arith), marked-to j (omega arith) fs, markedOp-as o)
-      (sym (ap (marked fs) (notifiedBy-more (segmentAt m s .statements) j noStatement (omega (arith, is .places s below))) ∙ marked-append fs (notifiedBy (take j (segmentAt m s .statements))) (notifiedByOp o [])))
+      let ss = segmentAt m s .statements in
+      let o = getD ss j noStatement .op in
+      let room : j < length ss = omega (arith, is .places s below) in
+      rw (execute-to j (omega arith) v fs rs, op-read j (omega arith), execute-more ss j noStatement v room, notifiedBy-more ss j noStatement room, marked-append fs (notifiedBy (take j ss)) (notifiedByOp o []), reached-append rs (notifiedBy (take j ss)) (notifiedByOp o [])) refl
 
   pub code-end : endBy code s ≡ packEnd (segmentAt m s .n) (segmentAt m s .closer)
   code-end = ap (λ (k : ℕ). getD code (34 * k) 0) place ∙ is .end s below
@@ -206,17 +194,12 @@ module _ (m : Model) (fit : modelFault m ≡ 0) (code : List ℕ) (is : IsCode m
       let few = modelFault-statements m fit s l in
       ap sizeBy code-end ∙ sizeBy-pack (segmentAt m s .n) (segmentAt m s .closer) few
 
-  pub code-execute : (v : List ℕ) → executeBy code s v ≡ execute (bodyOf (segmentAt m s)) v
-  unfolding executeBy bodyOf
-  code-execute v =
-      ap (λ (k : ℕ). executeTo code (34 * k + 2) (sizeBy (endBy code s)) v) place ∙
-      (ap (λ (k : ℕ). executeTo code (34 * s + 2) k v) code-size ∙ execute-to (segmentAt m s .n) (omega arith) v)
-
-  pub code-marked : (fs : List Bool) → markedBy code s fs ≡ marked fs (notifiedBy (bodyOf (segmentAt m s)))
-  unfolding markedBy bodyOf
-  code-marked fs =
-      ap (λ (k : ℕ). markedTo code (34 * k + 2) (sizeBy (endBy code s)) fs) place ∙
-      (ap (λ (k : ℕ). markedTo code (34 * s + 2) k fs) code-size ∙ marked-to (segmentAt m s .n) (omega arith) fs)
+  pub code-execute : (v : List ℕ) (fs : List Bool) (rs : List ℕ) →
+      executeBy code s (shared v fs rs) ≡ shared (execute (bodyOf (segmentAt m s)) v) (marked fs (notifiedBy (bodyOf (segmentAt m s)))) (reached rs (notifiedBy (bodyOf (segmentAt m s))))
+  unfolding executeBy bodyOf after
+  code-execute v fs rs =
+      ap (λ (k : ℕ). executeTo code (34 * k + 2) (sizeBy (endBy code s)) (shared v fs rs)) place ∙
+      (ap (λ (k : ℕ). executeTo code (34 * s + 2) k (shared v fs rs)) code-size ∙ execute-to (segmentAt m s .n) (omega arith) v fs rs)
 
   pub code-follow : (c : Cycle) (x : List ℕ) → followBy code s x ≡ closedAt s (segmentAt m s .closer) c x .segment
   unfolding followBy

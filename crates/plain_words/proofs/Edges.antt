@@ -10,8 +10,9 @@ use Rattle.model.specs.declared.Next.{Next}
 use Rattle.model.specs.declared.Closer.{Closer}
 use Rattle.model.specs.declared.Closer.the-variants.{End, Time, Event}
 use Rattle.plain_words.specs.Pack.{packOp, packEnd, packNext, packChoice}
-use Rattle.plain_words.specs.Unpack.{opOf, endBy, sizeBy, executeBy, markedBy, nextBy, followBy}
-use Rattle.plain_words.specs.Reach.{lesserOf, greaterOf, Inside, widened, reachedOp, reachedTo, reachedBy}
+use Rattle.plain_words.specs.Unpack.{opOf, endBy, sizeBy, nextBy, followBy}
+use Rattle.plain_words.specs.Reach.{lesserOf, greaterOf, Inside, widened}
+use Rattle.plain_words.specs.Shared.{shared, executeWord, executeTo, executeBy}
 use Rattle.plain_words.proofs.Computed.{computed}
 
 -- STATEMENTS
@@ -73,7 +74,7 @@ pub endBy-edge : (endBy waiting 0 ≡ 2 + 4 * 1 + 1024 * 31) × (endBy waiting 1
 endBy-edge = (refl, refl, refl)
 
 -- no statement past the last
-pub executeBy-edge : (executeBy waiting 0 (0 ∷ 0 ∷ []) ≡ 5 ∷ 0 ∷ []) × (markedBy ending 0 (false ∷ false ∷ []) ≡ false ∷ true ∷ [])
+pub executeBy-edge : (executeBy waiting 0 (shared (0 ∷ 0 ∷ []) [] []) .variables ≡ 5 ∷ 0 ∷ []) × (executeBy ending 0 (shared [] (false ∷ false ∷ []) []) .told ≡ false ∷ true ∷ [])
 unfolding computed
 executeBy-edge = (refl, refl)
 
@@ -116,22 +117,27 @@ pub widened-edge :
 unfolding computed
 widened-edge = (refl, refl, refl, refl, refl, refl)
 
+-- the range of the reached threads
+abbrev reachedBy : List ℕ → ℕ → ℕ × ℕ
+reachedBy code s = range 32 (executeBy code s (shared [] [] held) .ranges)
+
 -- a notification of event 0, of event 31, and another statement
-pub reachedOp-edge :
-    (range 32 (reachedOp (Notify 0) held) ≡ (3, 5)) ×
-    (range 32 (reachedOp (Notify 31) held) ≡ (0, 32)) ×
-    (range 32 (reachedOp (Set 0 31) held) ≡ (32, 0))
+pub executeWord-edge :
+    (range 32 (executeWord (packOp (Notify 0)) (shared [] [] held) .ranges) ≡ (3, 5)) ×
+    (range 32 (executeWord (packOp (Notify 31)) (shared [] [] held) .ranges) ≡ (0, 32)) ×
+    (range 32 (executeWord (packOp (Set 0 31)) (shared [] [] held) .ranges) ≡ (32, 0))
 unfolding computed
-reachedOp-edge = (refl, refl, refl)
+executeWord-edge = (refl, refl, refl)
 
 -- no statement, one, two
-pub reachedTo-edge :
-    (range 32 (reachedTo ending 2 0 held) ≡ (32, 0)) × (range 32 (reachedTo ending 2 1 held) ≡ (7, 8)) × (range 32 (reachedTo ending 2 2 held) ≡ (3, 8))
+pub executeTo-edge :
+    (range 32 (executeTo ending 2 0 (shared [] [] held) .ranges) ≡ (32, 0)) ×
+    (range 32 (executeTo ending 2 1 (shared [] [] held) .ranges) ≡ (7, 8)) ×
+    (range 32 (executeTo ending 2 2 (shared [] [] held) .ranges) ≡ (3, 8))
 unfolding computed
-reachedTo-edge = (refl, refl, refl)
+executeTo-edge = (refl, refl, refl)
 
 -- no statement past the last; 64 is read as 0
-pub reachedBy-edge :
-    (range 32 (reachedBy ending 0 held) ≡ (7, 8)) × (range 32 (reachedBy ending 63 held) ≡ (32, 0)) × (range 32 (reachedBy ending 64 held) ≡ (7, 8))
+pub reachedBy-edge : (reachedBy ending 0 ≡ (7, 8)) × (reachedBy ending 63 ≡ (32, 0)) × (reachedBy ending 64 ≡ (7, 8))
 unfolding computed
 reachedBy-edge = (refl, refl, refl)

@@ -1,22 +1,25 @@
--- The definitions of `Pack` and `Unpack`, one law for each way out of the code that computes them.
+-- The definitions of `Pack`, `Unpack` and `Shared`, one law for each way out of the code that computes them.
 use Prim.Native.Nat.{ℕ, _+_, _*_, _/_, _%_, _<_, _≤_}
 use mathlib.Core.Path.{_≡_, refl, _∙_}
-use mathlib.Core.Bool.{Bool}
+use mathlib.Core.Bool.{Bool, true}
 use mathlib.Core.List.{List, [], _∷_}
 use types.Run.{OneOf, miss}
 use denote.Enum.Declared.{tagOf}
 use native.Mathlib.Numerals.{add-one}
 use native.Mathlib.Omega.{arith}
 use native.Mathlib.Decide.{decLt}
-use lib.ListN.{getD}
+use lib.ListN.{getD, set}
 use borrow.Author.Tests.{lt-ltb, le-ltb, eq-eqb, ne-eqb}
+use Rattle.model.specs.declared.Op.{Op}
 use Rattle.model.specs.declared.Op.the-variants.{Set, Add, Copy, AddVariable, SubVariable, Notify}
 use Rattle.model.specs.declared.Closer.{Closer}
 use Rattle.model.specs.declared.Closer.the-variants.{End, Time, Event}
 use Rattle.model.proofs.Closer as closer
-use Rattle.model.specs.Statement.{executeOp}
+use Rattle.model.specs.Statement.{executeOp, notifiedByOp}
 use Rattle.plain_words.specs.Pack.{packEnd}
-use Rattle.plain_words.specs.Unpack.{opOf, markedOp, sizeBy, executeTo, executeBy, markedTo, markedBy, nextBy, followBy}
+use Rattle.plain_words.specs.Unpack.{opOf, sizeBy, nextBy, followBy}
+use Rattle.plain_words.specs.Reach.{widened}
+use Rattle.plain_words.specs.Shared.{Shared, shared, marked, reached, executeWord, executeTo, executeBy}
 
 module _ (w : ℕ) (v : List ℕ) where
   pub nextBy-untested : w / 65536 % 256 ≡ 255 → w % 256 ≡ nextBy w v
@@ -86,33 +89,29 @@ module _ (w : ℕ) where
           unfolding opOf
           opOf-notify n4 = rw (ne-eqb (w % 8) 0 n0, ne-eqb (w % 8) 1 n1, ne-eqb (w % 8) 2 n2, ne-eqb (w % 8) 3 n3, ne-eqb (w % 8) 4 n4) refl
 
--- one statement more of a segment
-module _ (code : List ℕ) (base j : ℕ) where
-  pub executeTo-next : (v x y : List ℕ) → x ≡ executeTo code base j v → y ≡ executeOp (opOf (getD code (base + j) 0)) x → y ≡ executeTo code base (j + 1) v
+-- one statement
+module _ (w : ℕ) (v : List ℕ) (fs : List Bool) (rs : List ℕ) where
+  pub executeWord-sets : (o : Op) → opOf w ≡ o → notifiedByOp o [] ≡ [] → (x : List ℕ) → x ≡ executeOp o v → shared x fs rs ≡ executeWord w (shared v fs rs)
+  unfolding executeWord marked reached
+  executeWord-sets o h n x e = rw (h, n, e) refl
+
+  pub executeWord-notifies : (e : ℕ) → opOf w ≡ Notify e → (x : List ℕ) → x ≡ widened 32 (getD rs e 0) (getD rs (33 + e) 0) rs → shared v (set fs e true) x ≡ executeWord w (shared v fs rs)
+  unfolding executeWord marked reached
+  executeWord-notifies e h x q = rw (h, q) refl
+
+-- one statement more of a segment, and all of them
+module _ (code : List ℕ) (x : Shared) where
+  pub executeTo-none : (base : ℕ) → x ≡ executeTo code base 0 x
   unfolding executeTo
-  executeTo-next v x y e f = rw (add-one, ← e) f
+  executeTo-none base = refl
 
-  pub markedTo-next : (fs x y : List Bool) → x ≡ markedTo code base j fs → y ≡ markedOp (opOf (getD code (base + j) 0)) x → y ≡ markedTo code base (j + 1) fs
-  unfolding markedTo
-  markedTo-next fs x y e f = rw (add-one, ← e) f
+  pub executeTo-next : (base j : ℕ) (y z : Shared) → y ≡ executeTo code base j x → z ≡ executeWord (getD code (base + j) 0) y → z ≡ executeTo code base (j + 1) x
+  unfolding executeTo
+  executeTo-next base j y z e f = rw (add-one, ← e) f
 
-pub executeTo-none : (code : List ℕ) (base : ℕ) (v : List ℕ) → v ≡ executeTo code base 0 v
-unfolding executeTo
-executeTo-none code base v = refl
-
-pub markedTo-none : (code : List ℕ) (base : ℕ) (fs : List Bool) → fs ≡ markedTo code base 0 fs
-unfolding markedTo
-markedTo-none code base fs = refl
-
--- all statements of a segment
-module _ (code : List ℕ) (s : ℕ) where
-  pub executeBy-as : (v : List ℕ) (i j : ℕ) (x : List ℕ) → i ≡ s → j ≡ sizeBy (getD code (34 * (i % 64)) 0) → x ≡ executeTo code (34 * (i % 64) + 2) j v → x ≡ executeBy code s v
+  pub executeBy-as : (s i j : ℕ) (y : Shared) → i ≡ s → j ≡ sizeBy (getD code (34 * (i % 64)) 0) → y ≡ executeTo code (34 * (i % 64) + 2) j x → y ≡ executeBy code s x
   unfolding executeBy
-  executeBy-as v i j x e f g = g ∙ rw (f, e) refl
-
-  pub markedBy-as : (fs : List Bool) (i j : ℕ) (x : List Bool) → i ≡ s → j ≡ sizeBy (getD code (34 * (i % 64)) 0) → x ≡ markedTo code (34 * (i % 64) + 2) j fs → x ≡ markedBy code s fs
-  unfolding markedBy
-  markedBy-as fs i j x e f g = g ∙ rw (f, e) refl
+  executeBy-as s i j y e f g = g ∙ rw (f, e) refl
 
 -- the `End` arm
 pub packEnd-over : (n : ℕ) (z : Closer) → OneOf (0 ∷ []) (tagOf closer.the-type z) → 4 * n ≡ packEnd n z

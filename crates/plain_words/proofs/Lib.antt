@@ -1,3 +1,4 @@
+pub mod SetLaws
 pub mod PackLaws
 pub mod ExitLaws
 pub mod MarkLaws

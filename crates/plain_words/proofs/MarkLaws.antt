@@ -12,7 +12,7 @@ use lib.ListN.{length, getD, set, replicate, length-set}
 use lib.Seq.{getD-set-same, getD-set-other}
 use borrow.Author.Tests.{eq-eqb, ne-eqb}
 use Rattle.model.specs.Footprint.{has}
-use Rattle.plain_words.specs.Unpack.{marked}
+use Rattle.plain_words.specs.Shared.{marked}
 
 pub marked-append : (fs : List Bool) (es ds : List ℕ) → marked fs (es ++ ds) ≡ marked (marked fs es) ds
 unfolding marked

@@ -14,6 +14,7 @@ use Rattle.model.specs.declared.Model.{Model}
 use Rattle.model.specs.declared.Closer.the-variants.{End}
 use Rattle.model.specs.declared.Segment.{Segment}
 use Rattle.model.specs.Values.{noStatement, noSegment, segmentAt}
+use Rattle.plain_words.proofs.SetLaws.{set-case}
 use Rattle.plain_words.specs.Pack.{Held, packEnd, packChoice, IsCode}
 
 module _ (P : ℕ → ℕ → Type 0) where
@@ -22,11 +23,8 @@ module _ (P : ℕ → ℕ → Type 0) where
 
   pub part-more : (xs : List ℕ) (base k x : ℕ) → base + k < length xs → P k x → ((i : ℕ) → i < k → P i (getD xs (base + i) 0)) →
       (i : ℕ) → i < k + 1 → P i (getD (set xs (base + k) x) (base + i) 0)
-  part-more xs base k x h p f i l = go (ℕ-discrete i k)
-    where
-      go : Dec (i ≡ k) → P i (getD (set xs (base + k) x) (base + i) 0)
-      go (yes e) = rw (e, getD-set-same xs (base + k) x 0 h) p
-      go (no e) = rw (getD-set-other xs (base + k) (base + i) x 0 (λ q. e (omega arith))) (f i (omega arith))
+  part-more xs base k x h p f i l =
+      set-case xs (base + k) (base + i) x 0 h (P i) (λ e. let q : i ≡ k = omega arith in rw q p) (λ e. f i (omega arith))
 
 pub part-before : (xs ys : List ℕ) (base k x : ℕ) → ((i : ℕ) → i < base → getD xs i 0 ≡ getD ys i 0) → (i : ℕ) → i < base → getD (set xs (base + k) x) i 0 ≡ getD ys i 0
 part-before xs ys base k x f i l = getD-set-other xs (base + k) i x 0 (λ q. omega arith) ∙ f i l

@@ -1,22 +1,21 @@
 -- Ranges of threads: what they hold they keep.
 --     widened-keeps, widened-new     a range that is widened holds what it held, and what it is widened by
---     reachedBy-length, reachedBy-keeps     after a segment
---     told-reached     an event that a segment marks: the threads of its range are reached
+--     reached-append     events one after the other
+--     Wider, executeBy-wider     after a segment; an event that it marks: the threads of its range are reached
 use Prim.Native.Nat.{ℕ, zero, suc, _+_, _*_, _%_, _<_, _≤_}
 use mathlib.Core.Path.{_≡_, refl, sym, _∙_}
 use mathlib.Core.Logic.{_⊎_, inl, inr}
 use mathlib.Core.Bool.{Bool, true, false}
-use mathlib.Core.List.{List}
-use native.Mathlib.Numerals.{add-one}
+use mathlib.Core.List.{List, [], _∷_, _++_}
 use native.Mathlib.Omega.{arith}
 use native.Mathlib.Decide.{ℕ-discrete, decLt}
 use lib.ListN.{length, getD, set, length-set}
 use lib.Seq.{getD-set-same, getD-set-other}
 use borrow.Author.Tests.{lt-ltb, le-ltb}
-use Rattle.model.specs.declared.Op.{Op}
-use Rattle.model.specs.declared.Op.the-variants.{Set, Add, Copy, AddVariable, SubVariable, Notify}
-use Rattle.plain_words.specs.Unpack.{opOf, markedOp, endBy, sizeBy, markedTo, markedBy}
-use Rattle.plain_words.specs.Reach.{lesserOf, greaterOf, Inside, widened, reachedOp, reachedTo, reachedBy}
+use Rattle.model.specs.Statement.{notifiedByOp}
+use Rattle.plain_words.specs.Unpack.{opOf, endBy, sizeBy}
+use Rattle.plain_words.specs.Reach.{lesserOf, greaterOf, Inside, widened}
+use Rattle.plain_words.specs.Shared.{Shared, marked, reached, executeTo, executeBy, executeWord}
 
 pub lesserOf-≤ : (a b : ℕ) → (lesserOf a b ≤ a) × (lesserOf a b ≤ b)
 lesserOf-≤ a b = go (decLt a b)
@@ -80,94 +79,60 @@ module _ (i a b : ℕ) (rs : List ℕ) where
             rw e (omega (arith, first-new), omega (arith, past-new))
         go (no e) = (omega (arith, place-other j e (λ q. omega arith)), omega (arith, place-other (33 + j) (λ q. omega arith) (λ q. e (omega arith))))
 
--- one statement
-reachedOp-length : (o : Op) (rs : List ℕ) → length (reachedOp o rs) ≡ length rs
-reachedOp-length (Set a b) rs = refl
-reachedOp-length (Add a b) rs = refl
-reachedOp-length (Copy a b) rs = refl
-reachedOp-length (AddVariable a b) rs = refl
-reachedOp-length (SubVariable a b) rs = refl
-reachedOp-length (Notify w) rs = widened-length 32 (getD rs w 0) (getD rs (33 + w) 0) rs
+pub reached-append : (rs es ds : List ℕ) → reached rs (es ++ ds) ≡ reached (reached rs es) ds
+unfolding reached
+reached-append rs [] ds = refl
+reached-append rs (e ∷ es) ds = reached-append (widened 32 (getD rs e 0) (getD rs (33 + e) 0) rs) es ds
 
-reachedOp-keeps : (o : Op) (rs : List ℕ) → length rs ≡ 66 → (j k : ℕ) → j < 33 → Inside rs j k → Inside (reachedOp o rs) j k
-reachedOp-keeps (Set a b) rs size j k l h = h
-reachedOp-keeps (Add a b) rs size j k l h = h
-reachedOp-keeps (Copy a b) rs size j k l h = h
-reachedOp-keeps (AddVariable a b) rs size j k l h = h
-reachedOp-keeps (SubVariable a b) rs size j k l h = h
-reachedOp-keeps (Notify w) rs size j k l h = widened-keeps 32 (getD rs w 0) (getD rs (33 + w) 0) rs (omega arith) size j k l h
+-- the marks gs and ranges qs, with more in them than fs and rs: a range holds what it held, and where an event is marked the threads of its range are reached
+pub record Wider (fs gs : List Bool) (rs qs : List ℕ) : Type 0 where
+  pub size : length qs ≡ 66
+  pub keeps : (j k : ℕ) → j < 33 → Inside rs j k → Inside qs j k
+  pub told : (e k : ℕ) → e < 32 → Inside rs e k → getD gs e false ≡ true → (getD fs e false ≡ true) ⊎ Inside qs 32 k
 
-marks-reached : (o : Op) (fs : List Bool) (rs : List ℕ) → length rs ≡ 66 → (e k : ℕ) → Inside rs e k →
-    getD (markedOp o fs) e false ≡ true → (getD fs e false ≡ true) ⊎ Inside (reachedOp o rs) 32 k
-marks-reached (Set a b) fs rs size e k h t = inl t
-marks-reached (Add a b) fs rs size e k h t = inl t
-marks-reached (Copy a b) fs rs size e k h t = inl t
-marks-reached (AddVariable a b) fs rs size e k h t = inl t
-marks-reached (SubVariable a b) fs rs size e k h t = inl t
-marks-reached (Notify w) fs rs size e k (u, u′) t = go (ℕ-discrete e w)
-  where
-    go : Dec (e ≡ w) → (getD fs e false ≡ true) ⊎ Inside (widened 32 (getD rs w 0) (getD rs (33 + w) 0) rs) 32 k
-    go (yes q) = inr (widened-new 32 (getD rs w 0) (getD rs (33 + w) 0) rs (omega arith) size k (rw (← q) u) (rw (← q) u′))
-    go (no q) = inl (sym (getD-set-other fs w e true false q) ∙ t)
+wider-none : (fs : List Bool) (rs : List ℕ) → length rs ≡ 66 → Wider fs fs rs rs
+wider-none fs rs size = record { size = size; keeps = λ j k l h. h; told = λ e k l h t. inl t }
 
-module _ (code : List ℕ) (base : ℕ) where
-  pub reachedTo-none : (rs : List ℕ) → rs ≡ reachedTo code base 0 rs
-  unfolding reachedTo
-  reachedTo-none rs = refl
-
-  pub reachedTo-next : (j : ℕ) (rs x y : List ℕ) → x ≡ reachedTo code base j rs → y ≡ reachedOp (opOf (getD code (base + j) 0)) x → y ≡ reachedTo code base (j + 1) rs
-  unfolding reachedTo
-  reachedTo-next j rs x y e f = rw (add-one, ← e) f
-
-  reachedTo-length : (j : ℕ) (rs : List ℕ) → length (reachedTo code base j rs) ≡ length rs
-  unfolding reachedTo
-  reachedTo-length zero rs = refl
-  reachedTo-length (suc j) rs = reachedOp-length (opOf (getD code (base + j) 0)) (reachedTo code base j rs) ∙ reachedTo-length j rs
-
-  reachedTo-keeps : (n : ℕ) (rs : List ℕ) → length rs ≡ 66 → (j k : ℕ) → j < 33 → Inside rs j k → Inside (reachedTo code base n rs) j k
-  unfolding reachedTo
-  reachedTo-keeps zero rs size j k l h = h
-  reachedTo-keeps (suc n) rs size j k l h =
-      reachedOp-keeps (opOf (getD code (base + n) 0)) (reachedTo code base n rs) (reachedTo-length n rs ∙ size) j k l (reachedTo-keeps n rs size j k l h)
-
-  told-reachedTo : (n : ℕ) (fs : List Bool) (rs : List ℕ) → length rs ≡ 66 → (e k : ℕ) → e < 32 → Inside rs e k →
-      getD (markedTo code base n fs) e false ≡ true → (getD fs e false ≡ true) ⊎ Inside (reachedTo code base n rs) 32 k
-  unfolding markedTo reachedTo
-  told-reachedTo zero fs rs size e k l h t = inl t
-  told-reachedTo (suc n) fs rs size e k l h t =
-      go (told-reachedTo n fs rs size e k l h) (marks-reached op (markedTo code base n fs) (reachedTo code base n rs) size′ e k (reachedTo-keeps n rs size e k (omega arith) h) t)
+module _ (fs gs : List Bool) (rs qs : List ℕ) (w : Wider fs gs rs qs) where
+  wider-event : (i : ℕ) → Wider fs (set gs i true) rs (widened 32 (getD qs i 0) (getD qs (33 + i) 0) qs)
+  wider-event i =
+      record {
+        size = widened-length 32 a b qs ∙ w .size;
+        keeps = λ j k l h. more j k l (w .keeps j k l h);
+        told = λ e k l h t. go e k l h t (ℕ-discrete e i);
+      }
     where
-      op : Op
-      op = opOf (getD code (base + n) 0)
+      a : ℕ
+      a = getD qs i 0
 
-      size′ : length (reachedTo code base n rs) ≡ 66
-      size′ = reachedTo-length n rs ∙ size
+      b : ℕ
+      b = getD qs (33 + i) 0
 
-      more : (getD fs e false ≡ true) ⊎ Inside (reachedTo code base n rs) 32 k → (getD fs e false ≡ true) ⊎ Inside (reachedOp op (reachedTo code base n rs)) 32 k
-      more (inl q) = inl q
-      more (inr q) = inr (reachedOp-keeps op (reachedTo code base n rs) size′ 32 k (omega arith) q)
+      more : (j k : ℕ) → j < 33 → Inside qs j k → Inside (widened 32 a b qs) j k
+      more = widened-keeps 32 a b qs (omega arith) (w .size)
 
-      go : (getD (markedTo code base n fs) e false ≡ true → (getD fs e false ≡ true) ⊎ Inside (reachedTo code base n rs) 32 k) →
-          (getD (markedTo code base n fs) e false ≡ true) ⊎ Inside (reachedOp op (reachedTo code base n rs)) 32 k →
-          (getD fs e false ≡ true) ⊎ Inside (reachedOp op (reachedTo code base n rs)) 32 k
-      go ih (inl q) = more (ih q)
-      go ih (inr q) = inr q
+      old : (e k : ℕ) → (getD fs e false ≡ true) ⊎ Inside qs 32 k → (getD fs e false ≡ true) ⊎ Inside (widened 32 a b qs) 32 k
+      old e k (inl q) = inl q
+      old e k (inr q) = inr (more 32 k (omega arith) q)
 
--- all statements of a segment
-module _ (code : List ℕ) (s : ℕ) where
-  pub reachedBy-as : (rs : List ℕ) (i j : ℕ) (x : List ℕ) → i ≡ s → j ≡ sizeBy (getD code (34 * (i % 64)) 0) → x ≡ reachedTo code (34 * (i % 64) + 2) j rs → x ≡ reachedBy code s rs
-  unfolding reachedBy
-  reachedBy-as rs i j x e f g = g ∙ rw (f, e) refl
+      go : (e k : ℕ) → e < 32 → Inside rs e k → getD (set gs i true) e false ≡ true → Dec (e ≡ i) → (getD fs e false ≡ true) ⊎ Inside (widened 32 a b qs) 32 k
+      go e k l h t (yes q) = let (u, u′) = w .keeps e k (omega arith) h in inr (widened-new 32 a b qs (omega arith) (w .size) k (rw (← q) u) (rw (← q) u′))
+      go e k l h t (no q) = old e k (w .told e k l h (sym (getD-set-other gs i e true false q) ∙ t))
 
-  module _ (rs : List ℕ) (size : length rs ≡ 66) where
-    pub reachedBy-length : length (reachedBy code s rs) ≡ 66
-    unfolding reachedBy
-    reachedBy-length = reachedTo-length code (34 * (s % 64) + 2) (sizeBy (endBy code s)) rs ∙ size
+wider-events : (fs gs : List Bool) (rs qs es : List ℕ) → Wider fs gs rs qs → Wider fs (marked gs es) rs (reached qs es)
+unfolding marked reached
+wider-events fs gs rs qs [] w = w
+wider-events fs gs rs qs (e ∷ es) w = wider-events fs (set gs e true) rs (widened 32 (getD qs e 0) (getD qs (33 + e) 0) qs) es (wider-event fs gs rs qs w e)
 
-    pub reachedBy-keeps : (j k : ℕ) → j < 33 → Inside rs j k → Inside (reachedBy code s rs) j k
-    unfolding reachedBy
-    reachedBy-keeps = reachedTo-keeps code (34 * (s % 64) + 2) (sizeBy (endBy code s)) rs size
+-- the statements of a segment
+module _ (code : List ℕ) (x : Shared) (size : length (x .ranges) ≡ 66) where
+  wider-to : (base j : ℕ) → Wider (x .told) (executeTo code base j x .told) (x .ranges) (executeTo code base j x .ranges)
+  unfolding executeTo executeWord
+  wider-to base zero = wider-none (x .told) (x .ranges) size
+  wider-to base (suc j) =
+      let y = executeTo code base j x in
+      wider-events (x .told) (y .told) (x .ranges) (y .ranges) (notifiedByOp (opOf (getD code (base + j) 0)) []) (wider-to base j)
 
-    pub told-reached : (fs : List Bool) (e k : ℕ) → e < 32 → Inside rs e k → getD (markedBy code s fs) e false ≡ true → (getD fs e false ≡ true) ⊎ Inside (reachedBy code s rs) 32 k
-    unfolding markedBy reachedBy
-    told-reached fs = told-reachedTo code (34 * (s % 64) + 2) (sizeBy (endBy code s)) fs rs size
+  pub executeBy-wider : (s : ℕ) → Wider (x .told) (executeBy code s x .told) (x .ranges) (executeBy code s x .ranges)
+  unfolding executeBy
+  executeBy-wider s = wider-to (34 * (s % 64) + 2) (sizeBy (endBy code s))

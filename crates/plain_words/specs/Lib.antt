@@ -1,3 +1,4 @@
 pub mod Pack
 pub mod Unpack
 pub mod Reach
+pub mod Shared

@@ -8,10 +8,10 @@ ghost use mathlib.Core.Path.{_≡_};
 ghost use Prim.Native.Nat.{ℕ, _+_, _-_, _*_, _%_, _≤_, _<_, _^_};
 ghost use lib.ListN.{getD, length};
 ghost use Rattle.model.specs.Values.{noStatement};
-ghost use Rattle.model.specs.Statement.{executeOp};
 ghost use Rattle.plain_words.specs.Pack.{Held, packEnd, packNext, packChoice, IsCode};
-ghost use Rattle.plain_words.specs.Unpack.{opOf, markedOp, endBy, sizeBy, executeTo, executeBy, markedTo, markedBy, nextBy, followBy};
-ghost use Rattle.plain_words.specs.Reach.{lesserOf, greaterOf, widened, reachedOp, reachedBy};
+ghost use Rattle.plain_words.specs.Unpack.{endBy, sizeBy, nextBy, followBy};
+ghost use Rattle.plain_words.specs.Reach.{lesserOf, greaterOf, widened};
+ghost use Rattle.plain_words.specs.Shared.{shared, executeWord, executeBy};
 
 // A statement: its operation, a and b.
 fn packed(code: u64, a: u8, b: u32) -> u64
@@ -137,9 +137,7 @@ pub fn widen(ranges: &mut [usize; 66], i: usize, first: usize, past: usize)
 
 // One statement.
 fn execute_word(w: u64, v: &mut [u32; 64], told: &mut [bool; 32], ranges: &mut [usize; 66])
-    ensures value { λ _. ⌜ now (v .exit) ≡ executeOp (opOf w) (now (v .entry)) ⌝ }
-    ensures mark { λ _. ⌜ now (told .exit) ≡ markedOp (opOf w) (now (told .entry)) ⌝ }
-    ensures reach { λ _. ⌜ now (ranges .exit) ≡ reachedOp (opOf w) (now (ranges .entry)) ⌝ }
+    ensures { λ _. ⌜ shared (now (v .exit)) (now (told .exit)) (now (ranges .exit)) ≡ executeWord w (shared (now (v .entry)) (now (told .entry)) (now (ranges .entry))) ⌝ }
 {
     let code = w % 8;
     let a = ((w / 8) % 64) as usize;
@@ -204,9 +202,7 @@ pub fn execute(
     told: &mut [bool; 32],
     ranges: &mut [usize; 66],
 )
-    ensures value { λ _. ⌜ now (v .exit) ≡ executeBy (now (code .entry)) s (now (v .entry)) ⌝ }
-    ensures mark { λ _. ⌜ now (told .exit) ≡ markedBy (now (code .entry)) s (now (told .entry)) ⌝ }
-    ensures reach { λ _. ⌜ now (ranges .exit) ≡ reachedBy (now (code .entry)) s (now (ranges .entry)) ⌝ }
+    ensures { λ _. ⌜ shared (now (v .exit)) (now (told .exit)) (now (ranges .exit)) ≡ executeBy (now (code .entry)) s (shared (now (v .entry)) (now (told .entry)) (now (ranges .entry))) ⌝ }
 {
     let i = wide(s);
     let base = 34 * (i % 64);

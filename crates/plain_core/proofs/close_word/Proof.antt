@@ -1,6 +1,6 @@
 -- `plain_core::close_word` meets its contract.
 use mathlib.Core.Path.{_∙_}
-use Rattle.plain_core.proofs.ExitLaws.{closeWord-over, closeWord-event, closeWord-delta, closeWord-units}
+use Rattle.plain_state.proofs.ExitLaws.{closeWord-over, closeWord-event, closeWord-delta, closeWord-units}
 use borrow.Author.Needs.{needs}
 use Rattle.plain_core.proofs.close_word.Statement.{statement}
 use Rattle.plain_core.proofs.close_word.Tie as tie
@@ -21,13 +21,15 @@ add-result-3 : tie.Need-add-result-3
 add-result-3 c = search needs
 
 returns-2 : tie.Need-returns-2
-returns-2 c = closeWord-event (c .before .before .args .key) (c .before .before .args .end) (c .before .if1 .left) (c .if2 .taken)
+returns-2 c = let a = c .before .before .args in closeWord-event (a .key) (a .end) (c .before .if1 .left) (c .if2 .taken)
 
 next-delta-requires : tie.Need-next-delta-requires
 next-delta-requires c κs = search needs
 
 returns-3 : tie.Need-returns-3
-returns-3 c = c .next-delta .ensures ∙ closeWord-delta (c .before .before .before .before .args .key) (c .before .before .before .before .args .end) (c .before .before .before .if1 .left) (c .before .before .if2 .left) (c .before .if3 .taken)
+returns-3 c = let second = c .before .before in
+    let a = second .before .before .args in
+    c .next-delta .ensures ∙ closeWord-delta (a .key) (a .end) (second .before .if1 .left) (second .if2 .left) (c .before .if3 .taken)
 
 add-result-4 : tie.Need-add-result-4
 add-result-4 c = search needs
@@ -36,7 +38,9 @@ mul-result-2 : tie.Need-mul-result-2
 mul-result-2 c = search needs
 
 returns-4 : tie.Need-returns-4
-returns-4 c = closeWord-units (c .before .before .before .args .key) (c .before .before .before .args .end) (c .before .before .if1 .left) (c .before .if2 .left) (c .if3 .left)
+returns-4 c = let second = c .before in
+    let a = second .before .before .args in
+    closeWord-units (a .key) (a .end) (second .before .if1 .left) (second .if2 .left) (c .if3 .left)
 
 pub close-word-spec : {M : Type 1} → statement M
 close-word-spec =

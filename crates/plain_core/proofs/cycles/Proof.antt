@@ -6,15 +6,17 @@ use native.Mathlib.Omega.{arith}
 use borrow.Author.Needs.{needs}
 use Rattle.model.specs.declared.Model.{Model}
 use Rattle.model_rules.proofs.RuleLaws.{modelFault-horizon, modelFault-counts}
-use Rattle.plain_core.specs.Due.{Begins}
-use Rattle.plain_core.proofs.LoopLaws.{Loop, countAt, loop-start, loop-small, falls-later}
-use Rattle.plain_core.proofs.EndLaws.{due-idle, begins-start}
-use Rattle.plain_core.proofs.TurnLaws.{Runs, cycle-room, cycle-out, cycle-in, cycle-ends, cycle-ahead, cycle-rest, cycle-next, cycle-later, cycle-begun}
+use Rattle.plain_state.specs.Words.{limitOf}
+use Rattle.plain_state.specs.Turn.{locals}
+use Rattle.plain_state.specs.Due.{Begins}
+use Rattle.plain_state.proofs.LoopLaws.{Loop, countAt, loop-start, falls-later}
+use Rattle.plain_state.proofs.EndLaws.{due-idle, begins-start}
+use Rattle.plain_state.proofs.TurnLaws.{Runs, Cycled, cycle-small, cycle-room, cycle-out, cycle-in, cycle-ends, cycle-ahead, cycle-rest, cycle-next, cycle-later, cycle-begun}
 use Rattle.plain_core.proofs.cycles.Statement.{statement}
 use Rattle.plain_core.proofs.cycles.Tie as tie
 
 abbrev Inv-loop : tie.InvT-loop
-Inv-loop budget t limit code segments₀ v₀ state₀ told₀ ranges₀ due₀ n₀ segments v state told ranges due n = Begins t state told ranges (due .key) (due .from) (due .to) × ((m : Model) → Runs m t limit code segments₀ → Loop m budget v state segments told (due .key) 0 n)
+Inv-loop budget t limit code segments₀ v₀ state₀ told₀ ranges₀ due₀ n₀ segments v state told ranges due n = Begins t state told ranges (due .key) (due .from) (due .to) × ((m : Model) → Runs m t limit code segments₀ → Loop m budget (locals v state segments told ranges n) (due .key) 0)
 
 abbrev μ-loop : tie.MeasureT-loop
 μ-loop budget t limit code segments₀ v₀ state₀ told₀ ranges₀ due₀ n₀ segments v state told ranges due n = limit * (t + 1) - countAt t (due .key) 0
@@ -22,12 +24,20 @@ abbrev μ-loop : tie.MeasureT-loop
 few-threads : (c : tie.Start Inv-loop μ-loop) → c .args .m .t ≤ 32
 few-threads c = modelFault-counts (c .args .m) (c .pre) .threads
 
--- the model is the one that runs
-run-here : (c : tie.At-loop Inv-loop μ-loop) → let start = c .before .before .before .before .before .before .before .before in
-    Loop (start .args .m) (start .args .budget) (c .loop .v) (c .loop .state) (c .loop .segments) (c .loop .told) (c .loop .due .key) 0 (c .loop .n)
-run-here c = let first = c .before .before .before .before in
+-- the cycle that begins at a turn of the loop, for every model whose words these are
+begun-of : (c : tie.At-loop Inv-loop μ-loop) → let first = c .before .before .before .before in
     let start = first .before .before .before .before in
-    c .loop .inv .1 (start .args .m) (record { fit = start .pre; code = first .before .pack .ensures; threads = refl; limit = refl; first = first .first-segments .ensures .1 })
+    (m : Model) → Runs m (start .args .m .t) (limitOf (start .args .m)) (first .before .pack .result) (first .first-segments .result) →
+    Cycled m (start .args .budget) (first .before .pack .result) (c .loop .due .key) (locals (c .loop .v) (c .loop .state) (c .loop .segments) (c .loop .told) (c .loop .ranges) (c .loop .n)) (start .args .m .t) (c .loop .due .from) (c .loop .due .to)
+begun-of c m r = record { fit = r .fit; code = r .code; threads = r .threads; loop = c .loop .inv .1 m r; begins = c .loop .inv .0 }
+
+-- and for the model that runs
+begun-here : (c : tie.At-loop Inv-loop μ-loop) → let first = c .before .before .before .before in
+    let start = first .before .before .before .before in
+    Cycled (start .args .m) (start .args .budget) (first .before .pack .result) (c .loop .due .key) (locals (c .loop .v) (c .loop .state) (c .loop .segments) (c .loop .told) (c .loop .ranges) (c .loop .n)) (start .args .m .t) (c .loop .due .from) (c .loop .due .to)
+begun-here c = let first = c .before .before .before .before in
+    let start = first .before .before .before .before in
+    begun-of c (start .args .m) (record { fit = start .pre; code = first .before .pack .ensures; threads = refl; limit = refl; first = first .first-segments .ensures .1 })
 
 cast-t : tie.Need-cast-t Inv-loop μ-loop
 cast-t c = search needs
@@ -53,15 +63,13 @@ loop-holds c = let few = few-threads (c .before .before .before .before .before 
     let first = c .before .before .before in
     let start = first .before .before .before .before in
     let (now, due) = c .due-of .ensures in
-    (begins-start _ _ _ _ _ (omega arith) (c .before .before .no-ranges .ensures) (rw now due), λ m r. let few = modelFault-counts m (r .fit) .threads in rw now (loop-start m (r .fit) (start .args .budget) _ (first .first-segments .ensures .0) (λ k h. r .first k (omega arith))))
+    (begins-start _ _ _ _ _ (omega arith) (c .before .before .no-ranges .ensures) (rw now due), λ m r. let few = modelFault-counts m (r .fit) .threads in rw now (loop-start m (r .fit) (start .args .budget) _ _ (first .first-segments .ensures .0) (λ k h. r .first k (omega arith))))
 
 run-cycle-requires : tie.Need-run-cycle-requires Inv-loop μ-loop
-run-cycle-requires c κs = let few = few-threads (c .before .before .before .before .before .before .before .before .before .before .before .before .before .before) in
-    let at = c .before .before .before .before .before .before in
-    let first = at .before .before .before .before in
-    let start = first .before .before .before .before in
-    let begins = at .loop .inv .0 in
-    (begins .threads .order, (omega (arith, begins .threads .inside), (loop-small (start .args .m) (start .pre) (start .args .budget) _ _ _ _ _ _ _ (run-here at), due-idle _ _ _ _ _ (begins .threads))))
+run-cycle-requires c κs = let at = c .before .before .before .before .before .before in
+    let few = few-threads (at .before .before .before .before .before .before .before .before) in
+    let begins = at .loop .inv .0 .threads in
+    (begins .order, (omega (arith, begins .inside), (cycle-small (begun-here at), due-idle _ _ _ _ _ begins)))
 
 is-out-requires : tie.Need-is-out-requires Inv-loop μ-loop
 is-out-requires c κs = let few = few-threads (c .before .before .before .before .before .before .before .before .before .before .before .before .before .before .before .before) in
@@ -72,32 +80,27 @@ result-requires c κs = let few = few-threads (c .before .before .before .before
     omega arith
 
 returns : tie.Need-returns Inv-loop μ-loop
-returns c = let at = c .before .before .before .before .before .before .before .before .before .before .before .before .before in
-    let first = at .before .before .before .before in
-    let start = first .before .before .before .before in
-    let begins = at .loop .inv .0 in
-    c .result .ensures ∙ cycle-out (start .args .m) (start .pre) (start .args .budget) _ (first .before .pack .ensures) _ _ _ _ _ _ refl (run-here at) begins (c .before .before .before .before .before .before .run-cycle .ensures) (sym (c .before .before .before .before .is-out .ensures) ∙ c .before .before .before .if1 .taken)
+returns c = let ran = c .before .before .before .before .before .before in
+    c .result .ensures ∙ cycle-out (begun-here (ran .before .before .before .before .before .before .before)) (ran .run-cycle .ensures) (sym (c .before .before .before .before .is-out .ensures) ∙ c .before .before .before .if1 .taken)
 
 end-cycle-requires : tie.Need-end-cycle-requires Inv-loop μ-loop
-end-cycle-requires c κs = let few = few-threads (c .before .before .before .before .before .before .before .before .before .before .before .before .before .before .before .before .before .before .before .before .before) in
-    let at = c .before .before .before .before .before .before .before .before .before .before .before .before .before in
-    let first = at .before .before .before .before in
-    let start = first .before .before .before .before in
-    let begins = at .loop .inv .0 in
-    let over = cycle-in (start .args .m) (start .pre) (start .args .budget) _ (first .before .pack .ensures) _ _ _ _ _ _ refl (run-here at) begins (c .before .before .before .before .before .before .run-cycle .ensures) (sym (c .before .before .before .before .is-out .ensures) ∙ c .before .before .before .if1 .left) in
-    (omega arith, (loop-small (start .args .m) (start .pre) (start .args .budget) _ _ _ _ _ _ _ (run-here at), (over .marks-size, (over .words-size, (cycle-ends (start .args .m) (start .pre) (start .args .budget) _ (first .before .pack .ensures) _ _ _ _ _ _ refl (run-here at) begins (c .before .before .before .before .before .before .run-cycle .ensures), cycle-ahead (start .args .m) (start .pre) (start .args .budget) _ (first .before .pack .ensures) _ _ _ _ _ _ refl (run-here at) begins (c .before .before .before .before .before .before .run-cycle .ensures) (sym (c .before .before .before .before .is-out .ensures) ∙ c .before .before .before .if1 .left))))))
+end-cycle-requires c κs = let ran = c .before .before .before .before .before .before in
+    let at = ran .before .before .before .before .before .before .before in
+    let few = few-threads (at .before .before .before .before .before .before .before .before) in
+    let here = begun-here at in
+    let out = sym (c .before .before .before .before .is-out .ensures) ∙ c .before .before .before .if1 .left in
+    let over = cycle-in here (ran .run-cycle .ensures) out in
+    (omega arith, (cycle-small here, (over .words-size, (cycle-ends here (ran .run-cycle .ensures), cycle-ahead here (ran .run-cycle .ensures) out))))
 
 result-requires-2 : tie.Need-result-requires-2 Inv-loop μ-loop
 result-requires-2 c κs = let few = few-threads (c .before .before .before .before .before .before .before .before .before .before .before .before .before .before .before .before .before .before .before .before .before .before .before .before .before .before) in
     omega arith
 
 returns-2 : tie.Need-returns-2 Inv-loop μ-loop
-returns-2 c = let at = c .before .before .before .before .before .before .before .before .before .before .before .before .before .before .before .before .before .before .before in
-    let first = at .before .before .before .before in
-    let start = first .before .before .before .before in
-    let begins = at .loop .inv .0 in
-    let end = c .before .before .before .before .before .end-cycle .ensures in
-    c .result2 .ensures ∙ cycle-rest (start .args .m) (start .pre) (start .args .budget) _ (first .before .pack .ensures) _ _ _ _ _ _ refl (run-here at) begins (c .before .before .before .before .before .before .before .before .before .before .before .before .run-cycle .ensures) (sym (c .before .before .before .before .before .before .before .before .before .before .is-out .ensures) ∙ c .before .before .before .before .before .before .before .before .before .if1 .left) _ (end .0) _ (end .1 .0) (end .1 .1 .0) (c .before .before .before .if2 .taken)
+returns-2 c = let ended = c .before .before .before .before .before in
+    let ran = ended .before .before .before .before .before .before .before in
+    let end = ended .end-cycle .ensures in
+    c .result2 .ensures ∙ cycle-rest (begun-here (ran .before .before .before .before .before .before .before)) (ran .run-cycle .ensures) (sym (ended .before .before .before .before .before .is-out .ensures) ∙ ended .before .before .before .before .if1 .left) _ (end .0) _ (end .1 .0) (end .1 .1 .0) (c .before .before .before .if2 .taken)
 
 array-write-ranges : tie.Need-array-write-ranges Inv-loop μ-loop
 array-write-ranges c = omega arith
@@ -106,20 +109,21 @@ array-write-ranges-2 : tie.Need-array-write-ranges-2 Inv-loop μ-loop
 array-write-ranges-2 c = omega arith
 
 loop-less : tie.Need-loop-less Inv-loop μ-loop
-loop-less c = let at = c .before .before .before .before .before .before .before .before .before .before .before .before .before .before .before .before in
-    let first = at .before .before .before .before in
-    let start = first .before .before .before .before in
-    let begins = at .loop .inv .0 in
-    let end = c .before .before .end-cycle .ensures in
-    falls-later _ _ _ (cycle-later (start .args .m) (start .pre) (start .args .budget) _ (first .before .pack .ensures) _ _ _ _ _ _ refl (run-here at) begins (c .before .before .before .before .before .before .before .before .before .run-cycle .ensures) (sym (c .before .before .before .before .before .before .before .is-out .ensures) ∙ c .before .before .before .before .before .before .if1 .left) _ (end .0) _ (end .1 .0) (end .1 .1 .0) (c .if2 .left)) (cycle-room (start .args .m) (start .pre) (start .args .budget) _ (first .before .pack .ensures) _ _ _ _ _ _ refl (run-here at) begins (c .before .before .before .before .before .before .before .before .before .run-cycle .ensures))
+loop-less c = let ended = c .before .before in
+    let ran = ended .before .before .before .before .before .before .before in
+    let here = begun-here (ran .before .before .before .before .before .before .before) in
+    let end = ended .end-cycle .ensures in
+    falls-later _ _ _ (cycle-later here (ran .run-cycle .ensures) (sym (ended .before .before .before .before .before .is-out .ensures) ∙ ended .before .before .before .before .if1 .left) _ (end .0) _ (end .1 .0) (end .1 .1 .0) (c .if2 .left)) (cycle-room here)
 
 loop-again : tie.Need-loop-again Inv-loop μ-loop
-loop-again c = let at = c .before .before .before .before .before .before .before .before .before .before .before .before .before .before .before .before in
-    let first = at .before .before .before .before in
-    let start = first .before .before .before .before in
-    let begins = at .loop .inv .0 in
-    let end = c .before .before .end-cycle .ensures in
-    (cycle-next (start .args .m) (start .pre) (start .args .budget) _ (first .before .pack .ensures) _ _ _ _ _ _ refl (run-here at) begins (c .before .before .before .before .before .before .before .before .before .run-cycle .ensures) (sym (c .before .before .before .before .before .before .before .is-out .ensures) ∙ c .before .before .before .before .before .before .if1 .left) _ (end .0) _ (end .1 .0) (end .1 .1 .0) _ _ (end .1 .1 .1), λ m r. cycle-begun m (r .fit) (start .args .budget) _ (r .code) _ _ _ _ _ _ (r .threads) (at .loop .inv .1 m r) begins (c .before .before .before .before .before .before .before .before .before .run-cycle .ensures) (sym (c .before .before .before .before .before .before .before .is-out .ensures) ∙ c .before .before .before .before .before .before .if1 .left) _ (end .0) _ (end .1 .0) (end .1 .1 .0) (omega (arith, r .limit, c .if2 .left)))
+loop-again c = let ended = c .before .before in
+    let ran = ended .before .before .before .before .before .before .before in
+    let at = ran .before .before .before .before .before .before .before in
+    let end = ended .end-cycle .ensures in
+    let out = sym (ended .before .before .before .before .before .is-out .ensures) ∙ ended .before .before .before .before .if1 .left in (
+      cycle-next (begun-here at) (ran .run-cycle .ensures) out _ (end .0) _ (end .1 .0) (end .1 .1 .0) _ _ (end .1 .1 .1),
+      λ m r. cycle-begun (begun-of at m r) (ran .run-cycle .ensures) out _ (end .0) _ (end .1 .0) (end .1 .1 .0) _ (omega (arith, r .limit, c .if2 .left)),
+    )
 
 pub cycles-spec : {M : Type 1} → statement M
 cycles-spec =

@@ -1,7 +1,7 @@
 -- `plain_core::due_of` meets its contract.
 use mathlib.Core.Path.{refl, sym, _∙_}
-use Rattle.plain_core.proofs.DueLaws.{isLate-so}
-use Rattle.plain_core.proofs.EndLaws.{due-narrow}
+use Rattle.plain_state.proofs.DueLaws.{isLate-so}
+use Rattle.plain_state.proofs.EndLaws.{due-narrow}
 use borrow.Author.Needs.{needs}
 use Rattle.plain_core.proofs.due_of.Statement.{statement}
 use Rattle.plain_core.proofs.due_of.Tie as tie

@@ -4,8 +4,8 @@ use mathlib.Core.Path.{sym, _∙_}
 use native.Mathlib.Omega.{arith}
 use lib.ListN.{getD}
 use borrow.Author.Needs.{needs}
-use Rattle.plain_core.specs.Due.{Between, Late}
-use Rattle.plain_core.proofs.DueLaws.{isLate-not, none-more}
+use Rattle.plain_state.specs.Due.{Between, Late}
+use Rattle.plain_state.proofs.DueLaws.{isLate-not, none-more}
 use Rattle.plain_core.proofs.first_late.Statement.{statement}
 use Rattle.plain_core.proofs.first_late.Tie as tie
 
@@ -37,7 +37,10 @@ loop-less : tie.Need-loop-less Inv-loop μ-loop
 loop-less c = omega arith
 
 loop-again : tie.Need-loop-again Inv-loop μ-loop
-loop-again c = let here = c .before .before .before .before .loop in (omega arith, (omega arith, none-more (c .before .before .before .before .before .args .state .now) (c .before .before .before .before .before .args .from) (here .k) (here .inv .1 .1) (isLate-not (getD (c .before .before .before .before .before .args .state .now) (here .k) 0) (sym (c .before .is-late .ensures) ∙ c .if1 .left))))
+loop-again c = let at = c .before .before .before .before in
+    let a = at .before .args in
+    let here = at .loop in
+    (omega arith, (omega arith, none-more (a .state .now) (a .from) (here .k) (here .inv .1 .1) (isLate-not (getD (a .state .now) (here .k) 0) (sym (c .before .is-late .ensures) ∙ c .if1 .left))))
 
 returns-2 : tie.Need-returns-2 Inv-loop μ-loop
 returns-2 c = let here = c .before .loop in ((here .inv .0, omega arith), here .inv .1 .1)

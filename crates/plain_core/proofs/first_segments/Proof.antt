@@ -4,7 +4,7 @@ use mathlib.Core.Path.{_≡_, refl}
 use native.Mathlib.Omega.{arith}
 use lib.ListN.{length, getD, replicate, length-set}
 use Rattle.model.specs.Values.{startAt}
-use Rattle.plain_core.proofs.FillLaws.{fill-none, fill-more, started-first}
+use Rattle.plain_state.proofs.FillLaws.{fill-none, fill-more, started-first}
 use Rattle.plain_core.proofs.first_segments.Statement.{statement}
 use Rattle.plain_core.proofs.first_segments.Tie as tie
 
@@ -30,8 +30,11 @@ loop-less : tie.Need-loop-less Inv-loop μ-loop
 loop-less c = omega arith
 
 loop-again : tie.Need-loop-again Inv-loop μ-loop
-loop-again c = let size = c .before .before .loop .inv .1 .0 in
-    (omega arith, (simp length-set size, fill-more (λ (i x : ℕ). x ≡ startAt (c .before .before .before .args .t1) i .first) (c .before .before .loop .segments) (c .before .before .loop .k) _ (omega arith) (started-first (c .before .before .before .args .t1) (c .before .before .loop .k)) (c .before .before .loop .inv .1 .1)))
+loop-again c = let at = c .before .before in
+    let here = at .loop in
+    let m = at .before .args .t1 in
+    let size = here .inv .1 .0 in
+    (omega arith, (simp length-set size, fill-more (λ (i x : ℕ). x ≡ startAt m i .first) (here .segments) (here .k) _ (omega arith) (started-first m (here .k)) (here .inv .1 .1)))
 
 returns : tie.Need-returns Inv-loop μ-loop
 returns c = (c .before .loop .inv .1 .0, λ k h. c .before .loop .inv .1 .1 k (omega arith))

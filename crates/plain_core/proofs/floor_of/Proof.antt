@@ -3,8 +3,8 @@ use Prim.Native.Nat.{_≤_, _-_}
 use mathlib.Core.Path.{_≡_}
 use native.Mathlib.Omega.{arith}
 use borrow.Author.Needs.{needs}
-use Rattle.plain_core.specs.Due.{IsLeast}
-use Rattle.plain_core.proofs.DueLaws.{least-none, least-more}
+use Rattle.plain_state.specs.Due.{IsLeast}
+use Rattle.plain_state.proofs.DueLaws.{least-none, least-more}
 use Rattle.plain_core.proofs.floor_of.Statement.{statement}
 use Rattle.plain_core.proofs.floor_of.Tie as tie
 

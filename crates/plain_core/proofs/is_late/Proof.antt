@@ -1,5 +1,5 @@
 -- `plain_core::is_late` meets its contract.
-use Rattle.plain_core.proofs.DueLaws.{isLate-ready, isLate-other}
+use Rattle.plain_state.proofs.DueLaws.{isLate-ready, isLate-other}
 use Rattle.plain_core.proofs.is_late.Statement.{statement}
 use Rattle.plain_core.proofs.is_late.Tie as tie
 

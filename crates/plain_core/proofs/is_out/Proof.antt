@@ -2,8 +2,8 @@
 use Prim.Native.Nat.{ℕ}
 use mathlib.Core.Path.{ap, _∙_}
 use lib.Dec.{leb}
-use Rattle.plain_core.proofs.ExitLaws.{isOut-room, isOut-least}
-use Rattle.plain_core.proofs.DueLaws.{least-word}
+use Rattle.plain_state.proofs.ExitLaws.{isOut-room, isOut-least}
+use Rattle.plain_state.proofs.DueLaws.{least-word}
 use borrow.Author.Needs.{needs}
 use Rattle.plain_core.proofs.is_out.Statement.{statement}
 use Rattle.plain_core.proofs.is_out.Tie as tie

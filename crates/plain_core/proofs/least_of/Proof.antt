@@ -1,5 +1,5 @@
 -- `plain_core::least_of` meets its contract.
-use Rattle.plain_core.proofs.DueLaws.{least-all, least-near}
+use Rattle.plain_state.proofs.DueLaws.{least-all, least-near}
 use borrow.Author.Needs.{needs}
 use Rattle.plain_core.proofs.least_of.Statement.{statement}
 use Rattle.plain_core.proofs.least_of.Tie as tie

@@ -1,5 +1,5 @@
 -- `plain_core::next_delta` meets its contract.
-use Rattle.plain_core.proofs.ExitLaws.{nextWord-ready, nextWord-overrun}
+use Rattle.plain_state.proofs.ExitLaws.{nextWord-ready, nextWord-overrun}
 use borrow.Author.Needs.{needs}
 use Rattle.plain_core.proofs.next_delta.Statement.{statement}
 use Rattle.plain_core.proofs.next_delta.Tie as tie

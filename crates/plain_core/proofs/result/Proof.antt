@@ -1,9 +1,8 @@
 -- `plain_core::result` meets its contract.
-use Prim.Native.Nat.{ℕ}
-use mathlib.Core.Path.{_≡_, ap}
+use mathlib.Core.Path.{ap}
 use mathlib.Core.List.{List}
 use Rattle.model.specs.declared.Thread.{Thread}
-use Rattle.plain_core.specs.Words.{answer}
+use Rattle.plain_state.specs.Words.{answer}
 use borrow.Author.Needs.{needs}
 use Rattle.plain_core.proofs.result.Statement.{statement}
 use Rattle.plain_core.proofs.result.Tie as tie

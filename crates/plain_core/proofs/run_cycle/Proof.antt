@@ -2,9 +2,9 @@
 use Prim.Native.Nat.{_≤_, _-_}
 use mathlib.Core.Path.{_≡_}
 use native.Mathlib.Omega.{arith}
-use Rattle.plain_core.specs.Turn.{locals, turnsTo}
-use Rattle.plain_core.proofs.ExitLaws.{turnsTo-next}
-use Rattle.plain_core.proofs.DueLaws.{turnsTo-idle}
+use Rattle.plain_state.specs.Turn.{locals, turnsTo}
+use Rattle.plain_state.proofs.ExitLaws.{turnsTo-next}
+use Rattle.plain_state.proofs.DueLaws.{turnsTo-idle}
 use Rattle.plain_core.proofs.run_cycle.Statement.{statement}
 use Rattle.plain_core.proofs.run_cycle.Tie as tie
 

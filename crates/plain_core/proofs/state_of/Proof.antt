@@ -1,5 +1,5 @@
 -- `plain_core::state_of` meets its contract.
-use Rattle.plain_core.proofs.ExitLaws.{stateFrom-ready, stateFrom-waiting, stateFrom-ended, stateFrom-overrun}
+use Rattle.plain_state.proofs.ExitLaws.{stateFrom-ready, stateFrom-waiting, stateFrom-ended, stateFrom-overrun}
 use borrow.Author.Needs.{needs}
 use Rattle.plain_core.proofs.state_of.Statement.{statement}
 use Rattle.plain_core.proofs.state_of.Tie as tie

@@ -1,9 +1,10 @@
 -- `plain_core::threads_of` meets its contract.
 use Prim.Native.Nat.{_≤_, _-_}
-use mathlib.Core.Path.{_≡_, _∙_}
+use mathlib.Core.Path.{_≡_, ap, _∙_}
 use native.Mathlib.Omega.{arith}
-use Rattle.plain_core.specs.Words.{threadsTo}
-use Rattle.plain_core.proofs.FillLaws.{threadsTo-none, threadsTo-set}
+use Rattle.model.specs.declared.Threads.{Threads}
+use Rattle.plain_state.specs.Words.{threadsTo}
+use Rattle.plain_state.proofs.FillLaws.{threadsTo-none, threadsTo-set}
 use borrow.Author.Needs.{needs}
 use Rattle.plain_core.proofs.threads_of.Statement.{statement}
 use Rattle.plain_core.proofs.threads_of.Tie as tie
@@ -18,7 +19,7 @@ no-threads-requires : tie.Need-no-threads-requires Inv-loop μ-loop
 no-threads-requires c κs = search needs
 
 loop-holds : tie.Need-loop-holds Inv-loop μ-loop
-loop-holds c = (omega arith, c .no-threads .ensures ∙ threadsTo-none (c .before .args .state .now) (c .before .args .segments .now))
+loop-holds c = (omega arith, ap (λ (x : Threads). x .at) (c .no-threads .ensures) ∙ threadsTo-none (c .before .args .state .now) (c .before .args .segments .now))
 
 element-copy-out-segment : tie.Need-element-copy-out-segment Inv-loop μ-loop
 element-copy-out-segment c = omega arith
@@ -45,7 +46,9 @@ loop-less : tie.Need-loop-less Inv-loop μ-loop
 loop-less c = omega arith
 
 loop-again : tie.Need-loop-again Inv-loop μ-loop
-loop-again c = (omega arith, threadsTo-set (c .before .before .before .before .before .before .args .state .now) (c .before .before .before .before .before .before .args .segments .now) _ (c .before .before .before .before .loop .k) _ (omega arith) (c .before .before .before .before .loop .inv .1) (c .state-of .ensures))
+loop-again c = let here = c .before .before .before .before in
+    let a = here .before .before .args in
+    (omega arith, threadsTo-set (a .state .now) (a .segments .now) _ (here .loop .k) _ (omega arith) (here .loop .inv .1) (c .state-of .ensures))
 
 returns : tie.Need-returns Inv-loop μ-loop
 returns c = let e : c .before .loop .k ≡ c .before .before .before .args .t = omega arith in rw (← e) (c .before .loop .inv .1)

@@ -1,5 +1,5 @@
 -- `plain_core::wait_for` meets its contract.
-use Rattle.plain_core.proofs.DueLaws.{waitedBy-other, waitedBy-event}
+use Rattle.plain_state.proofs.DueLaws.{waitedBy-other, waitedBy-event}
 use borrow.Author.Needs.{needs}
 use Rattle.plain_core.proofs.wait_for.Statement.{statement}
 use Rattle.plain_core.proofs.wait_for.Tie as tie

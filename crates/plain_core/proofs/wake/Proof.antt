@@ -5,10 +5,10 @@ use mathlib.Core.Logic.{⊎-elim}
 use native.Mathlib.Omega.{arith}
 use lib.ListN.{length, getD, length-set}
 use borrow.Author.Needs.{needs}
-use Rattle.plain_core.specs.Words.{wakeWord}
-use Rattle.plain_core.specs.Due.{IsLeast}
-use Rattle.plain_core.proofs.FillLaws.{fill-more, rest-more}
-use Rattle.plain_core.proofs.DueLaws.{least-none, least-stored, outside}
+use Rattle.plain_state.specs.Words.{wakeWord}
+use Rattle.plain_state.specs.Due.{IsLeast}
+use Rattle.plain_state.proofs.FillLaws.{fill-more, rest-more}
+use Rattle.plain_state.proofs.DueLaws.{least-none, least-stored, outside}
 use Rattle.plain_core.proofs.wake.Statement.{statement}
 use Rattle.plain_core.proofs.wake.Tie as tie
 
@@ -19,7 +19,7 @@ abbrev μ-loop : tie.MeasureT-loop
 μ-loop state₀ told key from to least₀ k₀ state least k = to - k
 
 loop-holds : tie.Need-loop-holds Inv-loop μ-loop
-loop-holds c = (omega arith, (omega (arith, c .pre .0), (c .pre .1 .1 .1 .1, (least-none (c .args .state .now) (c .args .from) 18446744073709551615, (λ i h. (λ l. absurd (omega arith), λ l. refl), λ i h. refl)))))
+loop-holds c = (omega arith, (omega (arith, c .pre .0), (c .pre .1 .1 .1, (least-none (c .args .state .now) (c .args .from) 18446744073709551615, (λ i h. (λ l. absurd (omega arith), λ l. refl), λ i h. refl)))))
 
 mul-w : tie.Need-mul-w Inv-loop μ-loop
 mul-w c = omega arith
@@ -28,7 +28,7 @@ element-copy-out-w : tie.Need-element-copy-out-w Inv-loop μ-loop
 element-copy-out-w c = omega arith
 
 wake-word-requires : tie.Need-wake-word-requires Inv-loop μ-loop
-wake-word-requires c κs = (c .before .before .before .pre .1 .1 .1 .0, c .before .before .before .pre .1 .1 .0)
+wake-word-requires c κs = c .before .before .before .pre .1 .1 .0
 
 mul-state : tie.Need-mul-state Inv-loop μ-loop
 mul-state c = omega arith

@@ -4,15 +4,13 @@ use mathlib.Core.Path.{_≡_}
 use native.Mathlib.Omega.{arith}
 use lib.ListN.{getD}
 use borrow.Author.Needs.{needs}
-use Rattle.plain_words.specs.Unpack.{executeTo, markedTo}
-use Rattle.plain_words.specs.Reach.{reachedTo}
-use Rattle.plain_words.proofs.ExitLaws.{sizeBy-≤, executeTo-none, executeTo-next, executeBy-as, markedTo-none, markedTo-next, markedBy-as}
-use Rattle.plain_words.proofs.ReachLaws.{reachedTo-none, reachedTo-next, reachedBy-as}
+use Rattle.plain_words.specs.Shared.{shared, executeTo}
+use Rattle.plain_words.proofs.ExitLaws.{sizeBy-≤, executeTo-none, executeTo-next, executeBy-as}
 use Rattle.plain_words.proofs.execute.Statement.{statement}
 use Rattle.plain_words.proofs.execute.Tie as tie
 
 abbrev Inv-loop : tie.InvT-loop
-Inv-loop code s v₀ told₀ ranges₀ i base n j₀ v told ranges j = (j ≤ n) × ((n ≤ 32) × ((v ≡ executeTo code (34 * (i % 64) + 2) j v₀) × ((told ≡ markedTo code (34 * (i % 64) + 2) j told₀) × (ranges ≡ reachedTo code (34 * (i % 64) + 2) j ranges₀))))
+Inv-loop code s v₀ told₀ ranges₀ i base n j₀ v told ranges j = (j ≤ n) × ((n ≤ 32) × (shared v told ranges ≡ executeTo code (34 * (i % 64) + 2) j (shared v₀ told₀ ranges₀)))
 
 abbrev μ-loop : tie.MeasureT-loop
 μ-loop code s v₀ told₀ ranges₀ i base n j₀ v told ranges j = n - j
@@ -33,9 +31,9 @@ size-of-requires : tie.Need-size-of-requires Inv-loop μ-loop
 size-of-requires c κs = search needs
 
 loop-holds : tie.Need-loop-holds Inv-loop μ-loop
-loop-holds c = let code = c .before .before .before .args .code .now in
-    let base = 34 * (c .before .before .wide .result % 64) + 2 in
-    (omega arith, (omega (arith, c .size-of .ensures, sizeBy-≤ (getD (c .before .before .before .args .code .now) (34 * (c .before .before .wide .result % 64)) 0)), (executeTo-none code base (c .before .before .before .args .v .now), (markedTo-none code base (c .before .before .before .args .told .now), reachedTo-none code base (c .before .before .before .args .ranges .now)))))
+loop-holds c = let a = c .before .before .before .args in
+    let i = c .before .before .wide .result in
+    (omega arith, (omega (arith, c .size-of .ensures, sizeBy-≤ (getD (a .code .now) (34 * (i % 64)) 0)), executeTo-none (a .code .now) (shared (a .v .now) (a .told .now) (a .ranges .now)) (34 * (i % 64) + 2)))
 
 add-w : tie.Need-add-w Inv-loop μ-loop
 add-w c = omega arith
@@ -59,18 +57,16 @@ loop-less : tie.Need-loop-less Inv-loop μ-loop
 loop-less c = omega arith
 
 loop-again : tie.Need-loop-again Inv-loop μ-loop
-loop-again c = let code = c .before .before .before .before .before .before .before .before .before .before .args .code .now in
-    let base = 34 * (c .before .before .before .before .before .before .before .before .before .wide .result % 64) + 2 in
-    let inv = c .before .before .before .before .before .before .loop .inv in
-    (omega arith, (inv .1 .0, (executeTo-next code base (c .before .before .before .before .before .before .loop .j) _ _ _ (inv .1 .1 .0) (c .execute-word .ensures .0), (markedTo-next code base (c .before .before .before .before .before .before .loop .j) _ _ _ (inv .1 .1 .1 .0) (c .execute-word .ensures .1 .0), reachedTo-next code base (c .before .before .before .before .before .before .loop .j) _ _ _ (inv .1 .1 .1 .1) (c .execute-word .ensures .1 .1)))))
+loop-again c = let here = c .before .before .before .before .before .before in
+    let inv = here .loop .inv in
+    (omega arith, (inv .1 .0, executeTo-next (here .before .before .before .before .args .code .now) _ _ (here .loop .j) _ _ (inv .1 .1) (c .execute-word .ensures)))
 
 returns : tie.Need-returns Inv-loop μ-loop
-returns c = let start = c .before .before .before .before .before in
-    let code = start .args .code .now in
-    let e : c .before .loop .j ≡ c .before .before .size-of .result = omega arith in
-    let n = c .before .before .before .before .wide in
-    let inv = c .before .loop .inv in
-    (executeBy-as code (start .args .s) _ (n .result) _ _ (n .ensures) (rw e (c .before .before .size-of .ensures)) (inv .1 .1 .0), (markedBy-as code (start .args .s) _ (n .result) _ _ (n .ensures) (rw e (c .before .before .size-of .ensures)) (inv .1 .1 .1 .0), reachedBy-as code (start .args .s) _ (n .result) _ _ (n .ensures) (rw e (c .before .before .size-of .ensures)) (inv .1 .1 .1 .1)))
+returns c = let n = c .before .before in
+    let i = n .before .before .wide in
+    let a = n .before .before .before .args in
+    let e : c .before .loop .j ≡ n .size-of .result = omega arith in
+    executeBy-as (a .code .now) _ (a .s) (i .result) _ _ (i .ensures) (rw e (n .size-of .ensures)) (c .before .loop .inv .1 .1)
 
 pub execute-spec : {M : Type 1} → statement M
 execute-spec =

@@ -2,7 +2,7 @@
 use Prim.Native.Nat.{ℕ, _/_, _%_}
 use mathlib.Core.Path.{refl, ap}
 use lib.ListN.{set}
-use Rattle.plain_words.proofs.ExitLaws.{opOf-set, opOf-add, opOf-copy, opOf-add-variable, opOf-sub-variable, opOf-notify}
+use Rattle.plain_words.proofs.ExitLaws.{executeWord-sets, executeWord-notifies, opOf-set, opOf-add, opOf-copy, opOf-add-variable, opOf-sub-variable, opOf-notify}
 use borrow.Author.Needs.{needs}
 use Rattle.plain_words.proofs.execute_word.Statement.{statement}
 use Rattle.plain_words.proofs.execute_word.Tie as tie
@@ -17,7 +17,8 @@ element-write-v : tie.Need-element-write-v
 element-write-v c = search needs
 
 returns : tie.Need-returns
-returns c = let h = opOf-set (c .before .args .w) (c .if1 .taken) in (rw h refl, (rw h refl, rw h refl))
+returns c = let a = c .before .args in
+    executeWord-sets (a .w) (a .v .now) (a .told .now) (a .ranges .now) _ (opOf-set (a .w) (c .if1 .taken)) refl _ refl
 
 mul-wrapping-add-u32 : tie.Need-mul-wrapping-add-u32
 mul-wrapping-add-u32 c = search needs
@@ -38,7 +39,9 @@ element-write-v-2 : tie.Need-element-write-v-2
 element-write-v-2 c = search needs
 
 returns-2 : tie.Need-returns-2
-returns-2 c = let h = opOf-add (c .before .before .before .before .args .w) (c .before .before .before .if1 .left) (c .before .before .if2 .taken) in (rw h (ap (λ (x : ℕ). set (c .before .before .before .before .args .v .now) (c .before .before .before .before .args .w / 8 % 64) x) (c .wrapping-add-u32 .ensures)), (rw h refl, rw h refl))
+returns-2 c = let first = c .before .before .before in
+    let a = first .before .args in
+    executeWord-sets (a .w) (a .v .now) (a .told .now) (a .ranges .now) _ (opOf-add (a .w) (first .if1 .left) (c .before .before .if2 .taken)) refl _ (ap (λ (x : ℕ). set (a .v .now) (a .w / 8 % 64) x) (c .wrapping-add-u32 .ensures))
 
 mul-v-3 : tie.Need-mul-v-3
 mul-v-3 c = search needs
@@ -53,7 +56,9 @@ element-write-v-3 : tie.Need-element-write-v-3
 element-write-v-3 c = search needs
 
 returns-3 : tie.Need-returns-3
-returns-3 c = let h = opOf-copy (c .before .before .before .before .args .w) (c .before .before .before .if1 .left) (c .before .before .if2 .left) (c .before .if3 .taken) in (rw h refl, (rw h refl, rw h refl))
+returns-3 c = let first = c .before .before .before in
+    let a = first .before .args in
+    executeWord-sets (a .w) (a .v .now) (a .told .now) (a .ranges .now) _ (opOf-copy (a .w) (first .if1 .left) (c .before .before .if2 .left) (c .before .if3 .taken)) refl _ refl
 
 mul-wrapping-add-u32-2 : tie.Need-mul-wrapping-add-u32-2
 mul-wrapping-add-u32-2 c = search needs
@@ -77,7 +82,10 @@ element-write-v-4 : tie.Need-element-write-v-4
 element-write-v-4 c = search needs
 
 returns-4 : tie.Need-returns-4
-returns-4 c = let h = opOf-add-variable (c .before .before .before .before .before .before .before .args .w) (c .before .before .before .before .before .before .if1 .left) (c .before .before .before .before .before .if2 .left) (c .before .before .before .before .if3 .left) (c .before .before .before .if4 .taken) in (rw h (ap (λ (x : ℕ). set (c .before .before .before .before .before .before .before .args .v .now) (c .before .before .before .before .before .before .before .args .w / 8 % 64) x) (c .wrapping-add-u322 .ensures)), (rw h refl, rw h refl))
+returns-4 c = let last = c .before .before .before in
+    let first = last .before .before .before in
+    let a = first .before .args in
+    executeWord-sets (a .w) (a .v .now) (a .told .now) (a .ranges .now) _ (opOf-add-variable (a .w) (first .if1 .left) (last .before .before .if2 .left) (last .before .if3 .left) (last .if4 .taken)) refl _ (ap (λ (x : ℕ). set (a .v .now) (a .w / 8 % 64) x) (c .wrapping-add-u322 .ensures))
 
 mul-difference : tie.Need-mul-difference
 mul-difference c = search needs
@@ -101,7 +109,10 @@ element-write-v-5 : tie.Need-element-write-v-5
 element-write-v-5 c = search needs
 
 returns-5 : tie.Need-returns-5
-returns-5 c = let h = opOf-sub-variable (c .before .before .before .before .before .before .before .before .args .w) (c .before .before .before .before .before .before .before .if1 .left) (c .before .before .before .before .before .before .if2 .left) (c .before .before .before .before .before .if3 .left) (c .before .before .before .before .if4 .left) (c .before .before .before .if5 .taken) in (rw h (ap (λ (x : ℕ). set (c .before .before .before .before .before .before .before .before .args .v .now) (c .before .before .before .before .before .before .before .before .args .w / 8 % 64) x) (c .difference .ensures)), (rw h refl, rw h refl))
+returns-5 c = let last = c .before .before .before in
+    let first = last .before .before .before .before in
+    let a = first .before .args in
+    executeWord-sets (a .w) (a .v .now) (a .told .now) (a .ranges .now) _ (opOf-sub-variable (a .w) (first .if1 .left) (last .before .before .before .if2 .left) (last .before .before .if3 .left) (last .before .if4 .left) (last .if5 .taken)) refl _ (ap (λ (x : ℕ). set (a .v .now) (a .w / 8 % 64) x) (c .difference .ensures))
 
 element-write-told : tie.Need-element-write-told
 element-write-told c = search needs
@@ -125,7 +136,10 @@ widen-requires : tie.Need-widen-requires
 widen-requires c κs = search needs
 
 returns-6 : tie.Need-returns-6
-returns-6 c = let h = opOf-notify (c .before .before .before .before .before .before .before .before .before .args .w) (c .before .before .before .before .before .before .before .before .if1 .left) (c .before .before .before .before .before .before .before .if2 .left) (c .before .before .before .before .before .before .if3 .left) (c .before .before .before .before .before .if4 .left) (c .before .before .before .before .if5 .left) in (rw h refl, (rw h refl, rw h (c .widen .ensures)))
+returns-6 c = let last = c .before .before .before .before in
+    let first = last .before .before .before .before in
+    let a = first .before .args in
+    executeWord-notifies (a .w) (a .v .now) (a .told .now) (a .ranges .now) _ (opOf-notify (a .w) (first .if1 .left) (last .before .before .before .if2 .left) (last .before .before .if3 .left) (last .before .if4 .left) (last .if5 .left)) _ (c .widen .ensures)
 
 pub execute-word-spec : {M : Type 1} → statement M
 execute-word-spec =

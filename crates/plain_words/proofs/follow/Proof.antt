@@ -21,7 +21,9 @@ element-copy-out-if1 : tie.Need-element-copy-out-if1
 element-copy-out-if1 c = search needs
 
 returns : tie.Need-returns
-returns c = followBy-over (c .before .before .before .args .code .now) (c .before .before .before .args .s) (c .before .before .before .args .v .now) (rw (c .before .before .wide .ensures) at (c .if1 .taken))
+returns c = let start = c .before .before in
+    let a = start .before .args in
+    followBy-over (a .code .now) (a .s) (a .v .now) (rw (start .wide .ensures) at (c .if1 .taken))
 
 add-next : tie.Need-add-next
 add-next c = search needs
@@ -36,9 +38,11 @@ next-segment-requires : tie.Need-next-segment-requires
 next-segment-requires c κs = search needs
 
 returns-2 : tie.Need-returns-2
-returns-2 c = c .next-segment .ensures ∙
-    (ap (λ (i : ℕ). nextBy (getD (c .before .before .before .before .before .args .code .now) (34 * (i % 64) + 1) 0) (c .before .before .before .before .before .args .v .now)) (c .before .before .before .before .wide .ensures) ∙
-    followBy-on (c .before .before .before .before .before .args .code .now) (c .before .before .before .before .before .args .s) (c .before .before .before .before .before .args .v .now) (rw (c .before .before .before .before .wide .ensures) at (c .before .before .if1 .left)))
+returns-2 c = let start = c .before .before .before .before in
+    let a = start .before .args in
+    c .next-segment .ensures ∙
+    (ap (λ (i : ℕ). nextBy (getD (a .code .now) (34 * (i % 64) + 1) 0) (a .v .now)) (start .wide .ensures) ∙
+    followBy-on (a .code .now) (a .s) (a .v .now) (rw (start .wide .ensures) at (c .before .before .if1 .left)))
 
 pub follow-spec : {M : Type 1} → statement M
 follow-spec =

@@ -23,13 +23,17 @@ cast-result-2 : tie.Need-cast-result-2
 cast-result-2 c = search needs
 
 returns-2 : tie.Need-returns-2
-returns-2 c = nextBy-below (c .before .before .before .before .args .next) (c .before .before .before .before .args .v .now) (c .before .before .before .if1 .left) _ (c .before .wide-word .ensures) (c .if2 .taken)
+returns-2 c = let first = c .before .before .before in
+    let a = first .before .args in
+    nextBy-below (a .next) (a .v .now) (first .if1 .left) _ (c .before .wide-word .ensures) (c .if2 .taken)
 
 cast-result-3 : tie.Need-cast-result-3
 cast-result-3 c = search needs
 
 returns-3 : tie.Need-returns-3
-returns-3 c = nextBy-above (c .before .before .before .before .args .next) (c .before .before .before .before .args .v .now) (c .before .before .before .if1 .left) _ (c .before .wide-word .ensures) (c .if2 .left)
+returns-3 c = let first = c .before .before .before in
+    let a = first .before .args in
+    nextBy-above (a .next) (a .v .now) (first .if1 .left) _ (c .before .wide-word .ensures) (c .if2 .left)
 
 pub next-segment-spec : {M : Type 1} → statement M
 next-segment-spec =

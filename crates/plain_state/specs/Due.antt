@@ -1,13 +1,15 @@
 -- Private contracts of the plain run's code: which threads a cycle has to look at.
 -- A thread that is ready at a delta after 0 became ready in the delta before; all others are ready at delta 0, or wait, or are over.
-use Prim.Native.Nat.{ℕ, _-_, _/_, _%_, _<_, _≤_}
+use Prim.Native.Nat.{ℕ, _%_, _<_, _≤_}
 use mathlib.Core.Path.{_≡_}
 use mathlib.Core.Logic.{_⊎_}
 use mathlib.Core.Bool.{Bool, true, false}
 use mathlib.Core.List.{List}
 use lib.ListN.{length, getD}
+use Rattle.clock.specs.declared.Cycle.{Cycle}
+use Rattle.model.specs.Record.{awaits, awaitedBy}
 use Rattle.plain_words.specs.Reach.{Inside}
-use Rattle.plain_core.specs.Words.{waiting, ended, span, wakeWord}
+use Rattle.plain_state.specs.Words.{waiting, stateFrom, wakeWord}
 
 -- thread k is from a thread on and before another
 abbrev pub Between : ℕ → ℕ → ℕ → Type 0
@@ -19,7 +21,7 @@ Late w = (w < waiting) × (0 < w % 1024)
 
 -- a word of a thread that waits for an event
 abbrev pub WaitsFor : ℕ → ℕ → Type 0
-WaitsFor w e = (waiting ≤ w) × ((w < ended) × ((w - waiting) / span ≡ e))
+WaitsFor w e = (c : Cycle) × (awaitedBy (stateFrom w) ≡ awaits e c)
 
 -- the least of some words and a number
 pub record IsLeast (ws : List ℕ) (from to start r : ℕ) : Type 0 where

@@ -7,9 +7,8 @@ use mathlib.Core.Path.{_≡_, refl, ap, sym, _∙_}
 use mathlib.Core.List.{List, [], _∷_, _++_}
 use native.Mathlib.Numerals.{add-one}
 use native.Mathlib.Omega.{arith}
-use native.Mathlib.Decide.{ℕ-discrete}
 use lib.ListN.{length, getD, set, replicate}
-use lib.Seq.{getD-set-same, getD-set-other, set-at, append-snoc}
+use lib.Seq.{getD-set-other, set-at, append-snoc}
 use Rattle.base.specs.Index.{tabulate}
 use Rattle.base.proofs.IndexLaws.{tabulate-length}
 use Rattle.model.specs.declared.Model.{Model}
@@ -17,18 +16,15 @@ use Rattle.model.specs.declared.Thread.{Thread}
 use Rattle.model.specs.declared.State.{State}
 use Rattle.model.specs.Values.{noStart, startAt}
 use Rattle.model.specs.Record.{noThread}
-use Rattle.plain_core.specs.Words.{stateFrom, threadsTo}
+use Rattle.plain_words.proofs.SetLaws.{set-case}
+use Rattle.plain_state.specs.Words.{stateFrom, threadsTo}
 
 module _ (P : ℕ → ℕ → Type 0) where
   pub fill-none : (xs : List ℕ) (i : ℕ) → i < 0 → P i (getD xs i 0)
   fill-none xs i h = absurd (omega arith)
 
   pub fill-more : (xs : List ℕ) (k x : ℕ) → k < length xs → P k x → ((i : ℕ) → i < k → P i (getD xs i 0)) → (i : ℕ) → i < k + 1 → P i (getD (set xs k x) i 0)
-  fill-more xs k x h p f i l = go (ℕ-discrete i k)
-    where
-      go : Dec (i ≡ k) → P i (getD (set xs k x) i 0)
-      go (yes e) = rw (e, getD-set-same xs k x 0 h) p
-      go (no e) = rw (getD-set-other xs k i x 0 e) (f i (omega arith))
+  fill-more xs k x h p f i l = set-case xs k i x 0 h (P i) (λ e. rw e p) (λ e. f i (omega arith))
 
 -- what stands from k + 1 on is kept
 pub rest-more : (xs ys : List ℕ) (k x : ℕ) → ((i : ℕ) → k ≤ i → getD xs i 0 ≡ getD ys i 0) → (i : ℕ) → k + 1 ≤ i → getD (set xs k x) i 0 ≡ getD ys i 0

@@ -1,5 +1,5 @@
 -- The next cycle, and a run that is done.
---     floorOf-one, someReady-here, someReady-rest     some thread is ready before the horizon exactly where the floor is
+--     floorOf-one, someReady-rest     some thread is ready before the horizon only where the floor is
 --     begun-rest     where the floor is not before the horizon no cycle begins
 --     stepped-done, runFor-done, runFor-out, runFor-on     a run that is done stands still; else it goes on by one step
 use Prim.Native.Nat.{ℕ, zero, suc, _<_, _≤_}
@@ -10,7 +10,7 @@ use mathlib.Core.List.{List}
 use lib.Dec.{T, T-not}
 use borrow.Author.Tests.{le-ltb}
 use Rattle.base.proofs.BoolLaws.{T-case, T→true, T→false}
-use Rattle.base.proofs.IndexLaws.{anyBelow-found, anyBelow-some}
+use Rattle.base.proofs.IndexLaws.{anyBelow-some}
 use Rattle.clock.specs.declared.Bound.{Bound}
 use Rattle.clock.specs.declared.Bound.the-variants.{Never, At}
 use Rattle.clock.specs.Order.{_≼_}
@@ -37,10 +37,6 @@ module _ (m : Model) (ts : List Thread) where
   pub floorOf-one : (floorOf m ts ≡ Never) ⊎ ((k : ℕ) × (k < m .t) × (floorOf m ts ≡ readyCycle (threadAt ts k .state)))
   unfolding floorOf
   floorOf-one = leastBelow-one (m .t) _
-
-  pub someReady-here : (k : ℕ) → k < m .t → T (isBoundBeforeHorizon m (readyCycle (threadAt ts k .state))) → T (someReady m ts)
-  unfolding someReady
-  someReady-here k h t = anyBelow-found (m .t) _ k h t
 
   -- the floor is not before the horizon, so no thread is ready before it
   pub someReady-rest : T (not (isBoundBeforeHorizon m (floorOf m ts))) → someReady m ts ≡ false

@@ -15,14 +15,15 @@ use lib.ListN.{length, getD, set, replicate, length-set, getD-replicate}
 use borrow.Author.Tests.{lt-ltb, le-ltb}
 use lib.Seq.{getD-set-same, getD-set-other}
 use Rattle.model.specs.Footprint.{has}
-use Rattle.plain_words.specs.Unpack.{endBy, markedBy}
-use Rattle.plain_words.specs.Reach.{lesserOf, greaterOf, Inside, reachedBy}
+use Rattle.plain_words.specs.Unpack.{endBy}
+use Rattle.plain_words.specs.Reach.{lesserOf, greaterOf, Inside}
+use Rattle.plain_words.specs.Shared.{Shared, executeBy}
 use Rattle.plain_words.proofs.MarkLaws.{tells-none}
-use Rattle.plain_words.proofs.ReachLaws.{lesserOf-≤, lesserOf-<, greaterOf-≤, reachedBy-length, reachedBy-keeps, told-reached}
-use Rattle.plain_core.specs.Words.{span, closeWord, wakeWord}
-use Rattle.plain_core.specs.Turn.{Locals, waitedBy, ranBy, turnOn, turnsTo}
-use Rattle.plain_core.specs.Due.{Between, Late, WaitsFor, Woken, IsDue, Begins, Ends}
-use Rattle.plain_core.proofs.DueLaws.{wakeWord-ahead, wakeWord-waits, wakeWord-still, closeWord-waits, turnOn-or, turnsTo-state, turnsTo-past, waitedBy-length, waitedBy-keeps, waitedBy-new}
+use Rattle.plain_words.proofs.ReachLaws.{lesserOf-≤, lesserOf-<, greaterOf-≤, Wider, executeBy-wider}
+use Rattle.plain_state.specs.Words.{span, closeWord, wakeWord}
+use Rattle.plain_state.specs.Turn.{Locals, waitedBy, ranBy, turnOn, turnsTo}
+use Rattle.plain_state.specs.Due.{Between, Late, WaitsFor, Woken, IsDue, Begins, Ends}
+use Rattle.plain_state.proofs.DueLaws.{waitsFor-word, wakeWord-ahead, wakeWord-waits, wakeWord-still, closeWord-waits, turnOn-or, turnsTo-state, turnsTo-past, waitedBy-length, waitedBy-keeps, waitedBy-new}
 
 pub due-all : (code : List ℕ) (now budget : ℕ) (x y : Locals) (t from to : ℕ) → IsDue t (x .state) now from to → y ≡ turnsTo code now budget to x → y ≡ turnsTo code now budget t x
 due-all code now budget x y t from to d e = e ∙ turnsTo-past code now budget x to t (d .inside) (λ k l u q. let h = d .due k u q .1 in omega arith)
@@ -40,7 +41,7 @@ begins-start t now from to rs few size due =
     record {
       threads = due;
       size = size;
-      awaited = λ k e h l w. let z : _≡_ {A = ℕ} (getD (replicate 32 0) k 0) 0 = getD-replicate 32 k 0 0 (omega arith) in let a = w .0 in absurd (omega arith);
+      awaited = λ k e h l w. let z : _≡_ {A = ℕ} (getD (replicate 32 0) k 0) 0 = getD-replicate 32 k 0 0 (omega arith) in let (a, b) = waitsFor-word (getD (replicate 32 0) k 0) e w in absurd (omega arith);
       quiet = λ e h. let f : false ≡ true = sym (tells-none e) ∙ h in let z : _≡_ {A = ℕ} 0 1 = cc in absurd (omega arith);
     }
 
@@ -54,7 +55,7 @@ set-view ws j w k h = go (ℕ-discrete k j)
 -- while the threads of a cycle run
 record Runs (t now from to : ℕ) (x : Locals) : Type 0 where
   places : length (x .state) ≡ 32
-  ends : Ends t (x .state) (x .told) (x .ranges) now from to
+  ends : Ends t (x .state) (x .shared .told) (x .shared .ranges) now from to
 
 module _ (code : List ℕ) (now budget t from to : ℕ) (few : t ≤ 32) (small : now < span) where
   module _ (x : Locals) (r : Runs t now from to x) (j : ℕ) (h : j < t) (here : Between from to j) where
@@ -64,51 +65,49 @@ module _ (code : List ℕ) (now budget t from to : ℕ) (few : t ≤ 32) (small 
     end : ℕ
     end = endBy code segment
 
-    reached : List ℕ
-    reached = reachedBy code segment (x .ranges)
+    after : Shared
+    after = executeBy code segment (x .shared)
 
-    reached-size : length reached ≡ 66
-    unfolding reached
-    reached-size = reachedBy-length code segment (x .ranges) (r .ends .size)
+    wider : Wider (x .shared .told) (after .told) (x .shared .ranges) (after .ranges)
+    unfolding after
+    wider = executeBy-wider code (x .shared) (r .ends .size) segment
 
     view : (k : ℕ) → ((k ≡ j) × (getD (set (x .state) j (closeWord end now)) k 0 ≡ closeWord end now)) ⊎ ((k ≡ j → ⊥) × (getD (set (x .state) j (closeWord end now)) k 0 ≡ getD (x .state) k 0))
     view k = set-view (x .state) j (closeWord end now) k (omega (arith, r .places))
 
-    awaited-ran : (k e : ℕ) → k < t → e < 32 → WaitsFor (getD (set (x .state) j (closeWord end now)) k 0) e → Inside (waitedBy end j reached) e k
-    unfolding reached
+    awaited-ran : (k e : ℕ) → k < t → e < 32 → WaitsFor (getD (set (x .state) j (closeWord end now)) k 0) e → Inside (waitedBy end j (after .ranges)) e k
     awaited-ran k e l u w = go (view k)
       where
         go : ((k ≡ j) × (getD (set (x .state) j (closeWord end now)) k 0 ≡ closeWord end now)) ⊎ ((k ≡ j → ⊥) × (getD (set (x .state) j (closeWord end now)) k 0 ≡ getD (x .state) k 0)) →
-            Inside (waitedBy end j reached) e k
+            Inside (waitedBy end j (after .ranges)) e k
         go (inl (q, f)) =
-            let (a, b) = closeWord-waits end now e small u (subst (λ (y : ℕ). WaitsFor y e) f w) in
-            subst (λ (i : ℕ). Inside (waitedBy end j reached) e i) (sym q) (waitedBy-new end j reached reached-size e a b)
+            let (a, b) = closeWord-waits end now e small (subst (λ (y : ℕ). WaitsFor y e) f w) in
+            subst (λ (i : ℕ). Inside (waitedBy end j (after .ranges)) e i) (sym q) (waitedBy-new end j (after .ranges) (wider .size) e a b)
         go (inr (q, f)) =
-            waitedBy-keeps end j reached reached-size e k (omega arith)
-            (reachedBy-keeps code segment (x .ranges) (r .ends .size) e k (omega arith) (r .ends .awaited k e l u (subst (λ (y : ℕ). WaitsFor y e) f w)))
+            waitedBy-keeps end j (after .ranges) (wider .size) e k (omega arith)
+            (wider .keeps e k (omega arith) (r .ends .awaited k e l u (subst (λ (y : ℕ). WaitsFor y e) f w)))
 
-    told-ran : (k e : ℕ) → k < t → e < 32 → WaitsFor (getD (set (x .state) j (closeWord end now)) k 0) e → getD (markedBy code segment (x .told)) e false ≡ true →
-        Between from to k ⊎ Inside (waitedBy end j reached) 32 k
-    unfolding reached
+    told-ran : (k e : ℕ) → k < t → e < 32 → WaitsFor (getD (set (x .state) j (closeWord end now)) k 0) e → getD (after .told) e false ≡ true →
+        Between from to k ⊎ Inside (waitedBy end j (after .ranges)) 32 k
     told-ran k e l u w m = go (view k)
       where
-        kept : Inside reached 32 k → Between from to k ⊎ Inside (waitedBy end j reached) 32 k
-        kept i = inr (waitedBy-keeps end j reached reached-size 32 k (omega arith) i)
+        kept : Inside (after .ranges) 32 k → Between from to k ⊎ Inside (waitedBy end j (after .ranges)) 32 k
+        kept i = inr (waitedBy-keeps end j (after .ranges) (wider .size) 32 k (omega arith) i)
 
-        before : Between from to k ⊎ Inside (x .ranges) 32 k → Between from to k ⊎ Inside (waitedBy end j reached) 32 k
+        before : Between from to k ⊎ Inside (x .shared .ranges) 32 k → Between from to k ⊎ Inside (waitedBy end j (after .ranges)) 32 k
         before (inl b) = inl b
-        before (inr i) = kept (reachedBy-keeps code segment (x .ranges) (r .ends .size) 32 k (omega arith) i)
+        before (inr i) = kept (wider .keeps 32 k (omega arith) i)
 
-        marks : WaitsFor (getD (x .state) k 0) e → (getD (x .told) e false ≡ true) ⊎ Inside reached 32 k → Between from to k ⊎ Inside (waitedBy end j reached) 32 k
+        marks : WaitsFor (getD (x .state) k 0) e → (getD (x .shared .told) e false ≡ true) ⊎ Inside (after .ranges) 32 k → Between from to k ⊎ Inside (waitedBy end j (after .ranges)) 32 k
         marks v (inl q) = before (r .ends .told k e l u v q)
         marks v (inr i) = kept i
 
         go : ((k ≡ j) × (getD (set (x .state) j (closeWord end now)) k 0 ≡ closeWord end now)) ⊎ ((k ≡ j → ⊥) × (getD (set (x .state) j (closeWord end now)) k 0 ≡ getD (x .state) k 0)) →
-            Between from to k ⊎ Inside (waitedBy end j reached) 32 k
+            Between from to k ⊎ Inside (waitedBy end j (after .ranges)) 32 k
         go (inl (q, f)) = inl (subst (Between from to) (sym q) here)
         go (inr (q, f)) =
             let v : WaitsFor (getD (x .state) k 0) e = subst (λ (y : ℕ). WaitsFor y e) f w in
-            marks v (told-reached code segment (x .ranges) (r .ends .size) (x .told) e k u (r .ends .awaited k e l u v) m)
+            marks v (wider .told e k u (r .ends .awaited k e l u v) m)
 
     late-ran : (k : ℕ) → k < t → Late (getD (set (x .state) j (closeWord end now)) k 0) → Between from to k
     late-ran k l w = go (view k)
@@ -118,7 +117,7 @@ module _ (code : List ℕ) (now budget t from to : ℕ) (few : t ≤ 32) (small 
         go (inr (q, f)) = r .ends .late k l (subst Late f w)
 
     runs-ran : Runs t now from to (ranBy code now j x)
-    unfolding reached end segment
+    unfolding after end segment
     runs-ran =
         record {
           places = length-set (x .state) j (closeWord end now) ∙ r .places;
@@ -126,7 +125,7 @@ module _ (code : List ℕ) (now budget t from to : ℕ) (few : t ≤ 32) (small 
               record {
                 order = r .ends .order;
                 inside = r .ends .inside;
-                size = waitedBy-length end j reached reached-size;
+                size = waitedBy-length end j (after .ranges) (wider .size);
                 awaited = awaited-ran;
                 told = told-ran;
                 late = late-ran;
@@ -147,8 +146,8 @@ module _ (code : List ℕ) (now budget t from to : ℕ) (few : t ≤ 32) (small 
       runs-on (turnsTo code now budget j x) (runs-to x r due j (omega arith)) j (omega arith)
       (λ q. due j (omega arith) (sym (turnsTo-state code now budget x j j (omega arith)) ∙ q))
 
-  pub ends-all : (x y : Locals) → length (x .state) ≡ 32 → Begins t (x .state) (x .told) (x .ranges) now from to → y ≡ turnsTo code now budget t x →
-      Ends t (y .state) (y .told) (y .ranges) now from to
+  pub ends-all : (x y : Locals) → length (x .state) ≡ 32 → Begins t (x .state) (x .shared .told) (x .shared .ranges) now from to → y ≡ turnsTo code now budget t x →
+      Ends t (y .state) (y .shared .told) (y .shared .ranges) now from to
   ends-all x y size b e =
       let r : Runs t now from to x =
       record {
@@ -164,7 +163,7 @@ module _ (code : List ℕ) (now budget t from to : ℕ) (few : t ≤ 32) (small 
             };
       }
       in
-      subst (λ (z : Locals). Ends t (z .state) (z .told) (z .ranges) now from to) (sym e) (runs-to x r (b .threads .due) t (omega arith) .ends)
+      subst (λ (z : Locals). Ends t (z .state) (z .shared .told) (z .shared .ranges) now from to) (sym e) (runs-to x r (b .threads .due) t (omega arith) .ends)
 
 -- the threads from a on and before c: those that ran, and those that are reached
 pub record Hull (t : ℕ) (rs : List ℕ) (from to a c : ℕ) : Type 0 where
@@ -190,7 +189,7 @@ hull-of t rs from to a b c h l ea eb ec =
     bound (no u) = let (p, p′) = lesserOf-≤ from (getD rs 32 0) in let (q, q′) = greaterOf-≤ to (getD rs 65 0) in rw (ec, le-ltb t b (omega arith)) (omega arith)
 
 module _ (t : ℕ) (ws : List ℕ) (fs : List Bool) (rs : List ℕ) (now from to a c : ℕ) (ends : Ends t ws fs rs now from to) (hull : Hull t rs from to a c)
-    (small : now < span) (size : length fs ≡ 32) (us : List ℕ) (r : ℕ) (woke : Woken fs now a c ws us r) where
+    (small : now < span) (us : List ℕ) (r : ℕ) (woke : Woken fs now a c ws us r) where
   inside-or : (k : ℕ) → Dec (Between a c k)
   inside-or k = go (decLt k a) (decLt k c)
     where
@@ -208,7 +207,7 @@ module _ (t : ℕ) (ws : List ℕ) (fs : List Bool) (rs : List ℕ) (now from to
 
       go : Dec (Between a c k) → getD us k 0 ≡ wakeWord fs now (getD ws k 0)
       go (yes b) = woke .words k b
-      go (no n) = woke .rest k n ∙ wakeWord-still fs now small (getD ws k 0) size (λ e u w q. n (there (ends .told k e l u w q)))
+      go (no n) = woke .rest k n ∙ wakeWord-still fs now small (getD ws k 0) (λ e u w q. n (there (ends .told k e l u w q)))
 
   pub hull-ahead : ((k : ℕ) → k < t → now < getD ws k 0) → (k : ℕ) → k < t → now < getD us k 0
   hull-ahead ahead k l = rw (hull-woken k l) (wakeWord-ahead fs now small (getD ws k 0) (ahead k l))

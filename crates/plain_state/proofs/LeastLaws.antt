@@ -1,7 +1,7 @@
 -- The least word is the floor.
 --     leastWord-≤, leastWord-most, leastWord-one     it is at most each word, and one of them
 --     floor-word, floor-late     below the horizon it is the floor's cycle; at the horizon or later the floor is too
-use Prim.Native.Nat.{ℕ, zero, suc, _*_, _<_, _≤_}
+use Prim.Native.Nat.{ℕ, zero, suc, _<_, _≤_}
 use mathlib.Core.Path.{_≡_, refl, ap, sym, _∙_, subst}
 use mathlib.Core.Logic.{_⊎_, inl, inr}
 use mathlib.Core.Bool.{not}
@@ -11,30 +11,31 @@ use native.Mathlib.Decide.{ℕ-discrete, decLt}
 use lib.Dec.{T}
 use lib.ListN.{getD}
 use borrow.Author.Tests.{lt-ltb, le-ltb}
+use Rattle.base.proofs.BoolLaws.{T-case}
 use Rattle.clock.specs.declared.Cycle.{Cycle}
+use Rattle.clock.specs.declared.Bound.{Bound}
 use Rattle.clock.specs.declared.Bound.the-variants.{Never, At}
 use Rattle.clock.specs.Order.{_⊑_, sooner, same-time, _≼_}
 use Rattle.clock.proofs.OrderLaws.{≼-antisym}
 use Rattle.clock.proofs.LeastLaws.{leastBelow-glb}
 use Rattle.model.specs.declared.Model.{Model}
 use Rattle.model.specs.declared.State.{State}
-use Rattle.model.specs.declared.State.the-variants.{Ended, Overrun, Ready, Waiting}
+use Rattle.model.specs.declared.State.the-variants.{Ready}
 use Rattle.model.specs.declared.Thread.{Thread}
 use Rattle.model.specs.Limits.{isBeforeHorizon, isBoundBeforeHorizon}
-use Rattle.model.specs.Record.{threadAt, readyCycle}
+use Rattle.model.specs.Record.{threadAt, viewOf, readyCycle}
 use Rattle.plain.specs.Wake.{floorOf}
-use Rattle.plain_core.specs.Words.{waiting, keyOf, wordOf, leastWord}
+use Rattle.plain_words.proofs.ReachLaws.{lesserOf-≤}
+use Rattle.plain_state.specs.Words.{span, keyOf, limitOf, wordOf, leastWord}
+use Rattle.plain_laws.proofs.RecordLaws.{readyCycle→ready, ready→state}
 use Rattle.plain_laws.proofs.WakeLaws.{floorOf-≼}
-use Rattle.plain_core.proofs.FloorLaws.{floorOf-one}
-use Rattle.plain_core.proofs.WordLaws.{Small, InRange}
+use Rattle.plain_state.proofs.LimitLaws.{horizon→limit, limit→horizon}
+use Rattle.plain_state.proofs.FloorLaws.{floorOf-one}
+use Rattle.plain_state.proofs.WordLaws.{Small, InRange, word-ready}
 
 leastWord-below : (k : ℕ) (ws : List ℕ) → (leastWord (suc k) ws ≤ getD ws k 0) × (leastWord (suc k) ws ≤ leastWord k ws)
 unfolding leastWord
-leastWord-below k ws = go (decLt (getD ws k 0) (leastWord k ws))
-  where
-    go : Dec (getD ws k 0 < leastWord k ws) → (leastWord (suc k) ws ≤ getD ws k 0) × (leastWord (suc k) ws ≤ leastWord k ws)
-    go (yes h) = rw (lt-ltb (getD ws k 0) (leastWord k ws) h) (omega arith, omega arith)
-    go (no h) = rw (le-ltb (getD ws k 0) (leastWord k ws) (omega arith)) (omega arith, omega arith)
+leastWord-below k ws = lesserOf-≤ (getD ws k 0) (leastWord k ws)
 
 pub leastWord-≤ : (t : ℕ) (ws : List ℕ) (k : ℕ) → k < t → leastWord t ws ≤ getD ws k 0
 leastWord-≤ zero ws k h = absurd (omega arith)
@@ -60,13 +61,6 @@ leastWord-one (suc t) ws = go (leastWord-one t ws) (decLt (getD ws t 0) (leastWo
     go (inl e) (no h) = inl (rw (le-ltb (getD ws t 0) (leastWord t ws) (omega arith)) e)
     go (inr (k, l, e)) (no h) = inr (k, omega arith, rw (le-ltb (getD ws t 0) (leastWord t ws) (omega arith)) e)
 
--- a word below those that wait is a ready thread's
-word-ready : (s : State) → wordOf s < waiting → (c : Cycle) × (s ≡ Ready c)
-word-ready (Ready c) h = (c, refl)
-word-ready (Ended c) h = absurd (omega arith)
-word-ready (Overrun c) h = absurd (omega arith)
-word-ready (Waiting e c) h = absurd (omega arith)
-
 key-⊑ : (c d : Cycle) → c .delta .0 ≤ 1023 → d .delta .0 ≤ 1023 → keyOf c ≤ keyOf d → c ⊑ d
 key-⊑ c d h l k = go (decLt (c .time .0) (d .time .0))
   where
@@ -74,55 +68,56 @@ key-⊑ c d h l k = go (decLt (c .time .0) (d .time .0))
     go (yes b) = sooner b
     go (no b) = same-time (omega arith) (omega arith)
 
-module _ (m : Model) (small : m .horizon .0 ≤ 1000000000) (ws : List ℕ) (us : List Thread)
+module _ (m : Model) (small : limitOf m ≤ span) (ws : List ℕ) (us : List Thread)
     (words : (k : ℕ) → k < m .t → getD ws k 0 ≡ wordOf (threadAt us k .state))
     (ranges : (k : ℕ) → k < m .t → InRange (threadAt us k .state)) where
   ready-range : (k : ℕ) → k < m .t → (c : Cycle) → threadAt us k .state ≡ Ready c → Small c
   ready-range k h c e = rw e at (ranges k h)
 
   least-≼ : (c : Cycle) → c .delta .0 ≤ 1023 → keyOf c ≡ leastWord (m .t) ws → (k : ℕ) → k < m .t → At c ≼ readyCycle (threadAt us k .state)
-  least-≼ c d e k h = go (threadAt us k .state) refl
+  least-≼ c d e k h = go (readyCycle (threadAt us k .state)) refl
     where
-      go : (s : State) → threadAt us k .state ≡ s → At c ≼ readyCycle s
-      go (Ended x) f = tt
-      go (Overrun x) f = tt
-      go (Waiting w x) f = tt
-      go (Ready x) f =
-          let g : getD ws k 0 ≡ keyOf x = words k h ∙ ap wordOf f in
-          key-⊑ c x d (ready-range k h x f .delta) (omega (arith, leastWord-≤ (m .t) ws k h))
+      go : (b : Bound) → readyCycle (threadAt us k .state) ≡ b → At c ≼ b
+      go Never f = tt
+      go (At x) f =
+          let r = ready→state (threadAt us k .state) x (readyCycle→ready (viewOf (threadAt us k .state)) x f) in
+          let g : getD ws k 0 ≡ keyOf x = words k h ∙ ap wordOf r in
+          key-⊑ c x d (ready-range k h x r .delta) (omega (arith, leastWord-≤ (m .t) ws k h))
 
-  pub floor-word : leastWord (m .t) ws < 1024 * m .horizon .0 →
-      (c : Cycle) × (floorOf m us ≡ At c) × (keyOf c ≡ leastWord (m .t) ws) × Small c × (c .time .0 < m .horizon .0)
+  pub floor-word : leastWord (m .t) ws < limitOf m →
+      (c : Cycle) × (floorOf m us ≡ At c) × (keyOf c ≡ leastWord (m .t) ws) × Small c × T (isBeforeHorizon m c)
   unfolding floorOf
   floor-word h = go (leastWord-one (m .t) ws)
     where
       found : (k : ℕ) → k < m .t → leastWord (m .t) ws ≡ getD ws k 0 → (c : Cycle) × (threadAt us k .state ≡ Ready c) →
-          (c : Cycle) × (floorOf m us ≡ At c) × (keyOf c ≡ leastWord (m .t) ws) × Small c × (c .time .0 < m .horizon .0)
+          (c : Cycle) × (floorOf m us ≡ At c) × (keyOf c ≡ leastWord (m .t) ws) × Small c × T (isBeforeHorizon m c)
       found k l e (c, f) =
           let g : keyOf c ≡ leastWord (m .t) ws = sym (e ∙ (words k l ∙ ap wordOf f)) in
           let s = ready-range k l c f in
           let below : floorOf m us ≼ At c = subst (λ (x : State). floorOf m us ≼ readyCycle x) f (floorOf-≼ m us k l) in
           let above : At c ≼ floorOf m us = leastBelow-glb (At c) (m .t) (λ j. readyCycle (threadAt us j .state)) (least-≼ c (s .delta) g) in
-          (c, ≼-antisym (floorOf m us) (At c) below above, g, s, omega arith)
+          (c, ≼-antisym (floorOf m us) (At c) below above, g, s, limit→horizon m c (omega arith))
 
       go : (leastWord (m .t) ws ≡ 18446744073709551615) ⊎ ((k : ℕ) × (k < m .t) × (leastWord (m .t) ws ≡ getD ws k 0)) →
-          (c : Cycle) × (floorOf m us ≡ At c) × (keyOf c ≡ leastWord (m .t) ws) × Small c × (c .time .0 < m .horizon .0)
+          (c : Cycle) × (floorOf m us ≡ At c) × (keyOf c ≡ leastWord (m .t) ws) × Small c × T (isBeforeHorizon m c)
       go (inl e) = absurd (omega arith)
       go (inr (k, l, e)) = let w = words k l in found k l e (word-ready (threadAt us k .state) (omega arith))
 
-  pub floor-late : 1024 * m .horizon .0 ≤ leastWord (m .t) ws → T (not (isBoundBeforeHorizon m (floorOf m us)))
-  unfolding isBoundBeforeHorizon isBeforeHorizon
+  pub floor-late : limitOf m ≤ leastWord (m .t) ws → T (not (isBoundBeforeHorizon m (floorOf m us)))
+  unfolding isBoundBeforeHorizon
   floor-late h = go (floorOf-one m us)
     where
-      late : (k : ℕ) → k < m .t → (s : State) → threadAt us k .state ≡ s → T (not (isBoundBeforeHorizon m (readyCycle s)))
-      late k l (Ended x) f = tt
-      late k l (Overrun x) f = tt
-      late k l (Waiting w x) f = tt
-      late k l (Ready x) f =
-          let g : getD ws k 0 ≡ keyOf x = words k l ∙ ap wordOf f in
-          let d = ready-range k l x f .delta in
-          rw (le-ltb (x .time .0) (m .horizon .0) (omega (arith, leastWord-≤ (m .t) ws k l))) tt
+      past : (x : Cycle) → x .delta .0 ≤ 1023 → limitOf m ≤ keyOf x → T (isBeforeHorizon m x) ⊎ T (not (isBeforeHorizon m x)) → T (not (isBeforeHorizon m x))
+      past x d l (inl t) = let k = horizon→limit m x t d in absurd (omega arith)
+      past x d l (inr t) = t
+
+      late : (k : ℕ) → k < m .t → (b : Bound) → readyCycle (threadAt us k .state) ≡ b → T (not (isBoundBeforeHorizon m b))
+      late k l Never f = tt
+      late k l (At x) f =
+          let r = ready→state (threadAt us k .state) x (readyCycle→ready (viewOf (threadAt us k .state)) x f) in
+          let g : getD ws k 0 ≡ keyOf x = words k l ∙ ap wordOf r in
+          past x (ready-range k l x r .delta) (omega (arith, leastWord-≤ (m .t) ws k l)) (T-case (isBeforeHorizon m x))
 
       go : (floorOf m us ≡ Never) ⊎ ((k : ℕ) × (k < m .t) × (floorOf m us ≡ readyCycle (threadAt us k .state))) → T (not (isBoundBeforeHorizon m (floorOf m us)))
       go (inl e) = rw e tt
-      go (inr (k, l, e)) = rw e (late k l (threadAt us k .state) refl)
+      go (inr (k, l, e)) = rw e (late k l (readyCycle (threadAt us k .state)) refl)

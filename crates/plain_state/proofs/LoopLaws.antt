@@ -5,11 +5,11 @@
 --     loop-start, loop-passed, loop-ran, loop-begun     before the loop, and after each turn
 --     loop-ahead     once all are looked at, every word is ahead
 --     loop-out, loop-rest     where the budget is out, and where no thread is ready before the horizon
-use Prim.Native.Nat.{ℕ, suc, _+_, _-_, _*_, _<_, _≤_, _^_}
-use mathlib.Core.Path.{_≡_, refl, ap, sym, _∙_}
+use Prim.Native.Nat.{ℕ, zero, suc, _+_, _-_, _*_, _<_, _≤_, _^_}
+use mathlib.Core.Path.{_≡_, refl, ap, sym, _∙_, subst}
 use mathlib.Core.Logic.{_⊎_, inl, inr}
-use mathlib.Core.Bool.{Bool, true, false, not, _&&_}
-use mathlib.Core.List.{List, [], _++_}
+use mathlib.Core.Bool.{Bool, true, false, cond, not, _&&_}
+use mathlib.Core.List.{List, [], _∷_, _++_}
 use native.Mathlib.Nat.{add-mul, one-mul, mul-le-mul-right}
 use native.Mathlib.Omega.{arith}
 use native.Mathlib.Decide.{ℕ-discrete, decLt}
@@ -18,44 +18,46 @@ use lib.ListN.{length, getD, set, replicate, length-set, length-append, length-r
 use lib.Seq.{getD-set-same, getD-set-other, ext-getD}
 use borrow.Author.Tests.{lt-ltb, le-ltb, le-leb, lt-leb}
 use Rattle.base.specs.Index.{tabulate}
-use Rattle.base.proofs.BoolLaws.{T→true, true→T, false→T}
+use Rattle.base.proofs.BoolLaws.{T→true, true→T}
 use Rattle.base.proofs.IndexLaws.{tabulate-length, tabulate-at}
 use Rattle.clock.specs.declared.Cycle.{Cycle}
 use Rattle.clock.specs.declared.Bound.{Bound}
-use Rattle.clock.specs.declared.Bound.the-variants.{At}
+use Rattle.clock.specs.declared.Bound.the-variants.{Never, At}
 use Rattle.clock.specs.Cycle.{cycleAt}
 use Rattle.clock.specs.Order.{Before, sooner, same-time}
 use Rattle.model.specs.declared.Closer.{Closer}
 use Rattle.model.specs.declared.Closer.the-variants.{End, Time, Event}
 use Rattle.model.specs.declared.Model.{Model}
-use Rattle.model.specs.declared.State.{State}
-use Rattle.model.specs.declared.State.the-variants.{Ended, Overrun, Ready, Waiting}
 use Rattle.model.specs.declared.Thread.{Thread}
-use Rattle.model.specs.declared.Threads.{Threads}
-use Rattle.model.specs.Values.{segmentAt, startAt, bodyOf}
+use Rattle.model.specs.Values.{segmentAt, segmentFor, startAt, bodyOf}
 use Rattle.model.specs.Statement.{execute, notifiedBy}
 use Rattle.model.specs.Limits.{isBeforeHorizon, isBoundBeforeHorizon}
-use Rattle.model.specs.Record.{noThread, threadAt, readyCycle}
+use Rattle.model.specs.Record.{noThread, threadAt, viewOf, readyCycle}
 use Rattle.model.specs.Effect.{closedAt, effectIn, effectOf}
 use Rattle.model.specs.Footprint.{listedIn, notifiesIn}
 use Rattle.model.specs.Rules.{closerFault, modelFault}
-use Rattle.model_rules.proofs.RuleLaws.{closerFault-delay, modelFault-horizon, modelFault-counts, modelFault-statements, modelFault-closer, modelFault-notifies}
+use Rattle.model_rules.proofs.RuleLaws.{closerFault-delay, modelFault-counts, modelFault-statements, modelFault-closer, modelFault-notifies}
 use Rattle.plain_words.specs.Pack.{IsCode}
-use Rattle.plain_words.specs.Unpack.{marked, endBy, executeBy, markedBy, followBy}
+use Rattle.plain_words.specs.Unpack.{endBy}
+use Rattle.plain_words.specs.Shared.{Shared, shared, marked, reached, executeBy}
 use Rattle.plain_words.proofs.MarkLaws.{Tells, Within, marked-length, tells-none, tells-more}
-use Rattle.plain_words.proofs.CodeLaws.{code-end, code-execute, code-marked, code-follow}
+use Rattle.plain_words.proofs.CodeLaws.{code-end, code-execute, code-follow}
 use Rattle.plain.specs.declared.PlainRun.{PlainRun}
 use Rattle.plain.specs.Start.{Place, started, freshThreads, freshVariables, startOf}
 use Rattle.plain.specs.Wake.{wokenThread, woken, floorOf, someReady}
-use Rattle.plain.specs.Step.{isAt, isDue, ranOn, passedOn, begun, closedOn, stepped}
+use Rattle.plain.specs.Step.{isAt, isDue, ranOn, passedOn, begun, closedOn, stepped, placeAt}
 use Rattle.plain.specs.Run.{isDone, isOut, runFor, lastStep, reported}
-use Rattle.plain_laws.proofs.RecordLaws.{<→horizon}
-use Rattle.plain_core.specs.Words.{keyOf, wordOf, stateFrom, threadsTo, answer, closeWord, wakeWord, leastWord}
-use Rattle.plain_core.proofs.FloorLaws.{someReady-here, someReady-rest, begun-rest, stepped-close, runFor-done, runFor-out, runFor-on}
-use Rattle.plain_core.proofs.SoundLaws.{Ahead, Sound, isDue→≡, sound-start, sound-passed, sound-ran, floor-ahead, sound-begun, threadAt-fresh, threadAt-woken, woken-length}
-use Rattle.plain_core.proofs.WordLaws.{Small, InRange, unitsOf, stateFrom-word, word-due, word-not-due, closeWord-closed, wakeWord-woken}
-use Rattle.plain_core.proofs.RangeLaws.{Ranged, past-end, small-now, closedAt-range, ranged-start, ranged-set, ranged-woken}
-use Rattle.plain_core.proofs.LeastLaws.{leastWord-one, floor-word, floor-late}
+use Rattle.plain_laws.proofs.RecordLaws.{threadAt-set}
+use Rattle.plain_laws.proofs.StepLaws.{effectAt, isDue→ready, placeAt-more}
+use Rattle.plain_laws.proofs.StartLaws.{startOf-record}
+use Rattle.plain_laws.proofs.WakeLaws.{woken-at, woken-length, floorOf-attained, someReady-found}
+use Rattle.plain_state.specs.Words.{keyOf, limitOf, wordOf, stateFrom, threadsTo, answer, closeWord, wakeWord, leastWord}
+use Rattle.plain_state.specs.Turn.{Locals, locals, ranBy}
+use Rattle.plain_state.proofs.LimitLaws.{horizon→limit, limit-small}
+use Rattle.plain_state.proofs.FloorLaws.{someReady-rest, begun-rest, stepped-close, runFor-done, runFor-out, runFor-on}
+use Rattle.plain_state.proofs.SoundLaws.{Ranged, Sound, sound-at}
+use Rattle.plain_state.proofs.WordLaws.{Small, InRange, unitsOf, stateFrom-word, word-after, word-due, word-not-due, closeWord-closed, wakeWord-woken}
+use Rattle.plain_state.proofs.LeastLaws.{leastWord-one, floor-word, floor-late}
 
 -- how many steps lie before a turn of a cycle: T + 1 for each cycle, whether it is run or not
 abbrev pub countAt : ℕ → ℕ → ℕ → ℕ
@@ -68,10 +70,8 @@ cycle-room t a b h =
     let l : (a + 1) * (t + 1) ≤ b * (t + 1) = mul-le-mul-right (t + 1) (omega arith) in
     omega arith
 
-pub countAt-room : (t h : ℕ) (c : Cycle) (turn : ℕ) → c .time .0 < h → c .delta .0 ≤ 1023 → turn ≤ t → countAt t (keyOf c) turn < 1024 * h * (t + 1)
-countAt-room t h c turn l d u =
-    let r = cycle-room t (1024 * c .time .0 + c .delta .0) (1024 * h) (omega arith) in
-    omega arith
+pub countAt-room : (t l key turn : ℕ) → key < l → turn ≤ t → countAt t key turn < l * (t + 1)
+countAt-room t l key turn h u = let r = cycle-room t key l h in omega arith
 
 key-later : {c d : Cycle} → Before c d → c .delta .0 ≤ 1023 → 1024 * c .time .0 + c .delta .0 < 1024 * d .time .0 + d .delta .0
 key-later (sooner h) l = omega arith
@@ -86,21 +86,36 @@ abbrev countOf : Model → Place → ℕ
 countOf m p = countAt (m .t) (keyOf (p .now)) (p .turn)
 
 pub record Stands (m : Model) (budget : ℕ) (p : Place) : Type 0 where
-  pub sound : Sound m p
+  pub index : ℕ
+  pub place : p ≡ placeAt m index
   pub steps : ℕ
   pub same : runFor m budget steps p ≡ runFor m budget (lastStep m) (startOf m)
   pub left : lastStep m ≤ steps + countOf m p
 
+module _ (m : Model) (fit : modelFault m ≡ 0) (budget : ℕ) (p : Place) (st : Stands m budget p) where
+  next-place : stepped m p ≡ placeAt m (suc (st .index))
+  next-place = ap (stepped m) (st .place) ∙ sym (placeAt-more m (st .index))
+
+  pub stands-sound : Sound m p
+  stands-sound = subst (Sound m) (sym (st .place)) (sound-at m fit (st .index))
+
+  -- and so is the next place
+  pub stands-next : Sound m (stepped m p)
+  stands-next = subst (Sound m) (sym next-place) (sound-at m fit (suc (st .index)))
+
 stands-steps : (m : Model) (budget s s′ : ℕ) (p q : Place) → s ≡ suc s′ → T (not (isOut m budget p)) → stepped m p ≡ q → runFor m budget s p ≡ runFor m budget s′ q
 stands-steps m budget s s′ p q e o f = rw (e, ← f) (runFor-on m budget s′ p o)
 
-pub stands-step : (m : Model) (budget : ℕ) (p q : Place) → Stands m budget p → T (not (isOut m budget p)) → stepped m p ≡ q → Sound m q → countOf m p < countOf m q → Stands m budget q
-stands-step m budget p q st o e s later =
-    let room : countOf m p < lastStep m = countAt-room (m .t) (m .horizon .0) (p .now) (p .turn) (st .sound .time) (st .sound .delta) (st .sound .turn) in
+pub stands-step : (m : Model) → modelFault m ≡ 0 → (budget : ℕ) (p q : Place) → Stands m budget p → T (not (isOut m budget p)) → stepped m p ≡ q → countOf m p < countOf m q → Stands m budget q
+stands-step m fit budget p q st o e later =
+    let sound = stands-sound m fit budget p st in
+    let key = horizon→limit m (p .now) (sound .time) (sound .delta) in
+    let room : countOf m p < lastStep m = countAt-room (m .t) (limitOf m) (keyOf (p .now)) (p .turn) key (sound .turn) in
     let left = st .left in
     let n : st .steps ≡ suc (st .steps - 1) = omega arith in
     record {
-      sound = s;
+      index = suc (st .index);
+      place = sym e ∙ next-place m fit budget p st;
       steps = st .steps - 1;
       same = sym (stands-steps m budget (st .steps) (st .steps - 1) p q n o e) ∙ st .same;
       left = omega arith;
@@ -109,20 +124,19 @@ stands-step m budget p q st o e s later =
 abbrev pub placeOf : List ℕ → List Thread → Cycle → ℕ → List ℕ → ℕ → Place
 placeOf v ts now turn es n = record { variables = v; threads = ts; now = now; turn = turn; notified = es; n = n }
 
--- the words ws and segments ss stand for threads, the marks fs for events, and now for a cycle
-pub record Loop (m : Model) (budget : ℕ) (v ws ss : List ℕ) (fs : List Bool) (now turn n : ℕ) : Type 0 where
+-- the locals stand for a place: their words and segments for threads, the marks for events, and now for a cycle
+pub record Loop (m : Model) (budget : ℕ) (x : Locals) (now turn : ℕ) : Type 0 where
   pub threads : List Thread
   pub cycle : Cycle
   pub events : List ℕ
   pub key : now ≡ keyOf cycle
-  pub words : (k : ℕ) → k < m .t → getD ws k 0 ≡ wordOf (threadAt threads k .state)
-  pub segments : (k : ℕ) → k < m .t → getD ss k 0 ≡ threadAt threads k .segment
-  pub ranged : Ranged (m .t) threads
-  pub tells : Tells fs events
-  pub marks-size : length fs ≡ 32
-  pub words-size : length ws ≡ 32
-  pub segments-size : length ss ≡ 32
-  pub stands : Stands m budget (placeOf v threads cycle turn events n)
+  pub words : (k : ℕ) → k < m .t → getD (x .state) k 0 ≡ wordOf (threadAt threads k .state)
+  pub segments : (k : ℕ) → k < m .t → getD (x .segments) k 0 ≡ threadAt threads k .segment
+  pub tells : Tells (x .shared .told) events
+  pub marks-size : length (x .shared .told) ≡ 32
+  pub words-size : length (x .state) ≡ 32
+  pub segments-size : length (x .segments) ≡ 32
+  pub stands : Stands m budget (placeOf (x .shared .variables) threads cycle turn events (x .n))
 
 -- what the run answers
 abbrev pub answerOf : Model → ℕ → PlainRun
@@ -183,10 +197,16 @@ begun-at m f c p e t = rw (e, T→true (isBeforeHorizon m c) t) refl
 
 -- a due thread is ready before the horizon
 someReady-due : (m : Model) (p : Place) → Sound m p → p .turn < m .t → T (isDue p) → someReady m (p .threads) ≡ true
-unfolding isBoundBeforeHorizon
-someReady-due m p s h d =
-    T→true (someReady m (p .threads))
-    (someReady-here m (p .threads) (p .turn) h (rw (isDue→≡ p d) (<→horizon m (p .now) (s .time))))
+someReady-due m p s h d = someReady-found m (p .threads) (p .turn) (p .now) h (isDue→ready p d) (s .time)
+
+begun-threads : (m : Model) (f : Bound) (p : Place) → begun m f p .threads ≡ p .threads
+unfolding begun
+begun-threads m Never p = refl
+begun-threads m (At c) p = go (isBeforeHorizon m c)
+  where
+    go : (b : Bool) → (cond b (placeOf (p .variables) (p .threads) c 0 (p .notified) (p .n)) p) .threads ≡ p .threads
+    go true = refl
+    go false = refl
 
 -- a record and its word, set together
 set-both : (t : ℕ) (ws : List ℕ) (ts : List Thread) (i w : ℕ) (x : Thread) (f : Thread → ℕ) → i < length ws → i < length ts → w ≡ f x →
@@ -197,6 +217,13 @@ set-both t ws ts i w x f h l e g k b = go (ℕ-discrete k i)
     go : Dec (k ≡ i) → getD (set ws i w) k 0 ≡ f (getD (set ts i x) k noThread)
     go (yes q) = rw (q, getD-set-same ws i w 0 h, getD-set-same ts i x noThread l) e
     go (no q) = rw (getD-set-other ws i k w 0 q, getD-set-other ts i k x noThread q) (g k b)
+
+past-end : (xs : List Thread) (r k : ℕ) → length xs ≤ k → getD (xs ++ replicate r noThread) k noThread ≡ noThread
+past-end [] zero k h = refl
+past-end [] (suc r) zero h = refl
+past-end [] (suc r) (suc k) h = past-end [] r k (omega arith)
+past-end (x ∷ xs) r zero h = absurd (omega arith)
+past-end (x ∷ xs) r (suc k) h = past-end xs r k (omega arith)
 
 threadsTo-length : (ws ss : List ℕ) (t : ℕ) → t ≤ 32 → length (threadsTo ws ss t) ≡ 32
 unfolding threadsTo
@@ -223,14 +250,8 @@ threadsTo-as ws ss t ts h size words segments r =
     go k (no l) =
         past-end (tabulate t 0 f) (32 - t) k (omega (arith, tabulate-length t 0 f)) ∙ sym (r .rest k (omega arith))
 
-state-ahead : (c : Cycle) → Small c → (s : State) → Ahead c s → keyOf c < wordOf s
-state-ahead c small (Ready d) a = key-later (a d refl .0) (small .delta)
-state-ahead c small (Ended d) a = let k = small .key in omega arith
-state-ahead c small (Overrun d) a = let k = small .key in omega arith
-state-ahead c small (Waiting e d) a = let k = small .key in omega arith
-
 effect-within : (m : Model) → modelFault m ≡ 0 → (s : ℕ) → s < m .n → Within 32 (notifiedBy (bodyOf (segmentAt m s)))
-unfolding notifiesIn listedIn
+unfolding notifiesIn listedIn segmentFor
 effect-within m fit s l e t = let few = modelFault-counts m fit .events in omega (arith, modelFault-notifies m fit 0 s l e t)
 
 closes : (m : Model) (fit : modelFault m ≡ 0) (code : List ℕ) → IsCode m 64 code → (s : ℕ) → s < m .n → (c : Cycle) → Small c → (x : List ℕ) →
@@ -245,70 +266,73 @@ closes m fit code is s l c small x r =
     units v e (Event w y) f = omega arith
 
 module _ (m : Model) (fit : modelFault m ≡ 0) (budget : ℕ) where
-  pub loop-start : (ss : List ℕ) → length ss ≡ 32 → ((k : ℕ) → k < m .t → getD ss k 0 ≡ startAt m k .first) →
-      Loop m budget freshVariables (replicate 32 0) ss (replicate 32 false) 0 0 0
-  unfolding startOf started
-  loop-start ss size first =
+  pub loop-start : (ss rs : List ℕ) → length ss ≡ 32 → ((k : ℕ) → k < m .t → getD ss k 0 ≡ startAt m k .first) →
+      Loop m budget (locals freshVariables (replicate 32 0) ss (replicate 32 false) rs 0) 0 0
+  unfolding startOf started placeAt
+  loop-start ss rs size first =
       let few = modelFault-counts m fit .threads in
       record {
         threads = freshThreads m;
         cycle = cycleAt 0 0;
         events = [];
         key = refl;
-        words = λ k h. rw (threadAt-fresh m fit k h) (getD-replicate 32 k 0 0 (omega arith));
-        segments = λ k h. rw (threadAt-fresh m fit k h) (first k h);
-        ranged = ranged-start m fit;
+        words = λ k h. rw (startOf-record m k h) (getD-replicate 32 k 0 0 (omega arith));
+        segments = λ k h. rw (startOf-record m k h) (first k h);
         tells = tells-none;
         marks-size = refl;
         words-size = refl;
         segments-size = size;
-        stands = record { sound = sound-start m fit; steps = lastStep m; same = refl; left = omega arith };
+        stands = record { index = 0; place = refl; steps = lastStep m; same = refl; left = omega arith };
       }
 
-  module _ (v ws ss : List ℕ) (fs : List Bool) (now turn n : ℕ) (loop : Loop m budget v ws ss fs now turn n) where
-    here : Place
-    here = placeOf v (loop .threads) (loop .cycle) turn (loop .events) n
+  module _ (x : Locals) (now turn : ℕ) (loop : Loop m budget x now turn) where
+    abbrev here : Place
+    here = placeOf (x .shared .variables) (loop .threads) (loop .cycle) turn (loop .events) (x .n)
 
-    soon : loop .cycle .time .0 < 1000000000
-    soon = let (low, high) = modelFault-horizon m fit in omega (arith, loop .stands .sound .time)
+    sound : Sound m here
+    sound = stands-sound m fit budget here (loop .stands)
+
+    next : Sound m (stepped m here)
+    next = stands-next m fit budget here (loop .stands)
+
+    below : keyOf (loop .cycle) < limitOf m
+    below = horizon→limit m (loop .cycle) (sound .time) (sound .delta)
 
     small : Small (loop .cycle)
-    small = small-now (loop .cycle) soon (loop .stands .sound .delta)
+    small = record { key = omega (arith, below, limit-small m fit); delta = sound .delta }
 
     pub loop-small : now < 2 ^ 44
     loop-small = let k = small .key in omega (arith, loop .key)
 
-    pub loop-segment : turn < m .t → getD ss turn 0 < m .n
-    loop-segment h = rw (loop .segments turn h) (loop .stands .sound .segment turn h)
+    pub loop-segment : turn < m .t → getD (x .segments) turn 0 < m .n
+    loop-segment h = rw (loop .segments turn h) (sound .segment turn h)
 
     -- the measure has room to fall
     pub loop-room : countAt (m .t) now turn < lastStep m
-    loop-room = rw (loop .key) (countAt-room (m .t) (m .horizon .0) (loop .cycle) turn (loop .stands .sound .time) (loop .stands .sound .delta) (loop .stands .sound .turn))
+    loop-room = rw (loop .key) (countAt-room (m .t) (limitOf m) (keyOf (loop .cycle)) turn below (sound .turn))
 
     -- every thread that was looked at is ahead
-    word-ahead : (k : ℕ) → k < m .t → k < turn → now < getD ws k 0
-    word-ahead k h l = rw (loop .key, loop .words k h) (state-ahead (loop .cycle) small (threadAt (loop .threads) k .state) (loop .stands .sound .ahead k l))
+    word-ahead : (k : ℕ) → k < m .t → k < turn → now < getD (x .state) k 0
+    word-ahead k h l = rw (loop .key, loop .words k h) (word-after (loop .cycle) (threadAt (loop .threads) k .state) (small .key) (λ d e. key-later (sound .ahead k d l (ap viewOf e)) (small .delta)))
 
-    pub loop-ahead : m .t ≤ turn → now < leastWord (m .t) ws
-    loop-ahead h = go (leastWord-one (m .t) ws)
+    pub loop-ahead : m .t ≤ turn → now < leastWord (m .t) (x .state)
+    loop-ahead h = go (leastWord-one (m .t) (x .state))
       where
-        go : (leastWord (m .t) ws ≡ 18446744073709551615) ⊎ ((k : ℕ) × (k < m .t) × (leastWord (m .t) ws ≡ getD ws k 0)) → now < leastWord (m .t) ws
+        go : (leastWord (m .t) (x .state) ≡ 18446744073709551615) ⊎ ((k : ℕ) × (k < m .t) × (leastWord (m .t) (x .state) ≡ getD (x .state) k 0)) → now < leastWord (m .t) (x .state)
         go (inl e) = omega (arith, loop-small)
         go (inr (k, l, e)) = rw e (word-ahead k l (omega arith))
 
-    pub loop-threads : threadsTo ws ss (m .t) ≡ loop .threads
-    loop-threads = threadsTo-as ws ss (m .t) (loop .threads) (modelFault-counts m fit .threads) (loop .stands .sound .size) (loop .words) (loop .segments) (loop .ranged)
+    pub loop-threads : threadsTo (x .state) (x .segments) (m .t) ≡ loop .threads
+    loop-threads = threadsTo-as (x .state) (x .segments) (m .t) (loop .threads) (modelFault-counts m fit .threads) (sound .size) (loop .words) (loop .segments) (sound .ranged)
 
-    due-word : turn < m .t → getD ws turn 0 ≡ now → isDue here ≡ true
-    unfolding here
-    due-word h e = sym (isDue-at here) ∙ word-due (loop .cycle) small (threadAt (loop .threads) turn .state) (loop .ranged .range turn h) (sym (loop .words turn h) ∙ (e ∙ loop .key))
+    due-word : turn < m .t → getD (x .state) turn 0 ≡ now → isDue here ≡ true
+    due-word h e = sym (isDue-at here) ∙ word-due (loop .cycle) small (threadAt (loop .threads) turn .state) (sound .ranged .range turn h) (sym (loop .words turn h) ∙ (e ∙ loop .key))
 
-    not-due-word : turn < m .t → (getD ws turn 0 ≡ now → ⊥) → isDue here ≡ false
-    unfolding here
+    not-due-word : turn < m .t → (getD (x .state) turn 0 ≡ now → ⊥) → isDue here ≡ false
     not-due-word h e = sym (isDue-at here) ∙ word-not-due (loop .cycle) small (threadAt (loop .threads) turn .state) (λ q. e (loop .words turn h ∙ (q ∙ sym (loop .key))))
 
-    pub loop-passed : turn < m .t → (getD ws turn 0 ≡ now → ⊥) → Loop m budget v ws ss fs now (turn + 1) n
-    unfolding here passedOn
+    pub loop-passed : turn < m .t → (getD (x .state) turn 0 ≡ now → ⊥) → Loop m budget x now (turn + 1)
+    unfolding passedOn
     loop-passed h d =
         let due : isDue here ≡ false = not-due-word h d in
         record {
@@ -318,66 +342,72 @@ module _ (m : Model) (fit : modelFault m ≡ 0) (budget : ℕ) where
           key = loop .key;
           words = loop .words;
           segments = loop .segments;
-          ranged = loop .ranged;
           tells = loop .tells;
           marks-size = loop .marks-size;
           words-size = loop .words-size;
           segments-size = loop .segments-size;
           stands =
-              stands-step m budget here (passedOn here) (loop .stands) (isOut-not-due m budget here due) (stepped-passed m here h due)
-              (sound-passed m fit here (loop .stands .sound) h (false→T (isDue here) due)) (omega arith);
+              stands-step m fit budget here (passedOn here) (loop .stands) (isOut-not-due m budget here due) (stepped-passed m here h due) (omega arith);
         }
 
-    module _ (h : turn < m .t) (d : getD ws turn 0 ≡ now) where
+    module _ (h : turn < m .t) (d : getD (x .state) turn 0 ≡ now) where
       -- "spent": the budget is out, and this thread is ready
-      pub loop-out : budget ≤ n → answer v (threadsTo ws ss (m .t)) n true ≡ answerOf m budget
-      unfolding here
+      pub loop-out : budget ≤ x .n → answer (x .shared .variables) (threadsTo (x .state) (x .segments) (m .t)) (x .n) true ≡ answerOf m budget
       loop-out full =
           let due : isDue here ≡ true = due-word h d in
           let out : T (isOut m budget here) = isOut-full m budget here h due full in
           rw loop-threads
-          (reported-as m here true (someReady-due m here (loop .stands .sound) h (true→T (isDue here) due)) ∙
+          (reported-as m here true (someReady-due m here (sound) h (true→T (isDue here) due)) ∙
           ap (reported m) (sym (runFor-out m here budget (loop .stands .steps) out) ∙ loop .stands .same))
 
-      ran-stands : n < budget → Stands m budget (ranOn m here)
-      unfolding here ranOn
+      ran-stands : x .n < budget → Stands m budget (ranOn m here)
+      unfolding ranOn
       ran-stands room =
-          stands-step m budget here (ranOn m here) (loop .stands) (isOut-room m budget here room) (stepped-ran m here h (due-word h d))
-          (sound-ran m fit here (loop .stands .sound) h) (omega arith)
+          stands-step m fit budget here (ranOn m here) (loop .stands) (isOut-room m budget here room) (stepped-ran m here h (due-word h d)) (omega arith)
+
+      ran-range : InRange (effectAt m here .thread .state)
+      unfolding ranOn
+      ran-range =
+          let j : turn < length (loop .threads) = omega (arith, sound .size, modelFault-counts m fit .threads) in
+          let ran : Sound m (ranOn m here) = subst (Sound m) (stepped-ran m here h (due-word h d)) next in
+          subst (λ (y : Thread). InRange (y .state)) (threadAt-set (loop .threads) turn (effectAt m here .thread) j) (ran .ranged .range turn h)
 
       -- "the ready threads of that cycle run their segment whole"
-      pub loop-ran : n < budget → (code : List ℕ) → IsCode m 64 code → (s : ℕ) → s ≡ getD ss turn 0 → (x : List ℕ) → x ≡ executeBy code s v →
-          Loop m budget x (set ws turn (closeWord (endBy code s) now)) (set ss turn (followBy code s x)) (markedBy code s fs) now (turn + 1) (n + 1)
-      unfolding here ranOn effectOf effectIn
-      loop-ran room code is s same x e =
-          let r = threadAt (loop .threads) turn .segment in
-          let p : s ≡ r = same ∙ loop .segments turn h in
-          let l : s < m .n = rw same (loop-segment h) in
-          let after : x ≡ execute (bodyOf (segmentAt m s)) v = e ∙ code-execute m fit code is s l v in
-          let told : markedBy code s fs ≡ marked fs (notifiedBy (bodyOf (segmentAt m s))) = code-marked m fit code is s l fs in
-          let i : turn < length ws = omega (arith, loop .words-size, modelFault-counts m fit .threads) in
-          let j : turn < length (loop .threads) = omega (arith, loop .stands .sound .size, modelFault-counts m fit .threads) in
-          let k : turn < length ss = omega (arith, loop .segments-size, modelFault-counts m fit .threads) in
-          let y = closedAt s (segmentAt m s .closer) (loop .cycle) x in
-          let range : InRange (y .state) = closedAt-range (loop .cycle) soon (loop .stands .sound .delta) (m .v) (m .e) s (segmentAt m s .closer) x (modelFault-counts m fit .events) (modelFault-closer m fit s l) in
-          let close : closeWord (endBy code s) now ≡ wordOf (y .state) = ap (closeWord (endBy code s)) (loop .key) ∙ closes m fit code is s l (loop .cycle) small x range in
+      pub loop-ran : x .n < budget → (code : List ℕ) → IsCode m 64 code → Loop m budget (ranBy code now turn x) now (turn + 1)
+      unfolding ranOn effectOf effectIn segmentFor
+      loop-ran room code is =
+          let s = getD (x .segments) turn 0 in
+          let p : s ≡ threadAt (loop .threads) turn .segment = loop .segments turn h in
+          let l : s < m .n = loop-segment h in
+          let fs = x .shared .told in
+          let es = notifiedBy (bodyOf (segmentAt m s)) in
+          let y = executeBy code s (x .shared) in
+          let after : y ≡ shared (execute (bodyOf (segmentAt m s)) (x .shared .variables)) (marked fs es) (reached (x .shared .ranges) es) =
+          code-execute m fit code is s l (x .shared .variables) fs (x .shared .ranges) in
+          let values : y .variables ≡ execute (bodyOf (segmentAt m s)) (x .shared .variables) = ap (λ (z : Shared). z .variables) after in
+          let told : y .told ≡ marked fs es = ap (λ (z : Shared). z .told) after in
+          let i : turn < length (x .state) = omega (arith, loop .words-size, modelFault-counts m fit .threads) in
+          let j : turn < length (loop .threads) = omega (arith, sound .size, modelFault-counts m fit .threads) in
+          let k : turn < length (x .segments) = omega (arith, loop .segments-size, modelFault-counts m fit .threads) in
+          let z = closedAt s (segmentAt m s .closer) (loop .cycle) (y .variables) in
+          let range : InRange (z .state) = rw (values, p) ran-range in
+          let close : closeWord (endBy code s) now ≡ wordOf (z .state) = ap (closeWord (endBy code s)) (loop .key) ∙ closes m fit code is s l (loop .cycle) small (y .variables) range in
           record {
-            threads = set (loop .threads) turn y;
+            threads = set (loop .threads) turn z;
             cycle = loop .cycle;
-            events = loop .events ++ notifiedBy (bodyOf (segmentAt m s));
+            events = loop .events ++ es;
             key = loop .key;
-            words = set-both (m .t) ws (loop .threads) turn _ y (λ (z : Thread). wordOf (z .state)) i j close (loop .words);
-            segments = set-both (m .t) ss (loop .threads) turn _ y (λ (z : Thread). z .segment) k j (code-follow m fit code is s l (loop .cycle) x) (loop .segments);
-            ranged = ranged-set (m .t) (loop .threads) turn y j h range (loop .ranged);
-            tells = rw told (tells-more fs (loop .events) (notifiedBy (bodyOf (segmentAt m s))) (rw (loop .marks-size) (effect-within m fit s l)) (loop .tells));
-            marks-size = ap length told ∙ (marked-length fs (notifiedBy (bodyOf (segmentAt m s))) ∙ loop .marks-size);
-            words-size = length-set ws turn _ ∙ loop .words-size;
-            segments-size = length-set ss turn _ ∙ loop .segments-size;
-            stands = rw (after, p) (ran-stands room);
+            words = set-both (m .t) (x .state) (loop .threads) turn _ z (λ (t : Thread). wordOf (t .state)) i j close (loop .words);
+            segments = set-both (m .t) (x .segments) (loop .threads) turn _ z (λ (t : Thread). t .segment) k j (code-follow m fit code is s l (loop .cycle) (y .variables)) (loop .segments);
+            tells = rw told (tells-more fs (loop .events) es (rw (loop .marks-size) (effect-within m fit s l)) (loop .tells));
+            marks-size = ap length told ∙ (marked-length fs es ∙ loop .marks-size);
+            words-size = length-set (x .state) turn _ ∙ loop .words-size;
+            segments-size = length-set (x .segments) turn _ ∙ loop .segments-size;
+            stands = rw (values, p) (ran-stands room);
           }
 
     -- "At the cycle's end"
-    module _ (h : m .t ≤ turn) (us : List ℕ) (w : (k : ℕ) → k < m .t → getD us k 0 ≡ wakeWord fs now (getD ws k 0)) where
+    module _ (h : m .t ≤ turn) (us : List ℕ) (w : (k : ℕ) → k < m .t → getD us k 0 ≡ wakeWord (x .shared .told) now (getD (x .state) k 0)) where
       woke : List Thread
       woke = woken (loop .events) (loop .cycle) (loop .threads)
 
@@ -385,38 +415,38 @@ module _ (m : Model) (fit : modelFault m ≡ 0) (budget : ℕ) where
       unfolding woke wokenThread
       woke-words k l =
           w k l ∙
-          rw (loop .words k l, loop .key, threadAt-woken (loop .events) (loop .cycle) (loop .threads) k)
-          (wakeWord-woken (loop .cycle) small fs (loop .events) (loop .tells) (threadAt (loop .threads) k .state) (loop .ranged .range k l))
+          rw (loop .words k l, loop .key, woken-at (loop .events) (loop .cycle) (loop .threads) k)
+          (wakeWord-woken (loop .cycle) small (x .shared .told) (loop .events) (loop .tells) (threadAt (loop .threads) k .state) (sound .ranged .range k l))
 
-      woke-segments : (k : ℕ) → k < m .t → getD ss k 0 ≡ threadAt woke k .segment
+      woke-segments : (k : ℕ) → k < m .t → getD (x .segments) k 0 ≡ threadAt woke k .segment
       unfolding woke wokenThread
-      woke-segments k l = rw (threadAt-woken (loop .events) (loop .cycle) (loop .threads) k) (loop .segments k l)
+      woke-segments k l = rw (woken-at (loop .events) (loop .cycle) (loop .threads) k) (loop .segments k l)
 
       woke-ranged : Ranged (m .t) woke
       unfolding woke
-      woke-ranged = ranged-woken (m .t) (loop .events) (loop .cycle) (loop .threads) soon (loop .stands .sound .delta) (loop .ranged)
+      woke-ranged = subst (Ranged (m .t)) (ap (λ (p : Place). p .threads) (stepped-close m here h ∙ closedOn-as m here) ∙ begun-threads m (floorOf m woke) _) (next .ranged)
 
-      closed-stands : (q : Place) → closedOn m here ≡ q → Sound m q → countAt (m .t) (keyOf (loop .cycle)) turn < countAt (m .t) (keyOf (q .now)) (q .turn) → Stands m budget q
-      unfolding here
-      closed-stands q e s later = stands-step m budget here q (loop .stands) (isOut-closed m budget here h) (stepped-close m here h ∙ e) s later
+      closed-stands : (q : Place) → closedOn m here ≡ q → countAt (m .t) (keyOf (loop .cycle)) turn < countAt (m .t) (keyOf (q .now)) (q .turn) → Stands m budget q
+      closed-stands q e later = stands-step m fit budget here q (loop .stands) (isOut-closed m budget here h) (stepped-close m here h ∙ e) later
 
       -- the next cycle, as a cycle
-      next-cycle : leastWord (m .t) us < 1024 * m .horizon .0 →
-          (c : Cycle) × (floorOf m woke ≡ At c) × (keyOf c ≡ leastWord (m .t) us) × Small c × (c .time .0 < m .horizon .0)
-      next-cycle l = floor-word m (modelFault-horizon m fit .1) us woke woke-words (woke-ranged .range) l
+      next-cycle : leastWord (m .t) us < limitOf m →
+          (c : Cycle) × (floorOf m woke ≡ At c) × (keyOf c ≡ leastWord (m .t) us) × Small c × T (isBeforeHorizon m c)
+      next-cycle l = floor-word m (omega (arith, limit-small m fit)) us woke woke-words (woke-ranged .range) l
 
       count-later : (c : Cycle) → floorOf m woke ≡ At c → countAt (m .t) (keyOf (loop .cycle)) turn < countAt (m .t) (keyOf c) 0
-      unfolding here woke
-      count-later c g = countAt-later (m .t) turn (floor-ahead m fit here (loop .stands .sound) h c g .0) (loop .stands .sound .delta) (loop .stands .sound .turn)
+      unfolding woke
+      count-later c g =
+          let (k, l, e) = floorOf-attained m woke c g in
+          countAt-later (m .t) turn (sound .later h k c e) (sound .delta) (sound .turn)
 
-      pub loop-later : leastWord (m .t) us < 1024 * m .horizon .0 → countAt (m .t) now turn < countAt (m .t) (leastWord (m .t) us) 0
+      pub loop-later : leastWord (m .t) us < limitOf m → countAt (m .t) now turn < countAt (m .t) (leastWord (m .t) us) 0
       loop-later l = let (c, g, e, s, t) = next-cycle l in rw (loop .key, ← e) (count-later c g)
 
-      pub loop-begun : length us ≡ 32 → leastWord (m .t) us < 1024 * m .horizon .0 → Loop m budget v us ss (replicate 32 false) (leastWord (m .t) us) 0 n
-      unfolding here woke
-      loop-begun size l =
-          let (c, g, e, s, t) = next-cycle l in
-          let b = <→horizon m c t in
+      pub loop-begun : (rs : List ℕ) → length us ≡ 32 → leastWord (m .t) us < limitOf m → Loop m budget (locals (x .shared .variables) us (x .segments) (replicate 32 false) rs (x .n)) (leastWord (m .t) us) 0
+      unfolding woke
+      loop-begun rs size l =
+          let (c, g, e, s, b) = next-cycle l in
           record {
             threads = woke;
             cycle = c;
@@ -424,28 +454,26 @@ module _ (m : Model) (fit : modelFault m ≡ 0) (budget : ℕ) where
             key = sym e;
             words = woke-words;
             segments = woke-segments;
-            ranged = woke-ranged;
             tells = tells-none;
             marks-size = refl;
             words-size = size;
             segments-size = loop .segments-size;
             stands =
-                closed-stands (placeOf v woke c 0 [] n)
+                closed-stands (placeOf (x .shared .variables) woke c 0 [] (x .n))
                 (closedOn-as m here ∙ begun-at m (floorOf m woke) c _ g b)
-                (sound-begun m fit here (loop .stands .sound) h c g b)
                 (count-later c g);
           }
 
       -- no thread is ready before the horizon
-      pub loop-rest : 1024 * m .horizon .0 ≤ leastWord (m .t) us → answer v (threadsTo us ss (m .t)) n false ≡ answerOf m budget
-      unfolding here woke
+      pub loop-rest : limitOf m ≤ leastWord (m .t) us → answer (x .shared .variables) (threadsTo us (x .segments) (m .t)) (x .n) false ≡ answerOf m budget
+      unfolding woke
       loop-rest l =
-          let u : T (not (isBoundBeforeHorizon m (floorOf m woke))) = floor-late m (modelFault-horizon m fit .1) us woke woke-words (woke-ranged .range) l in
-          let q = placeOf v woke (loop .cycle) turn [] n in
+          let u : T (not (isBoundBeforeHorizon m (floorOf m woke))) = floor-late m (omega (arith, limit-small m fit)) us woke woke-words (woke-ranged .range) l in
+          let q = placeOf (x .shared .variables) woke (loop .cycle) turn [] (x .n) in
           let r : someReady m woke ≡ false = someReady-rest m woke u in
           let e : stepped m here ≡ q = stepped-close m here h ∙ (closedOn-as m here ∙ begun-rest m (floorOf m woke) q u) in
-          let ts : threadsTo us ss (m .t) ≡ woke =
-          threadsTo-as us ss (m .t) woke (modelFault-counts m fit .threads) (woken-length m fit here (loop .stands .sound) h) woke-words woke-segments woke-ranged in
+          let ts : threadsTo us (x .segments) (m .t) ≡ woke =
+          threadsTo-as us (x .segments) (m .t) woke (modelFault-counts m fit .threads) (woken-length (loop .events) (loop .cycle) (loop .threads) ∙ sound .size) woke-words woke-segments woke-ranged in
           rw ts (reported-as m q false r ∙ ap (reported m) (rest-same q e (isDone-rest m q h refl r)))
         where
           rest-same : (q : Place) → stepped m here ≡ q → T (isDone m q) → q ≡ runFor m budget (lastStep m) (startOf m)

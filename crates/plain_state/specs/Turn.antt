@@ -4,21 +4,20 @@ use mathlib.Core.Bool.{Bool, cond, _&&_}
 use mathlib.Core.List.{List}
 use lib.Dec.{ltb, eqb}
 use lib.ListN.{getD, set}
-use Rattle.plain_words.specs.Unpack.{endBy, executeBy, markedBy, followBy}
-use Rattle.plain_words.specs.Reach.{widened, reachedBy}
-use Rattle.plain_core.specs.Words.{closeWord}
+use Rattle.plain_words.specs.Unpack.{endBy, followBy}
+use Rattle.plain_words.specs.Reach.{widened}
+use Rattle.plain_words.specs.Shared.{Shared, shared, executeBy}
+use Rattle.plain_state.specs.Words.{closeWord}
 
--- variables, thread states as words, segments, marks of the events notified in this cycle, ranges of threads, segments run
+-- what the threads share, their states as words, their segments, and how many segments have run
 pub record Locals : Type 0 where
-  pub variables : List ℕ
+  pub shared : Shared
   pub state : List ℕ
   pub segments : List ℕ
-  pub told : List Bool
-  pub ranges : List ℕ
   pub n : ℕ
 
 abbrev pub locals : List ℕ → List ℕ → List ℕ → List Bool → List ℕ → ℕ → Locals
-locals v ws ss fs rs n = record { variables = v; state = ws; segments = ss; told = fs; ranges = rs; n = n }
+locals v ws ss fs rs n = record { shared = shared v fs rs; state = ws; segments = ss; n = n }
 
 -- the range of the event for which thread k waits, where its segment ends so
 unfoldable pub waitedBy : ℕ → ℕ → List ℕ → List ℕ
@@ -28,8 +27,13 @@ waitedBy end k rs = cond (eqb (end % 4) 2) (widened (end / 1024 % 32) k (k + 1) 
 abbrev pub ranBy : List ℕ → ℕ → ℕ → Locals → Locals
 ranBy code now k x =
     let s = getD (x .segments) k 0 in
-    let v = executeBy code s (x .variables) in
-    locals v (set (x .state) k (closeWord (endBy code s) now)) (set (x .segments) k (followBy code s v)) (markedBy code s (x .told)) (waitedBy (endBy code s) k (reachedBy code s (x .ranges))) (x .n + 1)
+    let y = executeBy code s (x .shared) in
+    record {
+      shared = shared (y .variables) (y .told) (waitedBy (endBy code s) k (y .ranges));
+      state = set (x .state) k (closeWord (endBy code s) now);
+      segments = set (x .segments) k (followBy code s (y .variables));
+      n = x .n + 1;
+    }
 
 -- thread k is looked at: it runs if it is ready in this cycle and the budget has room
 unfoldable pub turnOn : List ℕ → ℕ → ℕ → ℕ → Locals → Locals

@@ -3,6 +3,7 @@
 --     least-word, least-all, least-near     the least of all words, from the parts; and from one part that has the next delta
 --     none-more, none-less     a search for threads ready at a delta after 0
 --     isLate-so, isLate-not     the test for a delta after 0
+--     waitsFor-word     where a word of a thread that waits stands
 --     wakeWord-ahead, wakeWord-waits, wakeWord-still     a word at the end of a cycle
 --     closeWord-waits     a segment that closes by a wait
 --     turnsTo-idle, turnsTo-past     threads that are not due are passed over
@@ -14,18 +15,19 @@ use mathlib.Core.Bool.{Bool, true, false, cond, not, _&&_}
 use mathlib.Core.List.{List}
 use native.Mathlib.Omega.{arith}
 use native.Mathlib.Decide.{ℕ-discrete, decLt}
-use lib.Dec.{ltb, leb, eqb}
+use lib.Dec.{ltb, eqb}
 use lib.ListN.{length, getD, set}
 use lib.Seq.{getD-set-same, getD-set-other}
 use borrow.Author.Tests.{lt-ltb, le-ltb, eq-eqb, ne-eqb}
+use Rattle.model.specs.Record.{Awaited, nothing, awaits, awaitedBy}
 use Rattle.plain_words.specs.Unpack.{endBy}
-use Rattle.plain_words.specs.Reach.{Inside, widened}
+use Rattle.plain_words.specs.Reach.{lesserOf, Inside, widened}
 use Rattle.plain_words.proofs.ReachLaws.{widened-length, widened-new, widened-keeps}
-use Rattle.plain_core.specs.Words.{waiting, ended, overrun, span, nextWord, closeWord, wakeWord, leastWord}
-use Rattle.plain_core.specs.Turn.{Locals, waitedBy, ranBy, turnOn, turnsTo}
-use Rattle.plain_core.specs.Due.{Between, Late, WaitsFor, IsLeast}
-use Rattle.plain_core.proofs.ExitLaws.{closeWord-over, closeWord-event, closeWord-delta, closeWord-units, wakeWord-ready, wakeWord-over, wakeWord-past, wakeWord-unmarked, turnOn-passed}
-use Rattle.plain_core.proofs.LeastLaws.{leastWord-≤, leastWord-most, leastWord-one}
+use Rattle.plain_state.specs.Words.{waiting, ended, overrun, span, cycleFrom, stateFrom, nextWord, closeWord, isTold, wakeWord, leastWord}
+use Rattle.plain_state.specs.Turn.{Locals, waitedBy, ranBy, turnOn, turnsTo}
+use Rattle.plain_state.specs.Due.{Between, Late, WaitsFor, IsLeast}
+use Rattle.plain_state.proofs.ExitLaws.{nextWord-ready, nextWord-overrun, closeWord-over, closeWord-event, closeWord-delta, closeWord-units, awaited-ready, awaited-over, awaited-waiting, wakeWord-ready, wakeWord-over, wakeWord-unmarked, turnOn-passed}
+use Rattle.plain_state.proofs.LeastLaws.{leastWord-≤, leastWord-most, leastWord-one}
 
 -- the greatest word
 abbrev most : ℕ
@@ -35,7 +37,7 @@ pub least-none : (ws : List ℕ) (from start : ℕ) → IsLeast ws from from sta
 least-none ws from start = record { below = omega arith; each = λ k h. absurd (omega arith); one = inl refl }
 
 module _ (ws : List ℕ) (from k start b : ℕ) (h : from ≤ k) (l : IsLeast ws from k start b) where
-  pub least-more : (r : ℕ) → r ≡ cond (ltb (getD ws k 0) b) (getD ws k 0) b → IsLeast ws from (k + 1) start r
+  pub least-more : (r : ℕ) → r ≡ lesserOf (getD ws k 0) b → IsLeast ws from (k + 1) start r
   least-more r e = go (decLt (getD ws k 0) b)
     where
       at : (x : ℕ) → x ≤ getD ws k 0 → x ≤ b → (j : ℕ) → Between from (k + 1) j → x ≤ getD ws j 0
@@ -70,9 +72,9 @@ least-set ws from k start b x l =
     go (inr (j, (u, u′), q)) = inr (j, (u, u′), q ∙ sym (getD-set-other ws k j x 0 (λ p. omega arith)))
 
 -- for the code: a word is stored, and the least with it
-pub least-stored : (ws : List ℕ) (from k start b x r : ℕ) → from ≤ k → k < length ws → IsLeast ws from k start b → r ≡ cond (ltb x b) x b → IsLeast (set ws k x) from (k + 1) start r
+pub least-stored : (ws : List ℕ) (from k start b x r : ℕ) → from ≤ k → k < length ws → IsLeast ws from k start b → r ≡ lesserOf x b → IsLeast (set ws k x) from (k + 1) start r
 least-stored ws from k start b x r h l i e =
-    least-more (set ws k x) from k start b h (least-set ws from k start b x i) r (e ∙ ap (λ (y : ℕ). cond (ltb y b) y b) (sym (getD-set-same ws k x 0 l)))
+    least-more (set ws k x) from k start b h (least-set ws from k start b x i) r (e ∙ ap (λ (y : ℕ). lesserOf y b) (sym (getD-set-same ws k x 0 l)))
 
 pub least-word : (ws : List ℕ) (t r : ℕ) → IsLeast ws 0 t most r → r ≡ leastWord t ws
 least-word ws t r l = go (l .one) (leastWord-one t ws)
@@ -156,24 +158,38 @@ outside from to k n = go (decLt k from) (decLt k to)
     go (no a) (no b) = inr (omega arith)
 
 nextWord-or : (now : ℕ) → (nextWord now ≡ now + 1) ⊎ (nextWord now ≡ overrun + now)
-unfolding nextWord
-nextWord-or now = go (ltb (now % 1024) 1023)
+nextWord-or now = go (decLt (now % 1024) 1023)
   where
-    go : (b : Bool) → (cond b (now + 1) (overrun + now) ≡ now + 1) ⊎ (cond b (now + 1) (overrun + now) ≡ overrun + now)
-    go true = inl refl
-    go false = inr refl
+    go : Dec (now % 1024 < 1023) → (nextWord now ≡ now + 1) ⊎ (nextWord now ≡ overrun + now)
+    go (yes h) = inl (sym (nextWord-ready now h))
+    go (no h) = inr (sym (nextWord-overrun now (omega arith)))
+
+awaits-event : Awaited → ℕ
+awaits-event nothing = 0
+awaits-event (awaits e c) = e
+
+-- where a word of a thread that waits stands
+pub waitsFor-word : (w e : ℕ) → WaitsFor w e → (waiting ≤ w) × ((w < ended) × ((w - waiting) / span % 32 ≡ e))
+unfolding awaits-event
+waitsFor-word w e (c, q) = go (decLt w waiting) (decLt w ended)
+  where
+    none : awaitedBy (stateFrom w) ≡ nothing → ⊥
+    none p = let f : nothing ≡ awaits e c = sym p ∙ q in let z : _≡_ {A = ℕ} 0 1 = cc in absurd (omega arith)
+
+    go : Dec (w < waiting) → Dec (w < ended) → (waiting ≤ w) × ((w < ended) × ((w - waiting) / span % 32 ≡ e))
+    go (yes a) b = absurd (none (awaited-ready w a))
+    go (no a) (no b) = absurd (none (awaited-over w (omega arith)))
+    go (no a) (yes b) = (omega arith, (b, ap awaits-event (sym (awaited-waiting w (omega arith) b) ∙ q)))
 
 -- a word at the end of a cycle
 module _ (fs : List Bool) (now : ℕ) (small : now < span) (w : ℕ) where
   wakeWord-or : (wakeWord fs now w ≡ w) ⊎ (wakeWord fs now w ≡ nextWord now)
   unfolding wakeWord
-  wakeWord-or = go (ltb w waiting) (leb ended w) (getD fs ((w - waiting) / span) false && leb ((w - waiting) % span) now)
+  wakeWord-or = go (isTold fs (cycleFrom now) (awaitedBy (stateFrom w)))
     where
-      go : (a b c : Bool) → (cond a w (cond b w (cond c (nextWord now) w)) ≡ w) ⊎ (cond a w (cond b w (cond c (nextWord now) w)) ≡ nextWord now)
-      go true b c = inl refl
-      go false true c = inl refl
-      go false false true = inr refl
-      go false false false = inl refl
+      go : (b : Bool) → (cond b (nextWord now) w ≡ w) ⊎ (cond b (nextWord now) w ≡ nextWord now)
+      go true = inr refl
+      go false = inl refl
 
   pub wakeWord-ahead : now < w → now < wakeWord fs now w
   wakeWord-ahead h = go wakeWord-or (nextWord-or now)
@@ -184,40 +200,41 @@ module _ (fs : List Bool) (now : ℕ) (small : now < span) (w : ℕ) where
       go (inr e) (inr f) = omega arith
 
   pub wakeWord-waits : (e : ℕ) → WaitsFor (wakeWord fs now w) e → WaitsFor w e
-  wakeWord-waits e h = go wakeWord-or (nextWord-or now)
+  wakeWord-waits e h = go wakeWord-or (nextWord-or now) (waitsFor-word (wakeWord fs now w) e h)
     where
-      go : (wakeWord fs now w ≡ w) ⊎ (wakeWord fs now w ≡ nextWord now) → (nextWord now ≡ now + 1) ⊎ (nextWord now ≡ overrun + now) → WaitsFor w e
-      go (inl q) f = subst (λ (x : ℕ). WaitsFor x e) q h
-      go (inr q) (inl f) = let a = h .0 in absurd (omega arith)
-      go (inr q) (inr f) = let a = h .1 .0 in absurd (omega arith)
+      go : (wakeWord fs now w ≡ w) ⊎ (wakeWord fs now w ≡ nextWord now) → (nextWord now ≡ now + 1) ⊎ (nextWord now ≡ overrun + now) →
+          (waiting ≤ wakeWord fs now w) × ((wakeWord fs now w < ended) × ((wakeWord fs now w - waiting) / span % 32 ≡ e)) → WaitsFor w e
+      go (inl q) f p = subst (λ (x : ℕ). WaitsFor x e) q h
+      go (inr q) (inl f) (a, b) = absurd (omega arith)
+      go (inr q) (inr f) (a, (b, d)) = absurd (omega arith)
 
   -- a thread that waits for no notified event stays as it is
-  pub wakeWord-still : length fs ≡ 32 → ((e : ℕ) → e < 32 → WaitsFor w e → getD fs e false ≡ true → ⊥) → w ≡ wakeWord fs now w
-  wakeWord-still size none = go (decLt w waiting) (decLt w ended) (decLt ((w - waiting) / span) 32)
+  pub wakeWord-still : ((e : ℕ) → e < 32 → WaitsFor w e → getD fs e false ≡ true → ⊥) → w ≡ wakeWord fs now w
+  wakeWord-still none = go (decLt w waiting) (decLt w ended)
     where
       mark : (b : Bool) → (b ≡ true → ⊥) → b ≡ false
       mark true n = absurd (n refl)
       mark false n = refl
 
-      go : Dec (w < waiting) → Dec (w < ended) → Dec ((w - waiting) / span < 32) → w ≡ wakeWord fs now w
-      go (yes a) b c = wakeWord-ready fs now w a
-      go (no a) (no b) c = wakeWord-over fs now w (omega arith) (omega arith)
-      go (no a) (yes b) (no c) = wakeWord-past fs now w (omega arith) b size (omega arith)
-      go (no a) (yes b) (yes c) = wakeWord-unmarked fs now w (omega arith) b (mark (getD fs ((w - waiting) / span) false) (none ((w - waiting) / span) c (omega arith, (b, refl))))
+      go : Dec (w < waiting) → Dec (w < ended) → w ≡ wakeWord fs now w
+      go (yes a) b = wakeWord-ready fs now w a
+      go (no a) (no b) = wakeWord-over fs now w (omega arith)
+      go (no a) (yes b) = wakeWord-unmarked fs now w (omega arith) b (mark (getD fs ((w - waiting) / span % 32) false) (none ((w - waiting) / span % 32) (omega arith) (cycleFrom (w % span), awaited-waiting w (omega arith) b)))
 
 -- a segment that closes by a wait
-pub closeWord-waits : (end now e : ℕ) → now < span → e < 32 → WaitsFor (closeWord end now) e → (end % 4 ≡ 2) × (end / 1024 % 32 ≡ e)
-closeWord-waits end now e small l (a, (b, c)) = go (ℕ-discrete (end % 4) 0) (ℕ-discrete (end % 4) 2) (ℕ-discrete (end / 1024 % 4294967296) 0)
+pub closeWord-waits : (end now e : ℕ) → now < span → WaitsFor (closeWord end now) e → (end % 4 ≡ 2) × (end / 1024 % 32 ≡ e)
+closeWord-waits end now e small w = go (ℕ-discrete (end % 4) 0) (ℕ-discrete (end % 4) 2) (ℕ-discrete (end / 1024 % 4294967296) 0) (waitsFor-word (closeWord end now) e w)
   where
-    delta : nextWord now ≡ closeWord end now → (nextWord now ≡ now + 1) ⊎ (nextWord now ≡ overrun + now) → ⊥
-    delta q (inl f) = omega arith
-    delta q (inr f) = omega arith
+    delta : nextWord now ≡ closeWord end now → (nextWord now ≡ now + 1) ⊎ (nextWord now ≡ overrun + now) → waiting ≤ closeWord end now → closeWord end now < ended → ⊥
+    delta q (inl f) a b = omega arith
+    delta q (inr f) a b = omega arith
 
-    go : Dec (end % 4 ≡ 0) → Dec (end % 4 ≡ 2) → Dec (end / 1024 % 4294967296 ≡ 0) → (end % 4 ≡ 2) × (end / 1024 % 32 ≡ e)
-    go (yes p) q r = let f = closeWord-over now end p in absurd (omega arith)
-    go (no p) (yes q) r = let f : waiting + span * (end / 1024 % 256) + now ≡ closeWord end now = closeWord-event now end p q in (q, omega arith)
-    go (no p) (no q) (yes r) = absurd (delta (closeWord-delta now end p q r) (nextWord-or now))
-    go (no p) (no q) (no r) = let f : 1024 * (now / 1024 + end / 1024 % 4294967296) ≡ closeWord end now = closeWord-units now end p q r in absurd (omega arith)
+    go : Dec (end % 4 ≡ 0) → Dec (end % 4 ≡ 2) → Dec (end / 1024 % 4294967296 ≡ 0) →
+        (waiting ≤ closeWord end now) × ((closeWord end now < ended) × ((closeWord end now - waiting) / span % 32 ≡ e)) → (end % 4 ≡ 2) × (end / 1024 % 32 ≡ e)
+    go (yes p) q r (a, (b, d)) = let f = closeWord-over now end p in absurd (omega arith)
+    go (no p) (yes q) r (a, (b, d)) = let f : waiting + span * (end / 1024 % 32) + now ≡ closeWord end now = closeWord-event now end p q in (q, omega arith)
+    go (no p) (no q) (yes r) (a, (b, d)) = absurd (delta (closeWord-delta now end p q r) (nextWord-or now) a b)
+    go (no p) (no q) (no r) (a, (b, d)) = let f : 1024 * (now / 1024 + end / 1024 % 4294967296) ≡ closeWord end now = closeWord-units now end p q r in absurd (omega arith)
 
 -- threads that are not due are passed over
 module _ (code : List ℕ) (now budget : ℕ) where

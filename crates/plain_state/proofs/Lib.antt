@@ -1,0 +1,13 @@
+pub mod FillLaws
+pub mod ExitLaws
+pub mod LimitLaws
+pub mod FloorLaws
+pub mod WordLaws
+pub mod SoundLaws
+pub mod LeastLaws
+pub mod LoopLaws
+pub mod DueLaws
+pub mod EndLaws
+pub mod TurnLaws
+pub mod Computed
+pub mod Edges
