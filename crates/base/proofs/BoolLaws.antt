@@ -34,9 +34,20 @@ pub not-not : (b : Bool) → T (not (not b)) → T b
 not-not true t = tt
 not-not false t = absurd t
 
+-- two tests that imply each other are one
+pub T-same : (a b : Bool) → (T a → T b) → (T b → T a) → a ≡ b
+T-same true true f g = refl
+T-same true false f g = absurd (f tt)
+T-same false true f g = absurd (g tt)
+T-same false false f g = refl
+
 pub and→both : (a b : Bool) → T (a && b) → T a × T b
 and→both true b t = (tt, t)
 and→both false b t = absurd t
+
+pub and→true : (a b : Bool) → a && b ≡ true → (a ≡ true) × (b ≡ true)
+and→true true b e = (refl, e)
+and→true false b e = absurd (true→T false e)
 
 pub both→and : (a b : Bool) → T a → T b → T (a && b)
 both→and true b s t = t

@@ -1,11 +1,12 @@
 -- Searches over an index at, below and above their ends: closed examples.
 -- Assumes nothing.
-use Prim.Native.Nat.{ℕ, _-_}
+use Prim.Native.Nat.{ℕ, _+_, _-_}
 use mathlib.Core.Path.{_≡_, refl}
 use mathlib.Core.Bool.{true, false}
-use mathlib.Core.List.{[], _∷_}
+use mathlib.Core.List.{List, [], _∷_}
 use lib.Dec.{eqb}
-use Rattle.base.specs.Index.{anyBelow, orElse, firstBelow, tabulate}
+use lib.ListN.{getD}
+use Rattle.base.specs.Index.{anyBelow, orElse, firstBelow, tabulate, storeTo}
 use Rattle.base.proofs.Computed.{computed}
 
 -- found at the last index below n, not at n itself, nor where there is none
@@ -34,3 +35,11 @@ pub tabulate-edges :
     (tabulate {A = ℕ} 0 5 (λ i. i) ≡ [])
 unfolding computed
 tabulate-edges = (refl, refl)
+
+-- from p on, n of them, each after those before it
+pub storeTo-edges :
+    (storeTo (λ j xs. 7 + j) 1 (0 ∷ 0 ∷ 0 ∷ 0 ∷ []) 2 ≡ 0 ∷ 7 ∷ 8 ∷ 0 ∷ []) ×
+    (storeTo (λ j xs. getD xs j 0 + 1) 1 (5 ∷ 0 ∷ 0 ∷ []) 2 ≡ 5 ∷ 6 ∷ 7 ∷ []) ×
+    (storeTo (λ j (xs : List ℕ). 7) 1 (1 ∷ 2 ∷ []) 0 ≡ 1 ∷ 2 ∷ [])
+unfolding computed
+storeTo-edges = (refl, refl, refl)

@@ -2,6 +2,7 @@
 use Prim.Native.Nat.{ℕ, zero, suc, _+_}
 use mathlib.Core.Bool.{Bool, true, false, _||_}
 use mathlib.Core.List.{List, [], _∷_}
+use lib.ListN.{set}
 
 -- whether f holds at some index below n
 unfoldable pub anyBelow : ℕ → (ℕ → Bool) → Bool
@@ -22,3 +23,8 @@ firstBelow (suc n) f = orElse (firstBelow n f) (f n)
 unfoldable pub tabulate : {A : Type 0} → ℕ → ℕ → (ℕ → A) → List A
 tabulate zero i f = []
 tabulate (suc n) i f = f i ∷ tabulate n (i + 1) f
+
+-- xs with new elements at p, p + 1, .., n of them: the one at p + j is made of j and of the list as it is by then
+unfoldable pub storeTo : {A : Type 0} → (ℕ → List A → A) → ℕ → List A → ℕ → List A
+storeTo f p xs zero = xs
+storeTo f p xs (suc j) = let ys = storeTo f p xs j in set ys (p + j) (f j ys)
