@@ -1,7 +1,7 @@
 -- Sums of bounds as the clock says: one sum after another, order, no advance and one delta, and the words that hold them.
-use Prim.Native.Nat.{ℕ, zero, suc, _+_, _<_, _≤_, _%_, _^_}
-use mathlib.Core.Path.{_≡_, refl, ap}
-use native.Mathlib.Nat.{add-zero, zero-add, add-suc, mod-eq-of-lt}
+use Prim.Native.Nat.{ℕ, zero, suc, _+_, _<_, _≤_, _^_}
+use mathlib.Core.Path.{_≡_, refl, sym, ap}
+use native.Mathlib.Nat.{add-zero, add-suc}
 use native.Mathlib.Omega.{arith}
 use native.Mathlib.Decide.{decLt}
 use Rattle.clock.specs.declared.Cycle.{Cycle}
@@ -11,8 +11,8 @@ use Rattle.clock.specs.declared.Bound.{Bound}
 use Rattle.clock.specs.declared.Bound.the-variants.{Never, At}
 use Rattle.clock.specs.Cycle.{cycleAt}
 use Rattle.clock.specs.Order.{_⊑_, _≼_, sooner, same-time}
-use Rattle.clock.specs.Advance.{least, deltaAfter, plusOf, _⊕_, noAdvance, oneDelta, advanceOfUnits, advanceOf, heldBound}
-use Rattle.clock.proofs.OrderLaws.{cycle-path, ⊑-trans, ≼-refl, ≼-antisym}
+use Rattle.clock.specs.Advance.{least, deltaAfter, plusOf, _⊕_, noAdvance, oneDelta, advanceOfUnits, advanceOf}
+use Rattle.clock.proofs.OrderLaws.{cycle-path, ⊑-trans, At-same, At-not-Never, ≼-refl, ≼-antisym}
 use Rattle.clock.proofs.LeastLaws.{least-left, least-right, least-glb, least-case}
 
 -- the delta that is left
@@ -37,6 +37,11 @@ pub deltaAfter-plus : (u d e : ℕ) → deltaAfter u (d + e) ≡ deltaAfter u d 
 unfolding deltaAfter
 deltaAfter-plus zero d e = refl
 deltaAfter-plus (suc u) d e = refl
+
+pub deltaAfter-≤ : (t d : ℕ) → deltaAfter t d ≤ d
+unfolding deltaAfter
+deltaAfter-≤ zero d = omega arith
+deltaAfter-≤ (suc t) d = omega arith
 
 pub deltaAfter-mono : (t : ℕ) {d e : ℕ} → d ≤ e → deltaAfter t d ≤ deltaAfter t e
 unfolding deltaAfter
@@ -202,23 +207,14 @@ advanceOf-more k other = go (k .0) other
     go zero h = absurd (h refl)
     go (suc n) h = refl
 
+-- the parts of a sum that is not never
+pub ⊕-parts : (a b : Bound) {c : Cycle} → a ⊕ b ≡ At c → (x : Cycle) × (y : Cycle) × (a ≡ At x) × (b ≡ At y) × (plusOf x y ≡ c)
+unfolding _⊕_
+⊕-parts Never b e = absurd (At-not-Never (sym e))
+⊕-parts (At x) Never e = absurd (At-not-Never (sym e))
+⊕-parts (At x) (At y) e = (x, y, refl, refl, At-same e)
+
 -- what a bound's words hold: a time below 2 ^ 64, a delta below 2 ^ 32
 abbrev pub SmallBound : Bound → Type 0
 SmallBound Never = Unit {0}
 SmallBound (At c) = (c .time .0 < 2 ^ 64) × (c .delta .0 < 2 ^ 32)
-
-pub heldBound-small : (b : Bound) → SmallBound b → heldBound b ≡ b
-unfolding heldBound
-heldBound-small Never h = refl
-heldBound-small (At c) h = ap At (cycle-path (mod-eq-of-lt (h .0)) (mod-eq-of-lt (h .1)))
-
-module _ {a d : Bound} {x y : Cycle} (p : a ≡ At x) (q : d ≡ At y) where
-  -- a distance within one time keeps the delta
-  pub plus-none : y .time .0 ≡ 0 → x .time .0 < 2 ^ 64 → At (cycleAt (x .time .0) ((x .delta .0 + y .delta .0) % 2 ^ 32)) ≡ heldBound (a ⊕ d)
-  unfolding _⊕_ plusOf heldBound
-  plus-none e h = rw (p, q, deltaAfter-none (y .time .0) (x .delta .0) e, e, add-zero, mod-eq-of-lt h) refl
-
-  -- one over time does not
-  pub plus-more : (y .time .0 ≡ 0 → ⊥) → y .delta .0 < 2 ^ 32 → At (cycleAt ((x .time .0 + y .time .0) % 2 ^ 64) (y .delta .0)) ≡ heldBound (a ⊕ d)
-  unfolding _⊕_ plusOf heldBound
-  plus-more e h = rw (p, q, deltaAfter-more (y .time .0) (x .delta .0) e, zero-add, mod-eq-of-lt h) refl

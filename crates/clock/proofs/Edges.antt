@@ -12,7 +12,7 @@ use Rattle.clock.specs.declared.Bound.the-variants.{Never, At}
 use Rattle.clock.specs.Cycle.{cycleAt, stampAt, isBefore, isSame, isStampBefore}
 use Rattle.clock.specs.Order.{Before, _⊑_, _≼_, sooner, same-time}
 use Rattle.clock.specs.Wait.{nextDelta, afterUnits, waitEnds, heldStep}
-use Rattle.clock.specs.Advance.{isBoundBefore, least, leastBelow, deltaAfter, plusOf, _⊕_, noAdvance, oneDelta, advanceOfUnits, advanceOf, heldBound}
+use Rattle.clock.specs.Advance.{isBoundBefore, least, leastBelow, deltaAfter, plusOf, _⊕_, noAdvance, oneDelta, advanceOfUnits, advanceOf}
 
 abbrev boundAt : ℕ → ℕ → Bound
 boundAt t d = At (cycleAt t d)
@@ -229,13 +229,3 @@ pub advanceOf-two :
     (noAdvance ⊕ advanceOf (unitsOf 7) ⊕ advanceOf (unitsOf 0) ≡ boundAt 7 1)
 unfolding _⊕_ plusOf deltaAfter advanceOf advanceOfUnits
 advanceOf-two = (refl, refl)
-
--- a bound's words: the last time and delta that they hold, and the next
-pub heldBound-edges :
-    (heldBound Never ≡ Never) ×
-    (heldBound (boundAt 18446744073709551615 4294967295) ≡ boundAt 18446744073709551615 4294967295) ×
-    (heldBound (boundAt 18446744073709551616 7) ≡ boundAt 0 7) ×
-    (heldBound (boundAt 7 4294967296) ≡ boundAt 7 0) ×
-    (heldBound (boundAt 18446744073709551617 4294967297) ≡ boundAt 1 1)
-unfolding heldBound
-heldBound-edges = (refl, refl, refl, refl, refl)

@@ -13,7 +13,7 @@ use Rattle.clock.specs.declared.Bound.the-variants.{Never, At}
 use Rattle.clock.specs.Cycle.{isBefore}
 use Rattle.clock.specs.Order.{_≼_}
 use Rattle.clock.specs.Advance.{isBoundBefore, least, leastBelow}
-use Rattle.clock.proofs.OrderLaws.{Before→⊑, Before→not-⊑, ≼-refl, ≼-trans, ≼-antisym}
+use Rattle.clock.proofs.OrderLaws.{Before→⊑, Before→not-⊑, At-not-Never, ≼-refl, ≼-trans, ≼-antisym}
 use Rattle.clock.proofs.CycleLaws.{isBefore→Before, not-isBefore→⊑, ⊑→not-isBefore}
 
 -- two cycles compare as bounds as they compare
@@ -80,6 +80,15 @@ least-Never-left b = ≼-antisym (least Never b) b (least-right Never b) (least-
 
 pub least-Never-right : (a : Bound) → least a Never ≡ a
 least-Never-right a = ≼-antisym (least a Never) a (least-left a Never) (least-glb a a Never (≼-refl a) tt)
+
+-- what is below all that P holds of, and is never or one of these, is one only
+module _ (P : Bound → Type 0) where
+  attained-≼ : (a b : Bound) → ((x : Bound) → P x → a ≼ x) → ((b ≡ Never → ⊥) → P b) → a ≼ b
+  attained-≼ a Never below attained = tt
+  attained-≼ a (At c) below attained = below (At c) (attained (λ e. At-not-Never e))
+
+  pub attained-same : (a b : Bound) → ((x : Bound) → P x → a ≼ x) → ((a ≡ Never → ⊥) → P a) → ((x : Bound) → P x → b ≼ x) → ((b ≡ Never → ⊥) → P b) → a ≡ b
+  attained-same a b f p g q = ≼-antisym a b (attained-≼ a b f q) (attained-≼ b a g p)
 
 pub leastBelow-none : (f : ℕ → Bound) → leastBelow 0 f ≡ Never
 unfolding leastBelow

@@ -1,5 +1,5 @@
 -- The orders of cycles and of bounds: strict, not after, and how the two mix.
-use Prim.Native.Nat.{_<_}
+use Prim.Native.Nat.{ℕ, _<_}
 use mathlib.Core.Path.{_≡_, refl, ap, subst}
 use mathlib.Core.Logic.{_⊎_, inl, inr}
 use native.Mathlib.Omega.{arith}
@@ -96,6 +96,12 @@ pub ⊑-strict : {a b : Cycle} → a ⊑ b → (a ≡ b → ⊥) → Before a b
     go (before p) = p
     go (same e) = absurd (other e)
     go (after p) = absurd (Before→not-⊑ p h)
+
+pub At-same : {a b : Cycle} → At a ≡ At b → a ≡ b
+At-same e = cc
+
+pub At-not-Never : {c : Cycle} → At c ≡ Never → ⊥
+At-not-Never e = let z : _≡_ {A = ℕ} 0 1 = cc in omega arith
 
 pub ≼-refl : (a : Bound) → a ≼ a
 ≼-refl Never = tt

@@ -1,6 +1,6 @@
 -- Document 01, "Early issue": bounds, and a distance added as the clock says, its delta not cut:
 -- "(0, 1,025) is a bound less than (1, 0)".
-use Prim.Native.Nat.{ℕ, zero, suc, _+_, _%_, _^_}
+use Prim.Native.Nat.{ℕ, zero, suc, _+_}
 use mathlib.Core.Bool.{Bool, true, false, cond}
 use Rattle.clock.specs.declared.Cycle.{Cycle}
 use Rattle.clock.specs.declared.Wait.{Wait}
@@ -53,8 +53,3 @@ advanceOfUnits (suc k) = At (cycleAt (suc k) 0)
 unfoldable pub advanceOf : Wait → Bound
 advanceOf Event = oneDelta
 advanceOf (Time k) = advanceOfUnits (k .0)
-
--- a bound as its words hold it: the time modulo 2 ^ 64, the delta modulo 2 ^ 32
-unfoldable pub heldBound : Bound → Bound
-heldBound Never = Never
-heldBound (At c) = At (cycleAt (c .time .0 % 2 ^ 64) (c .delta .0 % 2 ^ 32))

@@ -1,8 +1,8 @@
 // Document 01, "Clock", and the bounds of "Early issue".
 ghost use mathlib.Core.Path.{_≡_};
-ghost use Rattle.clock.specs.Cycle.{isBefore, isSame, isStampBefore};
+ghost use Rattle.clock.specs.Cycle.{isBefore, isSame};
 ghost use Rattle.clock.specs.Wait.{waitEnds, heldStep};
-ghost use Rattle.clock.specs.Advance.{isBoundBefore, least, advanceOf, heldBound, _⊕_};
+ghost use Rattle.clock.specs.Advance.{isBoundBefore, least};
 
 // Document 01: "Times, deltas and thread numbers are counted separately".
 pub struct Time(pub u64);
@@ -58,18 +58,6 @@ pub fn is_same(a: Cycle, b: Cycle) -> bool
     ensures { λ r. ⌜ r ≡ isSame a b ⌝ }
 {
     (a.time.0 == b.time.0) & (a.delta.0 == b.delta.0)
-}
-
-// Whether stamp a is before b: the cycle first, then the thread number.
-pub fn is_stamp_before(a: Stamp, b: Stamp) -> bool
-    ensures { λ r. ⌜ r ≡ isStampBefore a b ⌝ }
-{
-    let x = a.cycle;
-    let y = b.cycle;
-    if is_same(x, y) {
-        return a.thread.0 < b.thread.0;
-    }
-    is_before(x, y)
 }
 
 // Where a wait that is over at c leads: begun at c for a time, notified at c for an event.
@@ -128,51 +116,4 @@ pub fn least_of(a: Bound, b: Bound) -> Bound
         return b;
     }
     a
-}
-
-// A bound and a distance added as the clock says, the delta not cut.
-pub fn plus(a: Bound, d: Bound) -> Bound
-    ensures { λ r. ⌜ r ≡ heldBound (a ⊕ d) ⌝ }
-{
-    let Bound::At(x) = a else {
-        return Bound::Never;
-    };
-    let Bound::At(y) = d else {
-        return Bound::Never;
-    };
-    if y.time.0 == 0 {
-        return Bound::At(Cycle {
-            time: Time(x.time.0),
-            delta: Delta(std::num::wrapping_add_u32(x.delta.0, y.delta.0)),
-        });
-    }
-    Bound::At(Cycle {
-        time: Time(std::num::wrapping_add_u64(x.time.0, y.time.0)),
-        delta: Delta(y.delta.0),
-    })
-}
-
-// How far a wait advances: the distance over it. An event wait counts as one of no units.
-pub fn advance_of(w: Wait) -> Bound
-    ensures { λ r. ⌜ r ≡ advanceOf w ⌝ }
-{
-    match w {
-        Wait::Event => advance_of_units(Delay(0)),
-        Wait::Time(k) => advance_of_units(k),
-    }
-}
-
-fn advance_of_units(units: Delay) -> Bound
-    ensures { λ r. ⌜ r ≡ advanceOf (Wait.Time units) ⌝ }
-{
-    if units.0 == 0 {
-        return Bound::At(Cycle {
-            time: Time(0),
-            delta: Delta(1),
-        });
-    }
-    Bound::At(Cycle {
-        time: Time(units.0 as u64),
-        delta: Delta(0),
-    })
 }

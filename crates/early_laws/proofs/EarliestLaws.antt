@@ -17,7 +17,9 @@ use Rattle.clock.specs.declared.Bound.the-variants.{Never, At}
 use Rattle.clock.specs.Advance.{least, leastBelow, _⊕_, oneDelta}
 use Rattle.clock.specs.Order.{Before, _⊑_, _≼_}
 use Rattle.clock.proofs.OrderLaws.{Before-trans, Before→⊑, ≡→⊑, ⊑-Before-trans, ≼-refl, ≼-trans, ≼-antisym}
+use Rattle.clock.proofs.LeastLaws.{attained-same}
 use Rattle.clock.proofs.AdvanceLaws.{⊕-mono, Never-⊕}
+use Rattle.clock.proofs.RelaxLaws.{relaxed-source, relaxed-link, relaxed-attained}
 use Rattle.model.specs.declared.Model.{Model}
 use Rattle.model.specs.declared.State.{State}
 use Rattle.model.specs.declared.Thread.{Thread}
@@ -30,7 +32,6 @@ use Rattle.early.specs.declared.Notification.{Notification}
 use Rattle.early.specs.Log.{pairOf, leastHeard}
 use Rattle.early.specs.Earliest.{sourceOf, soonestNotify, linkTo, Chain, source, link, IsEarliest, sources, relaxed, withLinks, earliestOf}
 use Rattle.early_laws.proofs.LogLaws.{In, leastHeard-≼, leastHeard-at}
-use Rattle.early_laws.proofs.RelaxLaws.{relaxed-source, relaxed-link, relaxed-attained}
 use Rattle.early_laws.proofs.LinkLaws.{oneDelta-from, sourceOf-ready, sourceOf-waiting, sourceOf-idle, soonestNotify-≼, linkTo-waiting, linkTo-other, linkTo-inflate, linkTo-mono, linkTo-from, linkTo-later}
 
 abbrev pub earliestAt : Model → List ℕ → List Notification → List Thread → ℕ → Bound
@@ -99,11 +100,7 @@ module _ (m : Model) (ws : List ℕ) (l : List Notification) (ts : List Thread) 
 
   -- only one bound is the least over chains
   pub isEarliest-same : (k : ℕ) (a b : Bound) → IsEarliest m ws l ts k a → IsEarliest m ws l ts k b → a ≡ b
-  isEarliest-same k a b p q = ≼-antisym a b (one a b p q) (one b a q p)
-    where
-      one : (a b : Bound) → IsEarliest m ws l ts k a → IsEarliest m ws l ts k b → a ≼ b
-      one a Never p q = tt
-      one a (At c) p q = p .below (q .attained (λ e. let z : _≡_ {A = ℕ} 0 1 = cc in omega arith))
+  isEarliest-same k a b p q = attained-same (Chain m ws l ts k) a b (λ x w. p .below w) (p .attained) (λ x w. q .below w) (q .attained)
 
   -- two ways to use it: it is not after any chain, and it is the greatest such bound
 

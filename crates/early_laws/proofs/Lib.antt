@@ -1,7 +1,6 @@
 pub mod LogLaws
 pub mod OnceLaws
 pub mod RoomLaws
-pub mod RelaxLaws
 pub mod LinkLaws
 pub mod EarliestLaws
 pub mod ForecastLaws

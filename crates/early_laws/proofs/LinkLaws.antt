@@ -16,6 +16,7 @@ use Rattle.clock.specs.Order.{Before, _⊑_, _≼_}
 use Rattle.clock.proofs.OrderLaws.{⊑-total, ⊑-Before-trans, Before→not-⊑, ≼-refl, ≼-trans}
 use Rattle.clock.proofs.LeastLaws.{least-Never-left, least-Never-right, leastBelow-≼, leastBelow-one, leastBelow-glb}
 use Rattle.clock.proofs.AdvanceLaws.{⊕-mono, ⊕-inflate, Never-⊕, oneDelta-later}
+use Rattle.clock.proofs.RelaxLaws.{Sooner}
 use Rattle.model.specs.declared.Model.{Model}
 use Rattle.model.specs.declared.State.{State}
 use Rattle.model.specs.declared.Thread.{Thread}
@@ -27,7 +28,6 @@ use Rattle.plain_laws.proofs.RecordLaws.{not-live→idle}
 use Rattle.early.specs.declared.Notification.{Notification}
 use Rattle.early.specs.Log.{leastHeard}
 use Rattle.early.specs.Earliest.{afterHeard, sourceOf, soonestNotify, afterNotify, linkTo}
-use Rattle.early_laws.proofs.RelaxLaws.{Sooner}
 
 -- one delta after
 
