@@ -3,6 +3,18 @@ use clock::Cycle;
 use clock::Delay;
 use clock::Time;
 
+// `largestTime`: the last horizon, and the longest delay.
+pub const LARGEST_TIME: u64 = 1000000000;
+
+// `cutTime`: a distance or a log time is below it.
+pub const CUT_TIME: u64 = 1000000000;
+
+// `recordTime`: the time of a thread record is below it.
+pub const RECORD_TIME: u64 = 2000000000;
+
+// `cutTime` as a word of distance: 1,024 for each unit.
+pub const CUT_WORD: u64 = 1024 * CUT_TIME;
+
 // A statement's operation: one byte a, four bytes b.
 pub enum Op {
     Set(u8, u32),

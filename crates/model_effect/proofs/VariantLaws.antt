@@ -1,5 +1,4 @@
 -- What an arm over several variants answers, and the `else` of each `let .. else`.
---     isLive-no, isLive-yes     ended or overrun; ready or waiting
 --     readyCycle-other     a state that is not ready
 --     withOp-other     an operation that notifies nothing
 use mathlib.Core.Path.{_≡_, refl}
@@ -13,22 +12,10 @@ use Rattle.model.specs.declared.Op.the-variants.{Set, Add, Copy, AddVariable, S
 use Rattle.model.specs.declared.Events.{Events}
 use Rattle.model.specs.declared.State.{State}
 use Rattle.model.specs.declared.State.the-variants.{Ended, Overrun, Ready, Waiting}
-use Rattle.model.specs.Record.{isLive, readyCycle}
+use Rattle.model.specs.Record.{readyCycle}
 use Rattle.model.specs.Effect.{withOp}
 use Rattle.model.proofs.Op as op
 use Rattle.model.proofs.State as state
-
-pub isLive-no : (s : State) → OneOf (0 ∷ 1 ∷ []) (tagOf state.the-type s) → false ≡ isLive s
-isLive-no (Ended c) h = refl
-isLive-no (Overrun c) h = refl
-isLive-no (Ready c) h = absurd (miss (0 ∷ 1 ∷ []) 2 tt h)
-isLive-no (Waiting e c) h = absurd (miss (0 ∷ 1 ∷ []) 3 tt h)
-
-pub isLive-yes : (s : State) → OneOf (2 ∷ 3 ∷ []) (tagOf state.the-type s) → true ≡ isLive s
-isLive-yes (Ended c) h = absurd (miss (2 ∷ 3 ∷ []) 0 tt h)
-isLive-yes (Overrun c) h = absurd (miss (2 ∷ 3 ∷ []) 1 tt h)
-isLive-yes (Ready c) h = refl
-isLive-yes (Waiting e c) h = refl
 
 pub readyCycle-other : (s : State) → OneOf (0 ∷ 1 ∷ 3 ∷ []) (tagOf state.the-type s) → Never ≡ readyCycle s
 readyCycle-other (Ended c) h = refl

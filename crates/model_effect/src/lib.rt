@@ -22,7 +22,7 @@ ghost use lib.ListN.{length, getD, set, replicate};
 ghost use Rattle.clock.specs.Wait.{waitEnds, heldStep};
 ghost use Rattle.model.specs.Values.{noStatement, bodyOf};
 ghost use Rattle.model.specs.Statement.{executeOp, execute, notifiedBy};
-ghost use Rattle.model.specs.Record.{noThread, isLive, readyCycle, stateAfter};
+ghost use Rattle.model.specs.Record.{noThread, readyCycle, stateAfter};
 ghost use Rattle.model.specs.Effect.{nextOf, closedAt, effectIn, withOp, heldThread, heldEvents, heldEffect};
 
 // The value of variable a; 0 past the places.
@@ -195,16 +195,6 @@ pub fn effect_in(g: Segment, s: u8, c: Cycle, v: Variables) -> Ran
         variables,
         notified,
         thread,
-    }
-}
-
-// Document 01: "Ready and waiting threads are live".
-pub fn is_live(s: State) -> bool
-    ensures { λ r. ⌜ r ≡ isLive s ⌝ }
-{
-    match s {
-        State::Ended(_) | State::Overrun(_) => false,
-        State::Ready(_) | State::Waiting(_, _) => true,
     }
 }
 
