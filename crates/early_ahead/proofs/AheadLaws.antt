@@ -15,9 +15,8 @@ use lib.ListN.{length, getD, set, length-set, List·getD-eq-default}
 use lib.Seq.{getD-set-same, getD-set-other, ext-getD}
 use borrow.Author.Tests.{lt-ltb, le-ltb, eq-eqb, ne-eqb}
 use Rattle.base.specs.Index.{anyBelow, tabulate}
-use Rattle.base.proofs.IndexLaws.{tabulate-at, tabulate-length}
+use Rattle.base.proofs.IndexLaws.{anyBelow-empty, anyBelow-here, tabulate-at, tabulate-length}
 use Rattle.base.proofs.ListLaws.{getD-any}
-use Rattle.model_rules.proofs.SearchLaws.{anyBelow-empty, anyBelow-here}
 use Rattle.clock.specs.declared.Stamp.{Stamp}
 use Rattle.tables.specs.Word.{allOnes}
 use Rattle.early_limits.specs.Limit.{limitOfCycle, limitOfWord, lesser, lesserBelow, sumOf, isSoonerLimit, atMost}

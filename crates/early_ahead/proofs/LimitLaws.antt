@@ -12,6 +12,7 @@ use lib.Dec.{ltb, ltb→lt, nltb→le}
 use borrow.Author.Tests.{lt-ltb, le-ltb, eq-eqb, ne-eqb, ltb-false}
 use Rattle.base.proofs.BoolLaws.{cond-case}
 use Rattle.clock.specs.declared.Cycle.{Cycle}
+use Rattle.model.specs.Limits.{cutTime}
 use Rattle.tables.specs.Word.{allOnes}
 use Rattle.early_limits.specs.Limit.{limitOfCycle, limitOfWord, lesser, lesserBelow, sumOf, isSoonerLimit, atMost, top, unit}
 
@@ -46,13 +47,13 @@ module _ (c : Cycle) where
   limitOfCycle-at d h e = rw (lt-ltb (c .time .0) 70368744177664 h) (ap (λ (z : ℕ). c .time .0 * 65536 + z) e)
 
 module _ (w : ℕ) where
-  pub limitOfWord-never : 1000000000 ≤ w / 1024 → allOnes ≡ limitOfWord w
+  pub limitOfWord-never : cutTime ≤ w / 1024 → allOnes ≡ limitOfWord w
   unfolding limitOfWord
-  limitOfWord-never h = rw (le-ltb (w / 1024) 1000000000 h) refl
+  limitOfWord-never h = rw (le-ltb (w / 1024) cutTime h) refl
 
-  pub limitOfWord-at : w / 1024 < 1000000000 → w / 1024 * 65536 + w % 1024 ≡ limitOfWord w
+  pub limitOfWord-at : w / 1024 < cutTime → w / 1024 * 65536 + w % 1024 ≡ limitOfWord w
   unfolding limitOfWord
-  limitOfWord-at h = rw (lt-ltb (w / 1024) 1000000000 h) refl
+  limitOfWord-at h = rw (lt-ltb (w / 1024) cutTime h) refl
 
 module _ (a b : ℕ) where
   pub lesser-second : b < a → b ≡ lesser a b

@@ -3,6 +3,7 @@ use clock::Cycle;
 use clock::Stamp;
 use early_limits::Crew;
 use early_limits::Limits;
+use model::CUT_TIME;
 use model::Model;
 use model::Op;
 use model::Segment;
@@ -65,7 +66,7 @@ fn limit_of_word(w: u64) -> u64
     ensures { λ r. ⌜ r ≡ limitOfWord w ⌝ }
 {
     let t = w / 1024;
-    if t >= 1000000000 {
+    if t >= CUT_TIME {
         return NEVER;
     }
     t * UNIT + w % 1024

@@ -10,6 +10,7 @@ use lib.Dec.{T, ltb, leb}
 use lib.ListN.{length, getD}
 use borrow.Author.Tests.{lt-ltb, le-ltb, eq-eqb, ne-eqb}
 use Rattle.base.specs.Index.{anyBelow}
+use Rattle.base.proofs.IndexLaws.{anyBelow-here}
 use Rattle.clock.specs.declared.Cycle.{Cycle}
 use Rattle.clock.specs.Wait.{lastDelta}
 use Rattle.model.specs.declared.Model.{Model}
@@ -19,7 +20,6 @@ use Rattle.model.specs.declared.Thread.{Thread}
 use Rattle.model.specs.Limits.{cutTime, recordTime}
 use Rattle.model.specs.Record.{noThread, threadAt, cycleOf, nothing, awaitedBy}
 use Rattle.model.specs.Rules.{modelFault}
-use Rattle.model_rules.proofs.SearchLaws.{anyBelow-here}
 use Rattle.plain_laws.proofs.RecordLaws.{threadAt-at}
 use Rattle.tables.specs.Word.{allOnes}
 use Rattle.early.specs.declared.Notification.{Notification}
@@ -80,13 +80,13 @@ module _ (m : Model) (x : Notification) where
   isFitPair-above h = rw (le-ltb (x .event) (m .e) h) refl
 
 module _ (w : ℕ) where
-  pub isFitWord-near : w < 1024000000000 → T (isFitWord w)
+  pub isFitWord-near : w < 1024 * cutTime → T (isFitWord w)
   isFitWord-near h = →isFitWord w (inr (omega arith))
 
   pub isFitWord-never : w ≡ allOnes → T (isFitWord w)
   isFitWord-never e = →isFitWord w (inl e)
 
-  pub isFitWord-far : 1024000000000 ≤ w → (w ≡ allOnes → ⊥) → isFitWord w ≡ false
+  pub isFitWord-far : 1024 * cutTime ≤ w → (w ≡ allOnes → ⊥) → isFitWord w ≡ false
   unfolding isFitWord
   isFitWord-far h other = rw (ne-eqb w allOnes other, le-ltb (w / 1024) cutTime (omega arith)) refl
 

@@ -2,7 +2,10 @@
 use clock::Cycle;
 use early::Notification;
 use early::Site;
+use model::CUT_TIME;
+use model::CUT_WORD;
 use model::Model;
+use model::RECORD_TIME;
 use model::State;
 use model::Thread;
 use model::Threads;
@@ -15,15 +18,7 @@ ghost use Rattle.model.specs.Limits.{recordTime};
 ghost use Rattle.model.specs.Record.{cycleOf, awaitedBy};
 ghost use Rattle.early.specs.Fit.{isFitCycle, isFitWait, isFitThread, isFitPair, isUnfitThreads, isUnfitLog, isUnfitWords, isUnfit};
 
-// Document 01: "record time of 2,000,000,000 or more".
-const RECORD_TIME: u64 = 2000000000;
-
-// Document 01: "log time of 1,000,000,000 or more".
-const CUT_TIME: u64 = 1000000000;
-
-// A word of 1,000,000,000 units, and all ones.
-const FAR: u64 = 1024000000000;
-
+// Document 01: "all ones apart".
 const NEVER: u64 = 18446744073709551615;
 
 fn wide(x: u8) -> usize
@@ -126,7 +121,7 @@ fn is_unfit_words(words: &[u64], count: usize) -> bool
     while i < count {
         let w = words[i];
         i += 1;
-        if w >= FAR {
+        if w >= CUT_WORD {
             if w != NEVER {
                 return true;
             }

@@ -1,13 +1,13 @@
 -- The exits of the functions that look for a first fault, and of those that look for a target that leaves the model.
---     unless-kept, unless-broken, unless-both, unless-both-then, unless-either     a rule's number; that of two rules together
+--     unless-kept, unless-broken, unless-zero, unless-both, unless-both-then, unless-either     a rule's number; that of two rules together
 --     fault-here, fault-later     the first of two faults
 --     segmentAt-read, startAt-read     what the code reads is what the definitions name; segmentAt-past, startAt-past
 --     statementsFault-here, statementsFault-none     the loop over statements
---     faultAt-read, placesUsed-few, placesUsed-many, first-rest, segmentsFault-asked, targetsFault-asked     what is asked of a segment
+--     faultAt-read, first-rest, segmentsFault-asked, targetsFault-asked     what is asked of a segment
 --     both-below, not-both-below, anyStartLeaves-here, anyStartLeaves-end     the loop over threads
 use Prim.Native.Nat.{ℕ, zero, suc, _<_, _≤_}
 use mathlib.Core.Path.{_≡_, refl, sym, _∙_}
-use mathlib.Core.Bool.{Bool, true, false, cond, not, _&&_, _||_}
+use mathlib.Core.Bool.{Bool, true, false, not, _&&_, _||_}
 use native.Mathlib.Omega.{arith}
 use native.Mathlib.Decide.{decLt, decLe}
 use lib.Dec.{ltb, leb, ltb→lt}
@@ -15,7 +15,7 @@ use lib.ListN.{length, getD, List·getD-eq-default}
 use borrow.Author.Tests.{lt-ltb, le-ltb, le-leb, lt-leb, ltb-false}
 use Rattle.base.specs.Index.{anyBelow, orElse, firstBelow}
 use Rattle.base.proofs.BoolLaws.{true→T, and→both}
-use Rattle.base.proofs.IndexLaws.{orElse-none, orElse-some, firstBelow-zero, firstBelow-all}
+use Rattle.base.proofs.IndexLaws.{anyBelow-empty, anyBelow-here, orElse-none, orElse-some, firstBelow-zero, firstBelow-all, firstBelow-here}
 use Rattle.base.proofs.ListLaws.{getD-any}
 use Rattle.model.specs.declared.Segment.{Segment}
 use Rattle.model.specs.declared.Start.{Start}
@@ -23,13 +23,17 @@ use Rattle.model.specs.declared.Model.{Model}
 use Rattle.model.specs.Values.{noStatement, noSegment, noStart, segmentAt, startAt}
 use Rattle.model.specs.Rules.{unless, opFault, statementsFault, segmentFault, segmentsFault, leavesModel, anySegmentLeaves, anyStartLeaves, targetsFault}
 use Rattle.model_rules.specs.Asked.{faultOf, placesUsed, faultAt}
-use Rattle.model_rules.proofs.SearchLaws.{anyBelow-empty, anyBelow-here, firstBelow-here}
 
 pub unless-kept : (t : Bool) (x : ℕ) → t ≡ true → unless t x ≡ 0
 unless-kept t x e = rw e refl
 
 pub unless-broken : (t : Bool) (x : ℕ) → t ≡ false → x ≡ unless t x
 unless-broken t x e = rw e refl
+
+-- a rule that gives no number is kept
+pub unless-zero : (t : Bool) (x : ℕ) → (x ≡ 0 → ⊥) → unless t x ≡ 0 → t ≡ true
+unless-zero true x n e = refl
+unless-zero false x n e = absurd (n e)
 
 -- two rules of one number
 pub unless-both : (a b : Bool) (x : ℕ) → (x ≡ 0 → ⊥) → orElse (unless a x) (unless b x) ≡ unless (a && b) x
@@ -94,25 +98,6 @@ module _ (m : Model) (i : ℕ) where
   faultAt-read x false d h l e = fault-later _ _ x (unless-kept (ltb i 64) 4 (lt-ltb i 64 h)) (rw (segmentAt-read m i d (omega arith)) at e)
   faultAt-read x true d h l e = rw (segmentAt-read m i d (omega arith)) at e
 
-pub placesUsed-few : (n : ℕ) → n ≤ 64 → placesUsed n ≡ n
-unfolding placesUsed
-placesUsed-few n h = go (decLt n 64)
-  where
-    go : Dec (n < 64) → cond (ltb n 64) n 64 ≡ n
-    go (yes l) = rw (lt-ltb n 64 l) refl
-    go (no l) = rw (le-ltb n 64 (omega arith)) (omega arith)
-
-pub placesUsed-many : (n : ℕ) → 64 ≤ n → placesUsed n ≡ 64
-unfolding placesUsed
-placesUsed-many n h = rw (le-ltb n 64 h) refl
-
-pub placesUsed-within : (n : ℕ) → (placesUsed n ≤ n) × (placesUsed n ≤ 64)
-placesUsed-within n = go (decLe n 64)
-  where
-    go : Dec (n ≤ 64) → (placesUsed n ≤ n) × (placesUsed n ≤ 64)
-    go (yes h) = rw (placesUsed-few n h) (omega arith, h)
-    go (no h) = rw (placesUsed-many n (omega arith)) (omega arith, omega arith)
-
 -- what is left once the places in use have no fault
 module _ (m : Model) (size : length (m .segments) ≡ 64) where
   many : (t : Bool) → 64 < m .n → firstBelow 64 (faultAt m t) ≡ 0 → unless t 4 ≡ firstBelow (m .n) (faultAt m t)
@@ -128,11 +113,17 @@ module _ (m : Model) (size : length (m .segments) ≡ 64) where
   pub first-rest : (t : Bool) → firstBelow (placesUsed (m .n)) (faultAt m t) ≡ 0 → unless (t || leb (m .n) 64) 4 ≡ firstBelow (m .n) (faultAt m t)
   first-rest t none = go t (decLe (m .n) 64) none
     where
+      few : m .n ≤ 64 → placesUsed (m .n) ≡ m .n
+      few l = omega arith
+
+      full : (m .n ≤ 64 → ⊥) → placesUsed (m .n) ≡ 64
+      full l = omega arith
+
       go : (t : Bool) → Dec (m .n ≤ 64) → firstBelow (placesUsed (m .n)) (faultAt m t) ≡ 0 → unless (t || leb (m .n) 64) 4 ≡ firstBelow (m .n) (faultAt m t)
-      go true (yes l) e = rw (placesUsed-few (m .n) l) at (sym e)
-      go true (no l) e = many true (omega arith) (rw (placesUsed-many (m .n) (omega arith)) at e)
-      go false (yes l) e = rw (le-leb (m .n) 64 l) (rw (placesUsed-few (m .n) l) at (sym e))
-      go false (no l) e = rw (lt-leb (m .n) 64 (omega arith)) (many false (omega arith) (rw (placesUsed-many (m .n) (omega arith)) at e))
+      go true (yes l) e = rw (few l) at (sym e)
+      go true (no l) e = many true (omega arith) (rw (full l) at e)
+      go false (yes l) e = rw (le-leb (m .n) 64 l) (rw (few l) at (sym e))
+      go false (no l) e = rw (lt-leb (m .n) 64 (omega arith)) (many false (omega arith) (rw (full l) at e))
 
 pub segmentsFault-asked : (m : Model) → firstBelow (m .n) (faultAt m false) ≡ segmentsFault m
 unfolding segmentsFault faultAt faultOf

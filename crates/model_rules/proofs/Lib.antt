@@ -1,3 +1,2 @@
-pub mod SearchLaws
 pub mod FaultLaws
 pub mod RuleLaws

@@ -6,24 +6,23 @@
 --     opFault-writes, opFault-reads, opFault-notifies     a statement without a fault
 --     leavesModel-time, leavesModel-event, closedAt-segment     the next segment is below N
 --     modelFault-writes, modelFault-uses, modelFault-notifies     a segment names variables below V and events below E
-use Prim.Native.Nat.{ℕ, suc, _<_, _≤_}
-use mathlib.Core.Path.{_≡_, refl, ap}
+use Prim.Native.Nat.{ℕ, _<_, _≤_}
+use mathlib.Core.Path.{_≡_, refl}
 use mathlib.Core.Logic.{_⊎_, inl, inr}
-use mathlib.Core.Bool.{Bool, true, false, not, _&&_, _||_}
-use mathlib.Core.List.{List, [], _∷_}
+use mathlib.Core.Bool.{Bool, true, false, not, _&&_, _||_, or-false}
+use mathlib.Core.List.{List, []}
 use native.Mathlib.Decide.{decLe}
 use native.Mathlib.Omega.{arith}
 use lib.Dec.{T, T-not, ltb, leb, eqb, ltb→lt, leb→le, eqb→eq}
 use lib.ListN.{length, getD, length-take}
 use lib.Seq.{getD-take}
 use Rattle.base.specs.Index.{orElse}
-use Rattle.base.proofs.BoolLaws.{T→false, true→T, false→T, and→both, or→either, not-or→both, eq→eqb}
+use Rattle.base.proofs.BoolLaws.{T→false, true→T, false→T, not-not, and→both, or→either, not-or→both, eq→eqb}
 use Rattle.base.proofs.IndexLaws.{anyBelow-none, orElse-zero, firstBelow-zero}
 use Rattle.clock.specs.declared.Cycle.{Cycle}
 use Rattle.clock.specs.declared.Delay.{Delay}
 use Rattle.model.specs.declared.Op.{Op}
 use Rattle.model.specs.declared.Op.the-variants.{Set, Add, Copy, AddVariable, SubVariable, Notify}
-use Rattle.model.specs.declared.Statement.{Statement}
 use Rattle.model.specs.declared.Next.{Next}
 use Rattle.model.specs.declared.Closer.{Closer}
 use Rattle.model.specs.declared.Closer.the-variants.{End, Time, Event}
@@ -31,26 +30,28 @@ use Rattle.model.specs.declared.Segment.{Segment}
 use Rattle.model.specs.declared.Model.{Model}
 use Rattle.model.specs.Values.{noStatement, segmentAt, segmentFor, startAt, bodyOf}
 use Rattle.model.specs.Statement.{notifiedByOp, notifiedBy}
+use Rattle.model.specs.Limits.{largestTime}
 use Rattle.model.specs.Effect.{nextOf, closedAt}
 use Rattle.model.specs.Footprint.{writesOp, readsOp, writes, reads, testsNext, tests, writesOf, usesOf, writesIn, usesIn, has, listedIn, notifiesIn}
 use Rattle.model.specs.Rules.{unless, headFault, choiceFault, testFault, closerFault, opFault, statementsFault, segmentFault, segmentsFault, countsFault, leavesModel, anySegmentLeaves, anyStartLeaves, targetsFault, modelFault}
+use Rattle.model_effect.proofs.FootprintLaws.{asks-at, writes-asks, reads-asks, notifies-asks}
 use Rattle.model_effect.proofs.EffectLaws.{delayOf, nextOf-either}
+use Rattle.model_rules.proofs.FaultLaws.{unless-zero}
 
 -- a rule whose number does not stand is kept
 kept : (t : Bool) (x : ℕ) → 0 < x → unless t x ≡ 0 → T t
-kept true x p h = tt
-kept false x p h = absurd (omega arith)
+kept t x p h = true→T t (unless-zero t x (λ e. omega arith) h)
 
 -- a head
 module _ (h v e : ℕ) (fit : headFault h v e ≡ 0) where
-  head-kept : T (leb 1 h && leb h 1000000000) × T (leb v 64 && leb e 32)
+  head-kept : T (leb 1 h && leb h largestTime) × T (leb v 64 && leb e 32)
   unfolding headFault
   head-kept =
-      and→both (leb 1 h && leb h 1000000000) (leb v 64 && leb e 32)
-      (kept ((leb 1 h && leb h 1000000000) && (leb v 64 && leb e 32)) 4 (omega arith) fit)
+      and→both (leb 1 h && leb h largestTime) (leb v 64 && leb e 32)
+      (kept ((leb 1 h && leb h largestTime) && (leb v 64 && leb e 32)) 4 (omega arith) fit)
 
-  pub headFault-horizon : (1 ≤ h) × (h ≤ 1000000000)
-  headFault-horizon = let (p, q) = and→both (leb 1 h) (leb h 1000000000) (head-kept .0) in (leb→le 1 h p, leb→le h 1000000000 q)
+  pub headFault-horizon : (1 ≤ h) × (h ≤ largestTime)
+  headFault-horizon = let (p, q) = and→both (leb 1 h) (leb h largestTime) (head-kept .0) in (leb→le 1 h p, leb→le h largestTime q)
 
   pub headFault-counts : (v ≤ 64) × (e ≤ 32)
   headFault-counts = let (p, q) = and→both (leb v 64) (leb e 32) (head-kept .1) in (leb→le v 64 p, leb→le e 32 q)
@@ -75,10 +76,10 @@ module _ (v e : ℕ) where
       go (inl t) = inl (eqb→eq (x .test) 255 t)
       go (inr t) = inr (ltb→lt (x .test) v t)
 
-  pub closerFault-delay : (g : Closer) → closerFault v e g ≡ 0 → delayOf g ≤ 1000000000
+  pub closerFault-delay : (g : Closer) → closerFault v e g ≡ 0 → delayOf g ≤ largestTime
   unfolding closerFault
   closerFault-delay End h = omega arith
-  closerFault-delay (Time k x) h = leb→le (k .0) 1000000000 (kept (leb (k .0) 1000000000) 5 (omega arith) (orElse-zero _ _ h .0))
+  closerFault-delay (Time k x) h = leb→le (k .0) largestTime (kept (leb (k .0) largestTime) 5 (omega arith) (orElse-zero _ _ h .0))
   closerFault-delay (Event w x) h = omega arith
 
   pub closerFault-event : (w : ℕ) (x : Next) → closerFault v e (Event w x) ≡ 0 → w < e
@@ -157,6 +158,16 @@ module _ (v e : ℕ) where
   unfolding opFault
   opFault-notifies w h = ltb→lt w e (kept (ltb w e) 7 (omega arith) h)
 
+  -- whichever the operation
+  opFault-lists : (o : Op) (w : ℕ) → opFault v e o ≡ 0 → T (has (notifiedByOp o []) w) → w < e
+  unfolding opFault has
+  opFault-lists (Set a b) w h t = absurd t
+  opFault-lists (Add a b) w h t = absurd t
+  opFault-lists (Copy a b) w h t = absurd t
+  opFault-lists (AddVariable a b) w h t = absurd t
+  opFault-lists (SubVariable a b) w h t = absurd t
+  opFault-lists (Notify x) w h t = name-kept x e w h (rw or-false at t)
+
 -- targets
 module _ (n : ℕ) where
   next-kept : (a b : ℕ) → not (ltb a n && ltb b n) ≡ false → (a < n) × (b < n)
@@ -190,50 +201,6 @@ module _ (n : ℕ) where
   closedAt-segment s (Time k x) c v l h = nextOf-kept x v (leavesModel-time k x h)
   closedAt-segment s (Event w x) c v l h = nextOf-kept x v (leavesModel-event w x h)
 
--- a statement of a list that writes, reads or notifies
-writes-at : (xs : List Statement) (i : ℕ) → T (writes xs i) → (j : ℕ) × (j < length xs) × T (writesOp (getD xs j noStatement .op) i)
-unfolding writes
-writes-at [] i t = absurd t
-writes-at (x ∷ xs) i t = go (writes-at xs i) (or→either (writesOp (x .op) i) (writes xs i) t)
-  where
-    go : (T (writes xs i) → (j : ℕ) × (j < length xs) × T (writesOp (getD xs j noStatement .op) i)) → T (writesOp (x .op) i) ⊎ T (writes xs i)
-        → (j : ℕ) × (j < length (x ∷ xs)) × T (writesOp (getD (x ∷ xs) j noStatement .op) i)
-    go ih (inl u) = (0, omega arith, u)
-    go ih (inr u) = let (j, l, w) = ih u in (suc j, omega arith, w)
-
-reads-at : (xs : List Statement) (i : ℕ) → T (reads xs i) → (j : ℕ) × (j < length xs) × T (readsOp (getD xs j noStatement .op) i)
-unfolding reads
-reads-at [] i t = absurd t
-reads-at (x ∷ xs) i t = go (reads-at xs i) (or→either (readsOp (x .op) i) (reads xs i) t)
-  where
-    go : (T (reads xs i) → (j : ℕ) × (j < length xs) × T (readsOp (getD xs j noStatement .op) i)) → T (readsOp (x .op) i) ⊎ T (reads xs i)
-        → (j : ℕ) × (j < length (x ∷ xs)) × T (readsOp (getD (x ∷ xs) j noStatement .op) i)
-    go ih (inl u) = (0, omega arith, u)
-    go ih (inr u) = let (j, l, w) = ih u in (suc j, omega arith, w)
-
-notifies-first : (o : Op) (es : List ℕ) (w : ℕ) → T (has (notifiedByOp o es) w) → (o ≡ Notify w) ⊎ T (has es w)
-unfolding has
-notifies-first (Set a b) es w t = inr t
-notifies-first (Add a b) es w t = inr t
-notifies-first (Copy a b) es w t = inr t
-notifies-first (AddVariable a b) es w t = inr t
-notifies-first (SubVariable a b) es w t = inr t
-notifies-first (Notify x) es w t = go (or→either (eqb x w) (has es w) t)
-  where
-    go : T (eqb x w) ⊎ T (has es w) → (Notify x ≡ Notify w) ⊎ T (has es w)
-    go (inl u) = inl (ap Notify (eqb→eq x w u))
-    go (inr u) = inr u
-
-notifies-at : (xs : List Statement) (w : ℕ) → T (has (notifiedBy xs) w) → (j : ℕ) × (j < length xs) × (getD xs j noStatement .op ≡ Notify w)
-unfolding notifiedBy has
-notifies-at [] w t = absurd t
-notifies-at (x ∷ xs) w t = go (notifies-at xs w) (notifies-first (x .op) (notifiedBy xs) w t)
-  where
-    go : (T (has (notifiedBy xs) w) → (j : ℕ) × (j < length xs) × (getD xs j noStatement .op ≡ Notify w)) → (x .op ≡ Notify w) ⊎ T (has (notifiedBy xs) w)
-        → (j : ℕ) × (j < length (x ∷ xs)) × (getD (x ∷ xs) j noStatement .op ≡ Notify w)
-    go ih (inl u) = (0, omega arith, u)
-    go ih (inr u) = let (j, l, q) = ih u in (suc j, omega arith, q)
-
 -- a segment
 module _ (v e : ℕ) (g : Segment) (fit : segmentFault v e g ≡ 0) where
   pub segmentFault-statements : g .n ≤ 32
@@ -256,10 +223,10 @@ module _ (v e : ℕ) (g : Segment) (fit : segmentFault v e g ≡ 0) where
 
   pub segmentFault-writes : (i : ℕ) → T (writesOf g i) → i < v
   unfolding writesOf
-  segmentFault-writes i t = let (j, l, w) = writes-at (bodyOf g) i t in opFault-writes v e _ i (body-op j l) w
+  segmentFault-writes i t = let (j, l, w) = asks-at (writes-asks i) (bodyOf g) t in opFault-writes v e _ i (body-op j l) w
 
   segmentFault-reads : (i : ℕ) → T (reads (bodyOf g) i) → i < v
-  segmentFault-reads i t = let (j, l, w) = reads-at (bodyOf g) i t in opFault-reads v e _ i (body-op j l) w
+  segmentFault-reads i t = let (j, l, w) = asks-at (reads-asks i) (bodyOf g) t in opFault-reads v e _ i (body-op j l) w
 
   pub segmentFault-uses : (i : ℕ) → T (usesOf g i) → i < v
   unfolding usesOf
@@ -274,11 +241,7 @@ module _ (v e : ℕ) (g : Segment) (fit : segmentFault v e g ≡ 0) where
       go (inr u) = closerFault-test v e (g .closer) i segmentFault-closer u
 
   pub segmentFault-notifies : (w : ℕ) → T (has (notifiedBy (bodyOf g)) w) → w < e
-  segmentFault-notifies w t = let (j, l, q) = notifies-at (bodyOf g) w t in opFault-notifies v e w (rw q at (body-op j l))
-
-not-not : (t : Bool) → T (not (not t)) → T t
-not-not true h = tt
-not-not false h = absurd h
+  segmentFault-notifies w t = let (j, l, u) = asks-at (notifies-asks w) (bodyOf g) t in opFault-lists v e _ w (body-op j l) u
 
 -- a model's counts, in range
 pub record Counts (m : Model) : Type 0 where
@@ -308,7 +271,7 @@ module _ (m : Model) (fit : modelFault m ≡ 0) where
   unfolding modelFault
   modelFault-head = orElse-zero _ _ fit .0
 
-  pub modelFault-horizon : (1 ≤ m .horizon .0) × (m .horizon .0 ≤ 1000000000)
+  pub modelFault-horizon : (1 ≤ m .horizon .0) × (m .horizon .0 ≤ largestTime)
   modelFault-horizon = headFault-horizon (m .horizon .0) (m .v) (m .e) modelFault-head
 
   few-segments : m .n ≤ 64

@@ -1,6 +1,6 @@
 -- What the loop over the segments asks of each: its own faults or, once all are held, whether its next segments are below N.
-use Prim.Native.Nat.{ℕ}
-use mathlib.Core.Bool.{Bool, true, false, cond, not}
+use Prim.Native.Nat.{ℕ, min}
+use mathlib.Core.Bool.{Bool, true, false, not}
 use lib.Dec.{ltb}
 use Rattle.base.specs.Index.{orElse}
 use Rattle.model.specs.declared.Model.{Model}
@@ -19,5 +19,5 @@ faultAt m false i = orElse (unless (ltb i 64) wrongCount) (faultOf (m .n) (m .v)
 faultAt m true i = faultOf (m .n) (m .v) (m .e) true (segmentAt m i)
 
 -- how many of the 64 places are in use
-unfoldable pub placesUsed : ℕ → ℕ
-placesUsed n = cond (ltb n 64) n 64
+abbrev pub placesUsed : ℕ → ℕ
+placesUsed n = min n 64

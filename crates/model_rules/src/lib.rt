@@ -1,6 +1,7 @@
 // Document 01, "Model file": the file rules over values, as the number of the first fault.
 use clock::Time;
 use model::Closer;
+use model::LARGEST_TIME;
 use model::Model;
 use model::Next;
 use model::Op;
@@ -13,7 +14,7 @@ ghost use Rattle.model.specs.Rules.{unless, headFault, choiceFault, testFault, 
 ghost use Rattle.model_rules.specs.Asked.{faultOf, placesUsed, faultAt};
 
 // Number x where a rule is not kept.
-fn unless(kept: bool, x: u8) -> u8
+pub fn unless(kept: bool, x: u8) -> u8
     ensures { λ r. ⌜ r ≡ unless kept x ⌝ }
 {
     if kept {
@@ -37,7 +38,7 @@ pub fn head_fault(h: Time, v: u8, e: u8) -> u8
     ensures { λ r. ⌜ r ≡ headFault (h .0) v e ⌝ }
 {
     unless(
-        ((1 <= h.0) & (h.0 <= 1_000_000_000)) & ((v <= 64) & (e <= 32)),
+        ((1 <= h.0) & (h.0 <= LARGEST_TIME)) & ((v <= 64) & (e <= 32)),
         4,
     )
 }
@@ -58,7 +59,7 @@ pub fn closer_fault(v: u8, e: u8, closer: Closer) -> u8
 {
     match closer {
         Closer::End => 0,
-        Closer::Time(k, x) => next_fault(v, k.0 <= 1_000_000_000, true, x),
+        Closer::Time(k, x) => next_fault(v, k.0 as u64 <= LARGEST_TIME, true, x),
         Closer::Event(w, x) => next_fault(v, true, w < e, x),
     }
 }
@@ -178,7 +179,7 @@ fn any_start_leaves(m: Model) -> bool
 }
 
 // 8 where a next or first segment is not below N.
-pub fn targets_fault(m: Model) -> u8
+fn targets_fault(m: Model) -> u8
     ensures { λ r. ⌜ r ≡ targetsFault m ⌝ }
 {
     or_else(first_fault(m, true), unless(!any_start_leaves(m), 8))

@@ -1,7 +1,7 @@
 -- What a record's body says: 4, then a segment's 5 to 7; and the model with the record.
 --     recordFault-..     1 to 7 in the parts that the code computes
 --     withRecord-..     the model after a head, a segment, a thread
-use Prim.Native.Nat.{ℕ, zero, suc, _+_, _<_}
+use Prim.Native.Nat.{ℕ, _+_, _<_}
 use mathlib.Core.Path.{sym, ap, _∙_, _≡_, refl}
 use mathlib.Core.Bool.{true, cond}
 use mathlib.Core.List.{List}
@@ -11,26 +11,20 @@ use lib.Dec.{ltb, eqb}
 use lib.ListN.{take, set}
 use borrow.Author.Tests.{ltb-true, eq-eqb, ne-eqb}
 use Rattle.base.specs.Index.{orElse}
-use Rattle.base.proofs.IndexLaws.{orElse-none, orElse-zero}
+use Rattle.base.proofs.IndexLaws.{orElse-none, orElse-zero, orElse-last}
 use Rattle.clock.specs.declared.Time.{Time}
 use Rattle.model.specs.declared.Segment.{Segment}
 use Rattle.model.specs.declared.Model.{Model}
 use Rattle.model.specs.Values.{withHead, withSegment, withStart}
-use Rattle.model_rules.proofs.FaultLaws.{fault-here}
+use Rattle.model_rules.proofs.FaultLaws.{fault-here, unless-zero}
 use Rattle.reader.specs.Word.{byteAt, wordAt, longAt}
 use Rattle.reader.specs.Record.{framingFault, segmentBytesFault, bodyFault, withRecord}
-use Rattle.reader_laws.proofs.FrameLaws.{unless-zero}
 use Rattle.reader_segment.specs.Parts.{fits, segmentRecordFault, segmentIn}
 use Rattle.reader_segment.proofs.SegmentLaws.{segmentRecordFault-fits, segmentIn-fits}
 use Rattle.reader_file.specs.declared.Counts.{Counts}
 use Rattle.reader_file.specs.Parts.{countFault, recordFault}
 use Rattle.reader_file.proofs.RecordLaws.{Opened, opened-fits}
 use Rattle.reader_file.proofs.TargetLaws.{Counted}
-
-orElse-last : (a : ℕ) → orElse a 0 ≡ a
-unfolding orElse
-orElse-last zero = refl
-orElse-last (suc a) = refl
 
 -- a segment's 5 to 7, none of another kind
 abbrev segmentPart : ℕ → ℕ → ℕ → List ℕ → ℕ

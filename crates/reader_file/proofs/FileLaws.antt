@@ -20,11 +20,12 @@ use Rattle.model.specs.declared.Segment.{Segment}
 use Rattle.model.specs.declared.Start.{Start}
 use Rattle.model.specs.declared.Model.{Model}
 use Rattle.model.specs.Values.{noSegment, noStart, noModel}
+use Rattle.model_rules.proofs.FaultLaws.{unless-zero}
 use Rattle.reader.specs.declared.Read.{Read}
 use Rattle.reader.specs.Word.{byteAt, wordAt, longAt}
 use Rattle.reader.specs.Record.{framingFault, bodyFault, withRecord}
 use Rattle.reader.specs.File.{readOr, readEnd, readFrom, readFile}
-use Rattle.reader_laws.proofs.FrameLaws.{unless-zero, framed}
+use Rattle.reader_laws.proofs.FrameLaws.{framed}
 use Rattle.reader_laws.proofs.ReadSoFar.{SoFar, nothing-read, Follows, head, segment, thread, ending, follows→, record-kept}
 use Rattle.reader_laws.proofs.Accepted.{readOr-accepted, refused-zero}
 use Rattle.reader_segment.specs.Parts.{segmentIn}

@@ -13,7 +13,7 @@ use borrow.Author.Tests.{eqb-true, le-leb, lt-leb}
 use Rattle.base.specs.Index.{orElse}
 use Rattle.reader.specs.Word.{wordAt}
 use Rattle.reader.specs.Record.{follows, lengthFits, framingFault}
-use Rattle.reader_laws.proofs.FrameLaws.{Whole, whole→, framed, head-length, thread-length, follows-end}
+use Rattle.reader_laws.proofs.FrameLaws.{framed, head-length, thread-length, follows-end}
 use Rattle.reader_segment.specs.Parts.{fits}
 use Rattle.reader_file.specs.Parts.{isWhole}
 
@@ -29,10 +29,6 @@ module _ (b : List ℕ) where
   pub isWhole-left : (x : ℕ) → 4 ≤ length b → x ≡ wordAt b 0 → 4 ≤ x → leb x (length b) ≡ isWhole b
   unfolding isWhole
   isWhole-left x h e l = rw (le-leb 4 (length b) h, ← e, le-leb 4 x l) refl
-
-pub isWhole→Whole : (b : List ℕ) → isWhole b ≡ true → Whole b
-unfolding isWhole
-isWhole→Whole b e = whole→ b e
 
 module _ (last : ℕ) (b : List ℕ) where
   pub framingFault-short : isWhole b ≡ false → 1 ≡ framingFault last b

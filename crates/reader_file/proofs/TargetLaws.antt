@@ -1,10 +1,10 @@
 -- Targets: the bound that is kept as a file is judged says which N every target is below.
---     mostOf-leb, next-bound, leaves-bound     the greater of two numbers, a closer's next segments
+--     max-leb, next-bound, leaves-bound     the greater of two numbers, a closer's next segments
 --     stays-..     no target of a model is N or more: of a model with a segment more, with a thread more
 --     counted-..     what is counted, record by record
-use Prim.Native.Nat.{ℕ, zero, suc, _+_, _<_, zero-le}
+use Prim.Native.Nat.{ℕ, suc, max, _+_, _<_, zero-le}
 use mathlib.Core.Path.{_≡_, refl, sym, ap, _∙_, subst}
-use mathlib.Core.Bool.{Bool, true, false, not, _&&_, _||_}
+use mathlib.Core.Bool.{Bool, true, false, not, _&&_, _||_, Bool·not-not}
 use mathlib.Core.List.{List}
 use native.Mathlib.Numerals.{add-one}
 use native.Mathlib.Omega.{arith}
@@ -12,10 +12,10 @@ use native.Mathlib.Decide.{decLt}
 use lib.Dec.{ltb, leb}
 use lib.ListN.{length, getD, set}
 use lib.Seq.{getD-set-same, getD-set-other}
-use borrow.Author.Tests.{leb-true, lt-ltb, le-ltb, le-leb, ltb-true}
+use borrow.Author.Tests.{leb-true, le-leb, ltb-true}
 use Rattle.base.specs.Index.{anyBelow}
 use Rattle.base.proofs.BoolLaws.{true→T}
-use Rattle.base.proofs.IndexLaws.{orElse-zero}
+use Rattle.base.proofs.IndexLaws.{anyBelow-more, anyBelow-same, orElse-zero}
 use Rattle.model.specs.declared.Next.{Next}
 use Rattle.model.specs.declared.Closer.{Closer}
 use Rattle.model.specs.declared.Closer.the-variants.{End, Time, Event}
@@ -24,11 +24,11 @@ use Rattle.model.specs.declared.Start.{Start}
 use Rattle.model.specs.declared.Model.{Model}
 use Rattle.model.specs.Values.{noSegment, noStart, noModel, segmentAt, startAt, withHead, withSegment, withStart}
 use Rattle.model.specs.Rules.{unless, leavesModel, anySegmentLeaves, anyStartLeaves, targetsFault}
+use Rattle.model_rules.proofs.FaultLaws.{unless-zero}
 use Rattle.reader.specs.Word.{byteAt}
 use Rattle.reader.specs.Record.{segmentFrom, segmentBytesFault, bodyFault, withRecord}
-use Rattle.reader_laws.proofs.FrameLaws.{unless-zero}
 use Rattle.reader_laws.proofs.ReadSoFar.{SoFar, Follows, head, segment, thread, ending}
-use Rattle.reader_segment.specs.Parts.{mostOf, boundOf, targetBound, fits, closerIn}
+use Rattle.reader_segment.specs.Parts.{boundOf, targetBound, fits, closerIn}
 use Rattle.reader_file.specs.declared.Counts.{Counts}
 use Rattle.reader_file.specs.Parts.{countsAfter}
 
@@ -41,44 +41,23 @@ absorb-right : (s t : Bool) → (s ≡ true → t ≡ true) → s ≡ (s && t)
 absorb-right true t h = sym (h refl)
 absorb-right false t h = refl
 
-not-twice : (t : Bool) → not (not t) ≡ t
-not-twice true = refl
-not-twice false = refl
-
-mostOf-leb : (a b n : ℕ) → leb (mostOf a b) n ≡ (leb a n && leb b n)
-unfolding mostOf
-mostOf-leb a b n = go (decLt a b)
+max-leb : (a b n : ℕ) → leb (max a b) n ≡ (leb a n && leb b n)
+max-leb a b n = go (decLt a b)
   where
-    go : Dec (a < b) → leb (mostOf a b) n ≡ (leb a n && leb b n)
-    go (yes h) = rw (lt-ltb a b h) (absorb-left (leb a n) (leb b n) (λ e. le-leb a n (omega (arith, leb-true b n e))))
-    go (no h) = rw (le-ltb a b (omega arith)) (absorb-right (leb a n) (leb b n) (λ e. le-leb b n (omega (arith, leb-true a n e))))
-
-mostOf-suc : (a b : ℕ) → suc (mostOf a b) ≡ mostOf (suc a) (suc b)
-unfolding mostOf
-mostOf-suc a b = go (decLt a b)
-  where
-    go : Dec (a < b) → suc (mostOf a b) ≡ mostOf (suc a) (suc b)
-    go (yes h) = rw (lt-ltb a b h, lt-ltb (suc a) (suc b) (omega arith)) refl
-    go (no h) = rw (le-ltb a b (omega arith), le-ltb (suc a) (suc b) (omega arith)) refl
+    go : Dec (a < b) → leb (max a b) n ≡ (leb a n && leb b n)
+    go (yes h) = let e : max a b ≡ b = omega arith in rw e (absorb-left (leb a n) (leb b n) (λ e. le-leb a n (omega (arith, leb-true b n e))))
+    go (no h) = let e : max a b ≡ a = omega arith in rw e (absorb-right (leb a n) (leb b n) (λ e. le-leb b n (omega (arith, leb-true a n e))))
 
 next-bound : (n : ℕ) (x : Next) → not (not (ltb (x .a) n && ltb (x .b) n)) ≡ leb (boundOf x) n
-unfolding boundOf
-next-bound n x = not-twice (ltb (x .a) n && ltb (x .b) n) ∙ sym (ap (λ (k : ℕ). leb k n) (mostOf-suc (x .a) (x .b)) ∙ mostOf-leb (suc (x .a)) (suc (x .b)) n)
+next-bound n x =
+    let e : boundOf x ≡ max (suc (x .a)) (suc (x .b)) = omega arith in
+    Bool·not-not (ltb (x .a) n && ltb (x .b) n) ∙ sym (ap (λ (k : ℕ). leb k n) e ∙ max-leb (suc (x .a)) (suc (x .b)) n)
 
 leaves-bound : (n : ℕ) (c : Closer) → not (leavesModel n c) ≡ leb (targetBound c) n
 unfolding leavesModel targetBound
 leaves-bound n End = sym (le-leb 0 n zero-le)
 leaves-bound n (Time k x) = next-bound n x
 leaves-bound n (Event w x) = next-bound n x
-
-anyBelow-same : (n : ℕ) (f g : ℕ → Bool) → ((i : ℕ) → i < n → f i ≡ g i) → anyBelow n f ≡ anyBelow n g
-unfolding anyBelow
-anyBelow-same zero f g h = refl
-anyBelow-same (suc n) f g h = rw (anyBelow-same n f g (λ i l. h i (omega arith)), h n (omega arith)) refl
-
-anyBelow-last : (n : ℕ) (f : ℕ → Bool) → anyBelow (n + 1) f ≡ (anyBelow n f || f n)
-unfolding anyBelow
-anyBelow-last n f = rw add-one refl
 
 -- no next segment and no first segment of m is n or more
 unfoldable pub stays : ℕ → Model → Bool
@@ -114,7 +93,7 @@ module _ (n : ℕ) (m : Model) where
       anyBelow-same (m .n) _ _ (λ i l. ap (λ (x : Segment). leavesModel n (x .closer)) (getD-set-other (m .segments) (m .n) i g noSegment (λ e. omega arith))) in
       let here : leaves-at (set (m .segments) (m .n) g) (m .n) ≡ leavesModel n (g .closer) =
       ap (λ (x : Segment). leavesModel n (x .closer)) (getD-set-same (m .segments) (m .n) g noSegment h) in
-      rw (anyBelow-last (m .n) (leaves-at (set (m .segments) (m .n) g)), before, here) (segment-more (anyBelow (m .n) (leaves-at (m .segments))) (leavesModel n (g .closer)) (anyBelow (m .t) (misses-at (m .starts))))
+      rw (anyBelow-more (m .n) (leaves-at (set (m .segments) (m .n) g)), before, here) (segment-more (anyBelow (m .n) (leaves-at (m .segments))) (leavesModel n (g .closer)) (anyBelow (m .t) (misses-at (m .starts))))
 
   stays-start : (s : Start) → m .t < length (m .starts) → stays n (withStart m s) ≡ (stays n m && ltb (s .first) n)
   unfolding stays withStart segmentAt startAt leaves-at misses-at
@@ -123,7 +102,7 @@ module _ (n : ℕ) (m : Model) where
       anyBelow-same (m .t) _ _ (λ i l. ap (λ (x : Start). not (ltb (x .first) n)) (getD-set-other (m .starts) (m .t) i s noStart (λ e. omega arith))) in
       let here : misses-at (set (m .starts) (m .t) s) (m .t) ≡ not (ltb (s .first) n) =
       ap (λ (x : Start). not (ltb (x .first) n)) (getD-set-same (m .starts) (m .t) s noStart h) in
-      rw (anyBelow-last (m .t) (misses-at (set (m .starts) (m .t) s)), before, here) (thread-more (anyBelow (m .n) (leaves-at (m .segments))) (anyBelow (m .t) (misses-at (m .starts))) (not (ltb (s .first) n)) ∙ ap (λ (t : Bool). not (anyBelow (m .n) (leaves-at (m .segments)) || anyBelow (m .t) (misses-at (m .starts))) && t) (not-twice (ltb (s .first) n)))
+      rw (anyBelow-more (m .t) (misses-at (set (m .starts) (m .t) s)), before, here) (thread-more (anyBelow (m .n) (leaves-at (m .segments))) (anyBelow (m .t) (misses-at (m .starts))) (not (ltb (s .first) n)) ∙ ap (λ (t : Bool). not (anyBelow (m .n) (leaves-at (m .segments)) || anyBelow (m .t) (misses-at (m .starts))) && t) (Bool·not-not (ltb (s .first) n)))
 
 closer-is : (r : List ℕ) → fits r ≡ true → segmentFrom r .closer ≡ closerIn r
 unfolding segmentFrom closerIn
@@ -153,10 +132,10 @@ module _ (last : ℕ) (c : Counts) (m : Model) (r : List ℕ) (so-far : SoFar la
       room : m .n < 64
       room = ltb-true (m .n) 64 (unless-zero (ltb (m .n) 64) 4 (λ e. omega arith) (orElse-zero (unless (ltb (m .n) 64) 4) (segmentBytesFault (m .v) (m .e) r) none .0))
 
-      each : (n : ℕ) → stays n (withSegment m (segmentFrom r)) ≡ leb (mostOf (c .bound) (targetBound (closerIn r))) n
+      each : (n : ℕ) → stays n (withSegment m (segmentFrom r)) ≡ leb (max (c .bound) (targetBound (closerIn r))) n
       each n =
           stays-segment n m (segmentFrom r) (omega (arith, room, so-far .segment-places))
-          ∙ rw (g .bounds n, leaves-bound n (segmentFrom r .closer), closer-is r f) (sym (mostOf-leb (c .bound) (targetBound (closerIn r)) n))
+          ∙ rw (g .bounds n, leaves-bound n (segmentFrom r .closer), closer-is r f) (sym (max-leb (c .bound) (targetBound (closerIn r)) n))
 
   counted-thread : bodyFault 3 m r ≡ 0 → Counted (countsAfter 3 c r) (withRecord 3 m r)
   unfolding countsAfter withRecord withStart bodyFault
@@ -165,10 +144,10 @@ module _ (last : ℕ) (c : Counts) (m : Model) (r : List ℕ) (so-far : SoFar la
       room : m .t < 32
       room = ltb-true (m .t) 32 (unless-zero (ltb (m .t) 32) 4 (λ e. omega arith) none)
 
-      each : (n : ℕ) → stays n (withStart m (record { first = byteAt r 4 })) ≡ leb (mostOf (c .bound) (byteAt r 4 + 1)) n
+      each : (n : ℕ) → stays n (withStart m (record { first = byteAt r 4 })) ≡ leb (max (c .bound) (byteAt r 4 + 1)) n
       each n =
           stays-start n m (record { first = byteAt r 4 }) (omega (arith, room, so-far .start-places))
-          ∙ rw (g .bounds n, mostOf-leb (c .bound) (byteAt r 4 + 1) n, add-one (byteAt r 4)) refl
+          ∙ rw (g .bounds n, max-leb (c .bound) (byteAt r 4 + 1) n, add-one (byteAt r 4)) refl
 
   pub counted-more : (k : ℕ) → Follows last k → (k ≡ 2 → fits r ≡ true) → bodyFault k m r ≡ 0 → (k ≡ 4 → ⊥) → Counted (countsAfter k c r) (withRecord k m r)
   counted-more k (head z e) f none more = subst (λ (k : ℕ). Counted (countsAfter k c r) (withRecord k m r)) (sym e) counted-head

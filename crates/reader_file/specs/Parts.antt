@@ -1,5 +1,5 @@
 -- What the reader's own functions answer, in parts of the definitions before. Only private contracts cite these.
-use Prim.Native.Nat.{ℕ, _+_, _<_}
+use Prim.Native.Nat.{ℕ, _+_, _<_, max}
 use mathlib.Core.Path.{_≡_}
 use mathlib.Core.Bool.{Bool, cond, _&&_}
 use mathlib.Core.List.{List}
@@ -12,7 +12,7 @@ use Rattle.model.specs.Rules.{unless, headFault}
 use Rattle.reader.specs.declared.Read.{Read}
 use Rattle.reader.specs.Word.{byteAt, wordAt, longAt}
 use Rattle.reader.specs.Record.{headKind, segmentKind, threadKind, framingFault, segmentBytesFault}
-use Rattle.reader_segment.specs.Parts.{mostOf, closerIn, targetBound}
+use Rattle.reader_segment.specs.Parts.{closerIn, targetBound}
 use Rattle.reader_file.specs.declared.Counts.{Counts}
 
 -- a record's head and its length are there
@@ -38,8 +38,8 @@ recordFault last c b =
 unfoldable pub countsAfter : ℕ → Counts → List ℕ → Counts
 countsAfter k c r =
     cond (eqb k headKind) (record { v = byteAt r 8; e = byteAt r 9; n = c .n; t = c .t; bound = c .bound })
-    (cond (eqb k segmentKind) (record { v = c .v; e = c .e; n = c .n + 1; t = c .t; bound = mostOf (c .bound) (targetBound (closerIn r)) })
-    (cond (eqb k threadKind) (record { v = c .v; e = c .e; n = c .n; t = c .t + 1; bound = mostOf (c .bound) (byteAt r 4 + 1) })
+    (cond (eqb k segmentKind) (record { v = c .v; e = c .e; n = c .n + 1; t = c .t; bound = max (c .bound) (targetBound (closerIn r)) })
+    (cond (eqb k threadKind) (record { v = c .v; e = c .e; n = c .n; t = c .t + 1; bound = max (c .bound) (byteAt r 4 + 1) })
     c))
 
 -- a record of kind k and length l is whole, and there is room for it

@@ -8,14 +8,12 @@ use model::Start;
 use model::Statement;
 use reader::Read;
 ghost use mathlib.Core.Path.{_≡_};
-ghost use Prim.Native.Nat.{_+_, _≤_, _<_};
+ghost use Prim.Native.Nat.{_≤_, _<_, max};
 ghost use lib.ListN.{length};
 ghost use Rattle.model.specs.Values.{noSegment, noModel};
-ghost use Rattle.model.specs.Rules.{unless};
-ghost use Rattle.reader.specs.Word.{wordAt, longAt};
+ghost use Rattle.reader.specs.Word.{longAt};
 ghost use Rattle.reader.specs.Record.{follows, lengthFits, framingFault};
 ghost use Rattle.reader.specs.File.{readFile};
-ghost use Rattle.reader_segment.specs.Parts.{mostOf};
 ghost use Rattle.reader_file.specs.Parts.{isWhole, countFault, recordFault, Room, countsAfter, endFault, refusedWith};
 
 // What is counted as a file is judged: variables, events, segments, threads, and the least N that every target is below.
@@ -51,30 +49,6 @@ fn units(x: u32) -> u64
     x as u64
 }
 
-// Document 01: "Little-endian."
-fn word_at(s: &[u8], at: usize) -> u32
-    requires { ⌜ at + 2 ≤ length (now s) ⌝ }
-    ensures { λ r. ⌜ (r ≡ wordAt (now (s .entry)) at) × (r < 65536) ⌝ }
-{
-    wide(s[at]) + wide(s[at + 1]) * 256
-}
-
-fn long_at(s: &[u8], at: usize) -> u32
-    requires { ⌜ at + 4 ≤ length (now s) ⌝ }
-    ensures { λ r. ⌜ r ≡ longAt (now (s .entry)) at ⌝ }
-{
-    word_at(s, at) + word_at(s, at + 2) * 65536
-}
-
-fn unless_kept(kept: bool, number: u8) -> u8
-    ensures { λ r. ⌜ r ≡ unless kept number ⌝ }
-{
-    if kept {
-        return 0;
-    }
-    number
-}
-
 fn no_segment() -> Segment
     ensures { λ r. ⌜ r ≡ noSegment ⌝ }
 {
@@ -92,7 +66,7 @@ fn is_whole(b: &[u8]) -> bool
     if b.len() < 4 {
         return false;
     }
-    let size = size_of(word_at(b, 0));
+    let size = size_of(reader_segment::word_at(b, 0));
     if size < 4 {
         return false;
     }
@@ -131,11 +105,11 @@ fn framing_fault(last: u32, b: &[u8]) -> u8
     if !is_whole(b) {
         return 1;
     }
-    let kind = word_at(b, 2);
+    let kind = reader_segment::word_at(b, 2);
     if !comes_after(last, kind) {
         return 2;
     }
-    if !length_fits(kind, word_at(b, 0)) {
+    if !length_fits(kind, reader_segment::word_at(b, 0)) {
         return 3;
     }
     0
@@ -146,7 +120,7 @@ fn horizon_at(r: &[u8]) -> Time
     requires { ⌜ 8 ≤ length (now r) ⌝ }
     ensures { λ h. ⌜ h .0 ≡ longAt (now (r .entry)) 4 ⌝ }
 {
-    Time(units(long_at(r, 4)))
+    Time(units(reader_segment::long_at(r, 4)))
 }
 
 // Document 01: "H, V or E out of range; 65th segment; 33rd thread".
@@ -156,8 +130,8 @@ fn count_fault(kind: u32, c: Counts, r: &[u8]) -> u8
 {
     match kind {
         1 => model_rules::head_fault(horizon_at(r), r[8], r[9]),
-        2 => unless_kept(c.n < 64, 4),
-        3 => unless_kept(c.t < 32, 4),
+        2 => model_rules::unless(c.n < 64, 4),
+        3 => model_rules::unless(c.t < 32, 4),
         _ => 0,
     }
 }
@@ -184,8 +158,8 @@ fn record_fault(last: u32, c: Counts, b: &[u8]) -> u8
     if framing != 0 {
         return framing;
     }
-    let size = size_of(word_at(b, 0));
-    let kind = word_at(b, 2);
+    let size = size_of(reader_segment::word_at(b, 0));
+    let kind = reader_segment::word_at(b, 2);
     let r = &b[..size];
     let count = count_fault(kind, c, r);
     if count != 0 {
@@ -199,7 +173,7 @@ fn record_fault(last: u32, c: Counts, b: &[u8]) -> u8
 
 // The greater of two numbers.
 fn most_of(a: u32, b: u32) -> u32
-    ensures { λ r. ⌜ r ≡ mostOf a b ⌝ }
+    ensures { λ r. ⌜ r ≡ max a b ⌝ }
 {
     if a < b {
         return b;
@@ -242,8 +216,8 @@ fn counts_after(kind: u32, c: Counts, r: &[u8]) -> Counts
 fn end_fault(left: usize, c: Counts) -> u8
     ensures { λ r. ⌜ r ≡ endFault left c ⌝ }
 {
-    let extra = unless_kept(left == 0, 9);
-    let target = unless_kept(c.bound <= wide(c.n), 8);
+    let extra = model_rules::unless(left == 0, 9);
+    let target = model_rules::unless(c.bound <= wide(c.n), 8);
     if extra != 0 {
         return extra;
     }
@@ -269,8 +243,8 @@ pub fn file_number(bytes: &[u8]) -> u8
         if fault != 0 {
             return fault;
         }
-        let size = size_of(word_at(b, 0));
-        let kind = word_at(b, 2);
+        let size = size_of(reader_segment::word_at(b, 0));
+        let kind = reader_segment::word_at(b, 2);
         if kind == 4 {
             return end_fault(b.len() - size, c);
         }
@@ -307,8 +281,8 @@ fn model_from(bytes: &[u8]) -> Model
     let mut at = 10;
     while 4 < bytes.len() - at {
         let b = &bytes[at..];
-        let size = size_of(word_at(b, 0));
-        let kind = word_at(b, 2);
+        let size = size_of(reader_segment::word_at(b, 0));
+        let kind = reader_segment::word_at(b, 2);
         let r = &b[..size];
         if kind == 2 {
             let i = place(n);

@@ -2,26 +2,18 @@
 --     framed     the length and the kind of such a record
 --     head-length, segment-length, thread-length     its length by its kind
 use Prim.Native.Nat.{ℕ, _≤_}
-use mathlib.Core.Path.{_≡_, refl}
+use mathlib.Core.Path.{_≡_}
 use mathlib.Core.Bool.{Bool, true, false, cond, _&&_}
 use mathlib.Core.List.{List}
 use native.Mathlib.Omega.{arith}
 use lib.Dec.{leb, eqb}
 use lib.ListN.{length}
 use borrow.Author.Tests.{leb-true, eqb-true, ne-eqb}
-use Rattle.base.proofs.BoolLaws.{true→T, T→true, and→both}
+use Rattle.base.proofs.BoolLaws.{true→T, and→true}
 use Rattle.base.proofs.IndexLaws.{orElse-zero}
-use Rattle.model.specs.Rules.{unless}
+use Rattle.model_rules.proofs.FaultLaws.{unless-zero}
 use Rattle.reader.specs.Word.{wordAt}
 use Rattle.reader.specs.Record.{follows, lengthFits, framingFault}
-
-both : (s t : Bool) → s && t ≡ true → (s ≡ true) × (t ≡ true)
-both s t e = let (p, q) = and→both s t (true→T (s && t) e) in (T→true s p, T→true t q)
-
--- a rule that gives no number is kept
-pub unless-zero : (t : Bool) (x : ℕ) → (x ≡ 0 → ⊥) → unless t x ≡ 0 → t ≡ true
-unless-zero true x n e = refl
-unless-zero false x n e = absurd (n e)
 
 -- a head, and a length that is there
 pub record Whole (b : List ℕ) : Type 0 where
@@ -31,8 +23,8 @@ pub record Whole (b : List ℕ) : Type 0 where
 
 pub whole→ : (b : List ℕ) → leb 4 (length b) && (leb 4 (wordAt b 0) && leb (wordAt b 0) (length b)) ≡ true → Whole b
 whole→ b e =
-    let (h, k) = both _ _ e in
-    let (l, m) = both _ _ k in
+    let (h, k) = and→true _ _ e in
+    let (l, m) = and→true _ _ k in
     record { head = leb-true _ _ h; least = leb-true _ _ l; left = leb-true _ _ m }
 
 -- a head with no fault
@@ -56,8 +48,8 @@ module _ (l : ℕ) where
   pub segment-length : (k : ℕ) → lengthFits k l ≡ true → k ≡ 2 → (17 ≤ l) × (l ≤ 209)
   unfolding lengthFits
   segment-length k h e =
-      let (p, q) = both _ _ (rw e at h) in
-      let (x, y) = both _ _ p in
+      let (p, q) = and→true _ _ (rw e at h) in
+      let (x, y) = and→true _ _ p in
       (leb-true _ _ x, leb-true _ _ y)
 
   pub thread-length : (k : ℕ) → lengthFits k l ≡ true → k ≡ 3 → l ≡ 5

@@ -20,12 +20,12 @@ use Rattle.model.specs.declared.Model.{Model}
 use Rattle.model.specs.declared.Statement.{Statement}
 use Rattle.model.specs.Values.{noStatement, noSegment, noStart, noModel, segmentAt, withHead, withSegment, withStart}
 use Rattle.model.specs.Rules.{unless, headFault, closerFault, opFault, statementsFault, segmentFault}
-use Rattle.model_rules.proofs.FaultLaws.{unless-kept}
+use Rattle.model_rules.proofs.FaultLaws.{unless-kept, unless-zero}
 use Rattle.reader.specs.Word.{wordAt}
 use Rattle.reader.specs.Closer.{closerFrom, closerShapeFault, closerBytesFault}
 use Rattle.reader.specs.Statement.{opFrom, opShapeFault, opBytesFault}
 use Rattle.reader.specs.Record.{follows, lengthFits, statementCount, statementBytes, segmentFrom, segmentBytesFault, bodyFault, withRecord}
-use Rattle.reader_laws.proofs.FrameLaws.{unless-zero, segment-length}
+use Rattle.reader_laws.proofs.FrameLaws.{segment-length}
 
 -- a segment's record without fault gives a segment without fault
 module _ (v e : ℕ) (r : List ℕ) (short : statementCount r ≤ 32) (none : segmentBytesFault v e r ≡ 0) where

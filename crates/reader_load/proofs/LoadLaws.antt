@@ -1,5 +1,5 @@
 -- The exits of `load`, and the marks of what was loaded.
-use Prim.Native.Nat.{ℕ, zero, suc}
+use Prim.Native.Nat.{ℕ}
 use mathlib.Core.Path.{_≡_, refl, sym, subst, ap, _∙_}
 use mathlib.Core.Bool.{Bool, true, false, cond}
 use mathlib.Core.List.{List}
@@ -7,7 +7,7 @@ use native.Mathlib.Omega.{arith}
 use lib.Dec.{eqb}
 use borrow.Author.Tests.{eq-eqb, ne-eqb}
 use Rattle.base.specs.Index.{orElse}
-use Rattle.base.proofs.IndexLaws.{orElse-none, orElse-zero}
+use Rattle.base.proofs.IndexLaws.{orElse-none, orElse-some, orElse-zero}
 use Rattle.model.specs.Refusal.{accepted, shortTable}
 use Rattle.model.specs.Values.{noModel}
 use Rattle.model.specs.Rules.{modelFault, headFault}
@@ -22,12 +22,6 @@ use Rattle.reader_load.specs.Load.{loadNumber, loadOf, loadBuffer, loadM
 
 abbrev pub Loads : List ℕ → List ℕ → Read → List ℕ → Type 0
 Loads bytes ws r us = (r ≡ loadOf bytes ws) × (us ≡ loadBuffer bytes ws)
-
--- the reader's number stands
-orElse-some : (a b : ℕ) → (a ≡ 0 → ⊥) → orElse a b ≡ a
-unfolding orElse
-orElse-some zero b h = absurd (h refl)
-orElse-some (suc a) b h = refl
 
 readOr-some : (n : ℕ) (m : _) → (n ≡ 0 → ⊥) → readOr n m ≡ record { number = n; model = noModel }
 readOr-some n m h = rw (ne-eqb n 0 h) refl

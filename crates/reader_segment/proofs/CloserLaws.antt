@@ -5,7 +5,7 @@ use mathlib.Core.Bool.{Bool, true, false, not}
 use mathlib.Core.List.{List}
 use lib.Dec.{eqb}
 use borrow.Author.Tests.{eq-eqb, ne-eqb}
-use Rattle.model_rules.proofs.SearchLaws.{anyBelow-empty, anyBelow-here}
+use Rattle.base.proofs.IndexLaws.{anyBelow-empty, anyBelow-here}
 use Rattle.reader.specs.Word.{byteAt}
 use Rattle.reader.specs.Closer.{restIsZero}
 

@@ -1,3 +1,4 @@
+pub mod WordLaws
 pub mod CloserLaws
 pub mod StatementLaws
 pub mod SegmentLaws

@@ -3,18 +3,17 @@
 --     statementsFrom-..     the places, filled from the front
 --     statementsBytesFault-..     the first fault among the statements
 --     segmentRecordFault-.., segmentTo-.., segmentIn-fits     the whole record
---     boundOf-.., targetBound-..     the least N that next segments are below
+--     targetBound-..     the least N that next segments are below
 use Prim.Native.Nat.{ℕ, zero, suc, _+_, _-_, _*_, _<_, _≤_}
 use mathlib.Core.Path.{_≡_, refl, sym, ap, _∙_}
 use mathlib.Core.Bool.{Bool, true, false, cond}
 use mathlib.Core.List.{List, [], _∷_, _++_}
 use native.Mathlib.Numerals.{add-one}
 use native.Mathlib.Omega.{arith}
-use borrow.Author.Tests.{lt-ltb, le-ltb}
 use lib.ListN.{length, set, take, drop, replicate, length-drop}
 use lib.Seq.{set-at, append-snoc, take-all}
 use Rattle.base.specs.Index.{tabulate}
-use Rattle.base.proofs.IndexLaws.{firstBelow-none, firstBelow-more, tabulate-length}
+use Rattle.base.proofs.IndexLaws.{firstBelow-none, firstBelow-more, firstBelow-here, tabulate-length, tabulate-more}
 use Rattle.model.specs.declared.Statement.{Statement}
 use Rattle.clock.specs.declared.Delay.{Delay}
 use Rattle.model.specs.declared.Next.{Next}
@@ -22,26 +21,20 @@ use Rattle.model.specs.declared.Closer.{Closer}
 use Rattle.model.specs.declared.Closer.the-variants.{End, Time, Event}
 use Rattle.model.specs.declared.Segment.{Segment}
 use Rattle.model.specs.Values.{noStatement, noSegment}
-use Rattle.model_rules.proofs.SearchLaws.{firstBelow-here}
 use Rattle.model_rules.proofs.FaultLaws.{unless-kept, unless-broken, fault-here, fault-later}
 use Rattle.reader.specs.Closer.{closerFrom, closerBytesFault}
 use Rattle.reader.specs.Statement.{opFrom, opBytesFault}
 use Rattle.reader.specs.Record.{statementCount, statementBytes, segmentFrom, segmentBytesFault}
 use Rattle.reader_laws.proofs.FrameLaws.{segment-length}
 use Rattle.reader_segment.specs.declared.Decoded.{Decoded}
-use Rattle.reader_segment.specs.Parts.{decodedFrom, statementsFrom, statementsBytesFault, fits, countIn, closerIn, mostOf, boundOf, targetBound, segmentRecordFault, segmentIn}
+use Rattle.reader_segment.specs.Parts.{decodedFrom, statementsFrom, statementsBytesFault, fits, countIn, closerIn, boundOf, targetBound, segmentRecordFault, segmentIn}
 
+-- the next place filled
 module _ {A : Type 0} where
-  tabulate-last : (n i : ℕ) (f : ℕ → A) → tabulate (suc n) i f ≡ tabulate n i f ++ (f (i + n) ∷ [])
-  unfolding tabulate
-  tabulate-last zero i f = ap (λ (k : ℕ). f k ∷ []) (omega arith)
-  tabulate-last (suc n) i f = ap (λ (l : List A). f i ∷ l) (tabulate-last n (i + 1) f ∙ ap (λ (k : ℕ). tabulate n (i + 1) f ++ (f k ∷ [])) (omega arith))
-
-  -- the next place filled
   tabulate-set : (n most : ℕ) (f : ℕ → A) (d : A) → n < most → set (tabulate n 0 f ++ replicate (most - n) d) n (f n) ≡ tabulate (suc n) 0 f ++ replicate (most - suc n) d
   tabulate-set n most f d h =
       let e : most - n ≡ suc (most - suc n) = omega arith in
-      rw e (set-at (tabulate n 0 f) d (replicate (most - suc n) d) (f n) n (tabulate-length n 0 f) ∙ sym (ap (λ (l : List A). l ++ replicate (most - suc n) d) (tabulate-last n 0 f ∙ ap (λ (k : ℕ). tabulate n 0 f ++ (f k ∷ [])) (omega arith)) ∙ append-snoc (tabulate n 0 f) (f n) (replicate (most - suc n) d)))
+      rw e (set-at (tabulate n 0 f) d (replicate (most - suc n) d) (f n) n (tabulate-length n 0 f) ∙ sym (ap (λ (l : List A). l ++ replicate (most - suc n) d) (tabulate-more n 0 f ∙ ap (λ (k : ℕ). tabulate n 0 f ++ (f k ∷ [])) (omega arith)) ∙ append-snoc (tabulate n 0 f) (f n) (replicate (most - suc n) d)))
 
 -- a part that goes on to the end
 pub part-rest : (r : List ℕ) (at : ℕ) → take (length r - at) (drop at r) ≡ drop at r
@@ -158,15 +151,6 @@ segmentTo-all r = go (fits r)
 pub segmentIn-fits : (r : List ℕ) → fits r ≡ true → segmentIn r ≡ segmentFrom r
 unfolding segmentIn
 segmentIn-fits r f = rw f refl
-
-module _ (x : Next) (a b : ℕ) (is-a : a ≡ x .a) (is-b : b ≡ x .b) where
-  pub boundOf-second : a < b → b + 1 ≡ boundOf x
-  unfolding boundOf mostOf
-  boundOf-second h = rw (add-one, ← is-a, ← is-b, lt-ltb a b h) refl
-
-  pub boundOf-first : b ≤ a → a + 1 ≡ boundOf x
-  unfolding boundOf mostOf
-  boundOf-first h = rw (add-one, ← is-a, ← is-b, le-ltb a b h) refl
 
 module _ (r : List ℕ) (c : Closer) (is : c ≡ closerIn r) where
   pub targetBound-end : c ≡ End → 0 ≡ targetBound (closerIn r)

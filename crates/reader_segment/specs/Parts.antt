@@ -1,8 +1,7 @@
 -- A segment's record by itself: what its bytes say where its length fits.
-use Prim.Native.Nat.{ℕ, suc, _-_}
+use Prim.Native.Nat.{ℕ, suc, _-_, max}
 use mathlib.Core.Bool.{Bool, cond}
 use mathlib.Core.List.{List, _++_}
-use lib.Dec.{ltb}
 use lib.ListN.{length, drop, replicate}
 use Rattle.base.specs.Index.{orElse, firstBelow, tabulate}
 use Rattle.model.specs.declared.Next.{Next}
@@ -48,13 +47,9 @@ countIn r = cond (fits r) (statementCount r) 0
 unfoldable pub closerIn : List ℕ → Closer
 closerIn r = cond (fits r) (closerFrom (drop 4 r)) End
 
--- the greater of two numbers
-unfoldable pub mostOf : ℕ → ℕ → ℕ
-mostOf a b = cond (ltb a b) b a
-
 -- one more than the greater of two next segments
-unfoldable pub boundOf : Next → ℕ
-boundOf x = suc (mostOf (x .a) (x .b))
+abbrev pub boundOf : Next → ℕ
+boundOf x = suc (max (x .a) (x .b))
 
 -- the least N that a closer's next segments are below: "next .. segment not below N"
 unfoldable pub targetBound : Closer → ℕ

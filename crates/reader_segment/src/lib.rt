@@ -8,7 +8,6 @@ use model::Statement;
 ghost use mathlib.Core.Path.{_≡_};
 ghost use Prim.Native.Nat.{_+_, _≤_, _<_};
 ghost use lib.ListN.{length};
-ghost use Rattle.model.specs.Rules.{unless};
 ghost use Rattle.reader.specs.Word.{wordAt, longAt};
 ghost use Rattle.reader.specs.Closer.{nextFrom, closerFrom, restIsZero, closerShapeFault, closerBytesFault};
 ghost use Rattle.reader.specs.Statement.{opBytesFault};
@@ -31,19 +30,30 @@ fn small(x: usize) -> u8
     x as u8
 }
 
-// Document 01: "Little-endian."
-fn word_at(s: &[u8], at: usize) -> u32
-    requires { ⌜ at + 2 ≤ length (now s) ⌝ }
+// Document 01: "Little-endian." Past the end bytes count as 0.
+pub fn word_at(s: &[u8], at: usize) -> u32
     ensures { λ r. ⌜ (r ≡ wordAt (now (s .entry)) at) × (r < 65536) ⌝ }
 {
+    if at >= s.len() {
+        return 0;
+    }
+    if s.len() - at == 1 {
+        return wide(s[at]);
+    }
     wide(s[at]) + wide(s[at + 1]) * 256
 }
 
-fn long_at(s: &[u8], at: usize) -> u32
-    requires { ⌜ at + 4 ≤ length (now s) ⌝ }
+pub fn long_at(s: &[u8], at: usize) -> u32
     ensures { λ r. ⌜ r ≡ longAt (now (s .entry)) at ⌝ }
 {
-    word_at(s, at) + word_at(s, at + 2) * 65536
+    let low = word_at(s, at);
+    if at >= s.len() {
+        return low;
+    }
+    if s.len() - at <= 2 {
+        return low;
+    }
+    low + word_at(s, at + 2) * 65536
 }
 
 // Document 01: "Bytes 6 and 7 are next segments A and B. Byte 8 is a test variable, or 255 for none. Bytes 9 to 12 are a limit."
@@ -87,15 +97,6 @@ fn rest_is_zero(s: &[u8]) -> bool
     true
 }
 
-fn unless_kept(kept: bool, number: u8) -> u8
-    ensures { λ r. ⌜ r ≡ unless kept number ⌝ }
-{
-    if kept {
-        return 0;
-    }
-    number
-}
-
 // 5 where the bytes break a rule that a declared closer cannot.
 fn closer_shape_fault(s: &[u8]) -> u8
     requires { ⌜ 13 ≤ length (now s) ⌝ }
@@ -103,9 +104,9 @@ fn closer_shape_fault(s: &[u8]) -> u8
 {
     let kind = s[0];
     match kind {
-        0 => unless_kept(rest_is_zero(s), 5),
-        1 => unless_kept(s[1] == 0, 5),
-        2 => unless_kept(long_at(s, 2) == 0, 5),
+        0 => model_rules::unless(rest_is_zero(s), 5),
+        1 => model_rules::unless(s[1] == 0, 5),
+        2 => model_rules::unless(long_at(s, 2) == 0, 5),
         3..=255 => 5,
     }
 }
@@ -136,7 +137,7 @@ fn decode(s: &[u8]) -> Decoded
         3 => Decoded(0, Op::Copy(a, b)),
         4 => Decoded(0, Op::AddVariable(a, b)),
         5 => Decoded(0, Op::SubVariable(a, b)),
-        6 => Decoded(unless_kept(b == 0, 6), Op::Notify(a)),
+        6 => Decoded(model_rules::unless(b == 0, 6), Op::Notify(a)),
         0 | 7..=255 => Decoded(6, Op::Notify(a)),
     }
 }

@@ -6,7 +6,7 @@ use mathlib.Core.Bool.{false}
 use native.Mathlib.Omega.{arith}
 use borrow.Author.Needs.{needs}
 use Rattle.base.specs.Index.{anyBelow}
-use Rattle.model_rules.proofs.SearchLaws.{anyBelow-here}
+use Rattle.base.proofs.IndexLaws.{anyBelow-here}
 use Rattle.early_limits.specs.Limit.{atMost}
 use Rattle.early_ahead.specs.Store.{threatAt}
 use Rattle.early_ahead.proofs.LengthLaws.{limits-length}

@@ -12,6 +12,9 @@ enum-told c = search needs
 enum-known-closer : tie.Need-enum-known-closer
 enum-known-closer c = search needs
 
+cast-next-fault : tie.Need-cast-next-fault
+cast-next-fault c = search needs
+
 next-fault-requires : tie.Need-next-fault-requires
 next-fault-requires c κs = search needs
 
@@ -39,6 +42,7 @@ closer-fault-spec =
     (tie.spec
     enum-told
     enum-known-closer
+    cast-next-fault
     next-fault-requires
     enum-known-closer-2
     next-fault-requires-2

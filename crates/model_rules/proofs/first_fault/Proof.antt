@@ -5,11 +5,10 @@ use native.Mathlib.Numerals.{add-one}
 use native.Mathlib.Omega.{arith}
 use borrow.Author.Needs.{needs}
 use Rattle.base.specs.Index.{firstBelow}
-use Rattle.base.proofs.IndexLaws.{firstBelow-none, firstBelow-more}
+use Rattle.base.proofs.IndexLaws.{firstBelow-none, firstBelow-more, firstBelow-here}
 use Rattle.model_effect.proofs.LengthLaws.{segments-length}
 use Rattle.model_rules.specs.Asked.{placesUsed, faultAt}
-use Rattle.model_rules.proofs.SearchLaws.{firstBelow-here}
-use Rattle.model_rules.proofs.FaultLaws.{faultAt-read, placesUsed-within, first-rest}
+use Rattle.model_rules.proofs.FaultLaws.{faultAt-read, first-rest}
 use Rattle.model_rules.proofs.first_fault.Statement.{statement}
 use Rattle.model_rules.proofs.first_fault.Tie as tie
 
@@ -23,7 +22,7 @@ places-used-requires : tie.Need-places-used-requires Inv-loop μ-loop
 places-used-requires c κs = search needs
 
 loop-holds : tie.Need-loop-holds Inv-loop μ-loop
-loop-holds c = (omega arith, rw (c .places-used .ensures) (placesUsed-within _ .1), c .places-used .ensures, firstBelow-none _)
+loop-holds c = (omega arith, omega (arith, c .places-used .ensures), c .places-used .ensures, firstBelow-none _)
 
 mul-g : tie.Need-mul-g Inv-loop μ-loop
 mul-g c = omega arith
@@ -39,7 +38,7 @@ returns c =
     let l = c .before .before .before .before in
     let m = l .before .before .args .t1 in
     let here = faultAt-read m (l .loop .i) _ _ _ (omega arith) (segments-length m _ (l .before .before .good .0)) (c .before .fault-of .ensures) in
-    here ∙ sym (firstBelow-here (l .loop .i) _ _ (omega (arith, placesUsed-within (m .n) .0)) (l .loop .inv .3) (λ z. c .if1 .taken (here ∙ z)))
+    here ∙ sym (firstBelow-here (l .loop .i) _ _ (omega arith) (l .loop .inv .3) (λ z. c .if1 .taken (here ∙ z)))
 
 add-i : tie.Need-add-i Inv-loop μ-loop
 add-i c = omega arith

@@ -18,11 +18,11 @@ shared-slice-read-head-fault-2 c = omega (arith, c .before .before .before .befo
 head-fault-requires : tie.Need-head-fault-requires
 head-fault-requires c κs = search needs
 
-unless-kept-requires : tie.Need-unless-kept-requires
-unless-kept-requires c κs = search needs
+unless-requires : tie.Need-unless-requires
+unless-requires c κs = search needs
 
-unless-kept-requires-2 : tie.Need-unless-kept-requires-2
-unless-kept-requires-2 c κs = search needs
+unless-requires-2 : tie.Need-unless-requires-2
+unless-requires-2 c κs = search needs
 
 returns : tie.Need-returns
 unfolding countFault
@@ -30,15 +30,15 @@ returns c = rw (c .before .before .before .before .match .keys1, ← c .before .
 
 returns-2 : tie.Need-returns-2
 unfolding countFault
-returns-2 c = rw (c .before .before .match .keys2) (c .unless-kept .ensures)
+returns-2 c = rw (c .before .before .match .keys2) (c .unless .ensures)
 
 returns-3 : tie.Need-returns-3
 unfolding countFault
-returns-3 c = rw (c .before .before .match .keys3) (c .unless-kept2 .ensures)
+returns-3 c = rw (c .before .before .match .keys3) (c .unless2 .ensures)
 
 returns-4 : tie.Need-returns-4
 unfolding countFault
 returns-4 c = simp (ne-eqb _ 1 (c .match .rest .0 .0 .1), ne-eqb _ 2 (c .match .rest .0 .1), ne-eqb _ 3 (c .match .rest .1))
 
 pub count-fault-spec : {M : Type 1} → statement M
-count-fault-spec = tie.close (tie.spec horizon-at-requires shared-slice-read-head-fault shared-slice-read-head-fault-2 head-fault-requires unless-kept-requires unless-kept-requires-2 returns returns-2 returns-3 returns-4)
+count-fault-spec = tie.close (tie.spec horizon-at-requires shared-slice-read-head-fault shared-slice-read-head-fault-2 head-fault-requires unless-requires unless-requires-2 returns returns-2 returns-3 returns-4)

@@ -3,7 +3,7 @@ use mathlib.Core.Path.{_∙_, sym}
 use native.Mathlib.Omega.{arith}
 use borrow.Author.Needs.{needs}
 use borrow.Author.Tests.{not-true, not-false}
-use Rattle.reader_file.proofs.RecordLaws.{isWhole→Whole, framingFault-short, framingFault-kind, framingFault-length, framingFault-none}
+use Rattle.reader_file.proofs.RecordLaws.{framingFault-short, framingFault-kind, framingFault-length, framingFault-none}
 use Rattle.reader_file.proofs.framing_fault.Statement.{statement}
 use Rattle.reader_file.proofs.framing_fault.Tie as tie
 
@@ -14,7 +14,7 @@ returns : tie.Need-returns
 returns c = framingFault-short _ _ (sym (c .before .is-whole .ensures) ∙ not-true _ (c .if1 .taken))
 
 word-at-requires : tie.Need-word-at-requires
-word-at-requires c κs = let w = isWhole→Whole _ (sym (c .before .is-whole .ensures) ∙ not-false _ (c .if1 .left)) in w .head
+word-at-requires c κs = search needs
 
 comes-after-requires : tie.Need-comes-after-requires
 comes-after-requires c κs = search needs
@@ -24,7 +24,7 @@ returns-2 c = framingFault-kind _ _ _ (c .before .before .word-at .ensures .0) (
     (sym (c .before .comes-after .ensures) ∙ not-true _ (c .if2 .taken))
 
 word-at-requires-2 : tie.Need-word-at-requires-2
-word-at-requires-2 c κs = let w = isWhole→Whole _ (sym (c .before .before .before .before .is-whole .ensures) ∙ not-false _ (c .before .before .before .if1 .left)) in omega (arith, w .head)
+word-at-requires-2 c κs = search needs
 
 length-fits-requires : tie.Need-length-fits-requires
 length-fits-requires c κs = search needs

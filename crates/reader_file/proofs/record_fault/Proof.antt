@@ -3,13 +3,12 @@ use mathlib.Core.Path.{sym, _∙_}
 use native.Mathlib.Omega.{arith}
 use borrow.Author.Needs.{needs}
 use denote.Ref.{now}
-use Rattle.reader_laws.proofs.FrameLaws.{framed}
 use Rattle.reader_file.proofs.RecordLaws.{Opened, opened-length, opened-head}
 use Rattle.reader_file.proofs.BodyLaws.{recordFault-framing, recordFault-count, recordFault-other, recordFault-segment}
 use Rattle.reader_file.proofs.record_fault.Statement.{statement}
 use Rattle.reader_file.proofs.record_fault.Tie as tie
 
-opened : (c : tie.After-r) → Opened (c .before .before .before .before .before .before .before .args .last) (now (c .before .before .before .before .before .before .before .args .b)) (c .before .before .size-of .result) (c .before .word-at2 .result)
+opened : (c : tie.After-r) → let a = c .before .before .before .before .before .before .before .args in Opened (a .last) (now (a .b)) (c .before .before .size-of .result) (c .before .word-at2 .result)
 opened c = record {
   none = sym (c .before .before .before .before .before .framing-fault .ensures) ∙ c .before .before .before .before .if1 .left;
   is-size = c .before .before .size-of .ensures ∙ c .before .before .before .word-at .ensures .0;
@@ -23,13 +22,13 @@ returns : tie.Need-returns
 returns c = recordFault-framing _ _ _ _ (c .before .framing-fault .ensures) (c .if1 .taken)
 
 word-at-requires : tie.Need-word-at-requires
-word-at-requires c κs = omega (arith, framed _ _ (sym (c .before .framing-fault .ensures) ∙ c .if1 .left) .whole .head)
+word-at-requires c κs = search needs
 
 size-of-requires : tie.Need-size-of-requires
 size-of-requires c κs = search needs
 
 word-at-requires-2 : tie.Need-word-at-requires-2
-word-at-requires-2 c κs = framed _ _ (sym (c .before .before .before .framing-fault .ensures) ∙ c .before .before .if1 .left) .whole .head
+word-at-requires-2 c κs = search needs
 
 slice-aggregate-r : tie.Need-slice-aggregate-r
 slice-aggregate-r c = sym (opened-length (opened c))

@@ -11,32 +11,32 @@ shared-slice-read-kind c = search needs
 rest-is-zero-requires : tie.Need-rest-is-zero-requires
 rest-is-zero-requires c κs = search needs
 
-unless-kept-requires : tie.Need-unless-kept-requires
-unless-kept-requires c κs = search needs
+unless-requires : tie.Need-unless-requires
+unless-requires c κs = search needs
 
-shared-slice-read-unless-kept : tie.Need-shared-slice-read-unless-kept
-shared-slice-read-unless-kept c = search needs
+shared-slice-read-unless : tie.Need-shared-slice-read-unless
+shared-slice-read-unless c = search needs
 
-unless-kept-requires-2 : tie.Need-unless-kept-requires-2
-unless-kept-requires-2 c κs = search needs
+unless-requires-2 : tie.Need-unless-requires-2
+unless-requires-2 c κs = search needs
 
 long-at-requires : tie.Need-long-at-requires
 long-at-requires c κs = search needs
 
-unless-kept-requires-3 : tie.Need-unless-kept-requires-3
-unless-kept-requires-3 c κs = search needs
+unless-requires-3 : tie.Need-unless-requires-3
+unless-requires-3 c κs = search needs
 
 returns : tie.Need-returns
 unfolding closerShapeFault
-returns c = rw (c .before .before .match .keys1, ← c .before .rest-is-zero .ensures) (c .unless-kept .ensures)
+returns c = rw (c .before .before .match .keys1, ← c .before .rest-is-zero .ensures) (c .unless .ensures)
 
 returns-2 : tie.Need-returns-2
 unfolding closerShapeFault
-returns-2 c = rw (c .before .before .match .keys2) (c .unless-kept2 .ensures)
+returns-2 c = rw (c .before .before .match .keys2) (c .unless2 .ensures)
 
 returns-3 : tie.Need-returns-3
 unfolding closerShapeFault
-returns-3 c = rw (c .before .before .match .keys3, ← c .before .long-at .ensures) (c .unless-kept3 .ensures)
+returns-3 c = rw (c .before .before .match .keys3, ← c .before .long-at .ensures) (c .unless3 .ensures)
 
 returns-4 : tie.Need-returns-4
 unfolding closerShapeFault
@@ -48,11 +48,11 @@ closer-shape-fault-spec =
     (tie.spec
     shared-slice-read-kind
     rest-is-zero-requires
-    unless-kept-requires
-    shared-slice-read-unless-kept
-    unless-kept-requires-2
+    unless-requires
+    shared-slice-read-unless
+    unless-requires-2
     long-at-requires
-    unless-kept-requires-3
+    unless-requires-3
     returns
     returns-2
     returns-3
