@@ -13,14 +13,13 @@ use Rattle.clock.specs.declared.Bound.{Bound}
 use Rattle.clock.specs.declared.Bound.the-variants.{Never, At}
 use Rattle.clock.specs.Advance.{leastBelow, _⊕_}
 use Rattle.clock.specs.Order.{Before, _⊑_, _≼_}
-use Rattle.clock.proofs.OrderLaws.{⊑-total, Before→⊑, Before→not-⊑, ⊑-trans, ⊑-Before-trans, ≼-trans}
+use Rattle.clock.proofs.OrderLaws.{At-not-Never, ⊑-total, Before→⊑, Before→not-⊑, ⊑-trans, ⊑-Before-trans, ≼-trans}
 use Rattle.clock.proofs.LeastLaws.{leastBelow-≼, leastBelow-one}
 use Rattle.clock.proofs.AdvanceLaws.{⊕-inflate}
 use Rattle.model.specs.declared.Model.{Model}
 use Rattle.model.specs.declared.Thread.{Thread}
 use Rattle.model.specs.Record as view
 use Rattle.model.specs.Record.{threadAt, isLive, Awaited, nothing, awaits, awaitedBy, awaitedOf, View, viewOf}
-use Rattle.tables_laws.proofs.PathLaws.{At-not-Never}
 use Rattle.plain.specs.Wake.{floorOf}
 use Rattle.plain.specs.History.{Item}
 use Rattle.tables.specs.Word.{distanceIn}

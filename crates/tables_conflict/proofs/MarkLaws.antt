@@ -1,6 +1,7 @@
 -- The marks that the code makes are those of `marksOf`, for a model that keeps the file rules.
 use Prim.Native.Nat.{ℕ, _≤_, _<_}
 use mathlib.Core.Path.{_≡_, refl, ap, sym, _∙_}
+use mathlib.Core.Logic.{inr}
 use mathlib.Core.Bool.{Bool, false, _&&_, _||_}
 use mathlib.Core.List.{List, []}
 use native.Mathlib.Omega.{arith}
@@ -11,26 +12,19 @@ use lib.ListN.{length, getD, replicate, length-replicate, getD-replicate}
 use lib.Seq.{ext-getD}
 use borrow.Author.Tests.{lt-ltb, le-ltb}
 use Rattle.base.specs.Index.{anyBelow, tabulate}
-use Rattle.base.proofs.BoolLaws.{and→both}
-use Rattle.base.proofs.IndexLaws.{anyBelow-some, anyBelow-found, tabulate-at, tabulate-length}
+use Rattle.base.proofs.BoolLaws.{T-same, and→both}
+use Rattle.base.proofs.IndexLaws.{anyBelow-some, anyBelow-found, tabulate-at, tabulate-length, tabulate-is, storeTo-none, storeTo-length, storeTo-other, storeTo-at}
 use Rattle.model.specs.declared.Model.{Model}
 use Rattle.model.specs.Values.{segmentAt}
 use Rattle.model.specs.Footprint.{writesOf, usesOf}
 use Rattle.model.specs.Rules.{modelFault}
 use Rattle.model_rules.proofs.RuleLaws.{modelFault-counts, modelFault-segment, segmentFault-uses}
 use Rattle.tables.specs.Conflict.{conflict, mark, marksOf, noMarks}
-use Rattle.tables.specs.Outcome.{ifHeld, conflictMarks}
+use Rattle.tables.specs.Outcome.{ifHeld, conflictNumber, conflictMarks}
 use Rattle.tables.proofs.OutcomeLaws.{ifHeld-yes, ifHeld-no, conflict-unfit, conflict-held}
-use Rattle.tables_laws.proofs.ConflictLaws.{T-same}
 use Rattle.tables_conflict.specs.declared.Masks.{Masks}
 use Rattle.tables_conflict.specs.Mask.{masks, masksOf, clash, masksFor, rowTo, rowsTo}
-use Rattle.tables_conflict.proofs.MaskLaws.{masksOf-bits, masksOf-lt, clash-bits, fillTo-length, fillTo-past, fillTo-at, rowsTo-none}
-
--- a row filled by an index, from its elements
-row-of : (xs : List Bool) (f : ℕ → Bool) → length xs ≡ 64 → ((s : ℕ) → s < 64 → getD xs s false ≡ f s) → xs ≡ tabulate 64 0 f
-row-of xs f e h =
-    ext-getD false xs (tabulate 64 0 f) (e ∙ sym (tabulate-length 64 0 f))
-    (λ s l. let l′ : s < 64 = omega arith in h s l′ ∙ sym (tabulate-at 64 0 s f false l′ ∙ ap f (zero-add s)))
+use Rattle.tables_conflict.proofs.MaskLaws.{masksOf-bits, masksOf-lt, clash-bits}
 
 -- the statements of each segment have places
 abbrev pub Placed : Model → ℕ → Type 0
@@ -79,11 +73,11 @@ module _ (m : Model) (fit : modelFault m ≡ 0) (placed : Placed m (m .n)) where
   all-at : (r : ℕ) → r < m .n → getD all r (masks 0 0) ≡ masksOf (segmentAt m r)
   unfolding all masksFor
   all-at r h =
-      fillTo-at (λ i. masksOf (segmentAt m i)) (replicate 64 (masks 0 0)) (masks 0 0) (m .n) r h (omega (arith, few, length-replicate 64 (masks 0 0)))
+      storeTo-at _ 0 (replicate 64 (masks 0 0)) (masks 0 0) (λ i. masksOf (segmentAt m i)) (m .n) r r (omega arith) (λ j l. refl) h (omega (arith, few, length-replicate 64 (masks 0 0)))
 
   row-marks : (r : ℕ) → r < m .n → rowTo all r (m .n) ≡ tabulate 64 0 (λ s. mark m r s)
   unfolding rowTo
-  row-marks r h = row-of (rowTo all r (m .n)) (λ s. mark m r s) (fillTo-length f base (m .n)) (λ s l. go s l (decLt s (m .n)))
+  row-marks r h = tabulate-is false (rowTo all r (m .n)) 64 (λ s. mark m r s) (storeTo-length _ 0 base (m .n)) (λ s l. go s l (decLt s (m .n)))
     where
       f : ℕ → Bool
       f s = clash (getD all r (masks 0 0)) (getD all s (masks 0 0))
@@ -92,17 +86,17 @@ module _ (m : Model) (fit : modelFault m ≡ 0) (placed : Placed m (m .n)) where
       base = replicate 64 false
 
       go : (s : ℕ) → s < 64 → Dec (s < m .n) → getD (rowTo all r (m .n)) s false ≡ mark m r s
-      go s l (yes k) = fillTo-at f base false (m .n) s k few ∙ rw (all-at r h, all-at s k) (clash-conflict r s h k)
+      go s l (yes k) = storeTo-at _ 0 base false f (m .n) s s (omega arith) (λ j l. refl) k (omega (arith, few)) ∙ rw (all-at r h, all-at s k) (clash-conflict r s h k)
       go s l (no k) =
           let k′ : m .n ≤ s = omega arith in
-          fillTo-past f base false (m .n) s k′ ∙ (getD-replicate 64 s false false l ∙ sym (mark-past-column r s h k′))
+          storeTo-other _ 0 base false (m .n) s (inr (omega arith)) ∙ (getD-replicate 64 s false false l ∙ sym (mark-past-column r s h k′))
 
   pub rowsTo-marksOf : rowsTo (masksFor m (m .n)) (m .n) (m .n) ≡ marksOf m
   unfolding rowsTo marksOf all
   rowsTo-marksOf =
       ext-getD [] (rowsTo all (m .n) (m .n)) (marksOf m)
-      (fillTo-length f noMarks (m .n) ∙ sym (tabulate-length 64 0 (λ r. tabulate 64 0 (λ s. mark m r s))))
-      (λ r h. go r (omega (arith, fillTo-length f noMarks (m .n), length-replicate 64 (replicate 64 false))) (decLt r (m .n)))
+      (storeTo-length _ 0 noMarks (m .n) ∙ sym (tabulate-length 64 0 (λ r. tabulate 64 0 (λ s. mark m r s))))
+      (λ r h. go r (omega (arith, storeTo-length (λ r xs. f r) 0 noMarks (m .n), length-replicate 64 (replicate 64 false))) (decLt r (m .n)))
     where
       f : ℕ → List Bool
       f r = rowTo all r (m .n)
@@ -111,12 +105,16 @@ module _ (m : Model) (fit : modelFault m ≡ 0) (placed : Placed m (m .n)) where
       row r h = tabulate-at 64 0 r (λ r. tabulate 64 0 (λ s. mark m r s)) [] h ∙ ap (λ (x : ℕ). tabulate 64 0 (λ s. mark m x s)) (zero-add r)
 
       go : (r : ℕ) → r < 64 → Dec (r < m .n) → getD (rowsTo all (m .n) (m .n)) r [] ≡ getD (marksOf m) r []
-      go r h (yes k) = fillTo-at f noMarks [] (m .n) r k few ∙ (row-marks r k ∙ sym (row r h))
+      go r h (yes k) = storeTo-at _ 0 noMarks [] f (m .n) r r (omega arith) (λ j l. refl) k (omega (arith, few)) ∙ (row-marks r k ∙ sym (row r h))
       go r h (no k) =
           let k′ : m .n ≤ r = omega arith in
-          fillTo-past f noMarks [] (m .n) r k′
+          storeTo-other _ 0 noMarks [] (m .n) r (inr (omega arith))
           ∙ (getD-replicate 64 r (replicate 64 false) [] h
-          ∙ (row-of (replicate 64 false) (λ s. mark m r s) refl (λ s l. getD-replicate 64 s false false l ∙ sym (mark-past-row r s k′)) ∙ sym (row r h)))
+          ∙ (tabulate-is false (replicate 64 false) 64 (λ s. mark m r s) refl (λ s l. getD-replicate 64 s false false l ∙ sym (mark-past-row r s k′)) ∙ sym (row r h)))
+
+rowsTo-none : (ms : List Masks) (n : ℕ) → noMarks ≡ rowsTo ms n 0
+unfolding rowsTo
+rowsTo-none ms n = storeTo-none _ 0 noMarks
 
 -- for the code: n is N where the model keeps the file rules, else 0
 module _ (m : Model) (n : ℕ) (count : n ≡ ifHeld m (m .n) 0) where
@@ -134,6 +132,14 @@ module _ (m : Model) (n : ℕ) (count : n ≡ ifHeld m (m .n) 0) where
           let d = held-all fit in
           (rw d at (rw e at f)) ∙ (rowsTo-marksOf m fit (rw d at placed) ∙ conflict-held m fit .1)
       go (no other) = (rw (held-none other) at f) ∙ (sym (rowsTo-none ms 0) ∙ conflict-unfit m other .1)
+
+-- a number of 0 is a model that keeps the file rules
+pub numbered-held : (m : Model) (r : ℕ) → r ≡ conflictNumber m → r ≡ 0 → modelFault m ≡ 0
+numbered-held m r number none = go (ℕ-discrete (modelFault m) 0)
+  where
+    go : Dec (modelFault m ≡ 0) → modelFault m ≡ 0
+    go (yes fit) = fit
+    go (no other) = absurd (omega (arith, conflict-unfit m other .0))
 
 pub held-below : (m : Model) (n i : ℕ) → n ≡ ifHeld m (m .n) 0 → i < n → (modelFault m ≡ 0) × (n ≡ m .n)
 held-below m n i count l = go (ℕ-discrete (modelFault m) 0)

@@ -2,8 +2,8 @@
 use Prim.Native.Nat.{ℕ, zero, suc, _+_, _-_, _*_, _/_, _%_, _^_, _≤_, _<_, min, max}
 use mathlib.Core.Path.{_≡_, refl, ap, ap₂, sym, _∙_}
 use mathlib.Core.Logic.{_⊎_, inl, inr}
-use mathlib.Core.Bool.{Bool, true, false, not, _&&_, _||_}
-use mathlib.Core.List.{List, [], _∷_, _++_}
+use mathlib.Core.Bool.{Bool, true, false, not, _&&_, _||_, or-false, or-self, or-self-left}
+use mathlib.Core.List.{List}
 use native.Mathlib.Omega.{arith}
 use native.Mathlib.Numerals.{add-one}
 use native.Mathlib.Nat.{mod-eq-of-lt, one-mul, zero-div, div-eq-of-lt, div-self, mul-div-left, mul-mod-left, div-div-eq-div-mul, pow-suc, pow-succ'}
@@ -11,11 +11,10 @@ use native.Mathlib.Decide.{decLt, ℕ-discrete}
 use lib.Bits.{bitAnd, bitOr, and-step, or-step, and-shr, or-shr, or-lt, and-le-l}
 use lib.Dec.{T, eqb, eqb→eq, T-not, not-T}
 use lib.Pow.{pow-lt, pow-pos, pow-add}
-use lib.ListN.{length, getD, set, take, replicate, length-set}
-use lib.Seq.{take-suc, getD-set-same, getD-set-other}
+use lib.ListN.{length, getD, take}
 use borrow.Author.Tests.{lt-ltb, le-ltb, eq-eqb, ne-eqb}
 use Rattle.base.specs.Index.{anyBelow}
-use Rattle.base.proofs.BoolLaws.{T-case, T→false, eq→eqb, false→T}
+use Rattle.base.proofs.BoolLaws.{T-case, T→false, T-same, eq→eqb, false→T}
 use Rattle.base.proofs.IndexLaws.{anyBelow-some, anyBelow-none}
 use Rattle.base.proofs.ListLaws.{getD-any}
 use Rattle.model.specs.declared.Op.{Op}
@@ -24,13 +23,11 @@ use Rattle.model.specs.declared.Statement.{Statement}
 use Rattle.model.specs.declared.Closer.{Closer}
 use Rattle.model.specs.declared.Closer.the-variants.{End, Time, Event}
 use Rattle.model.specs.declared.Segment.{Segment}
-use Rattle.model.specs.declared.Model.{Model}
-use Rattle.model.specs.Values.{noStatement, segmentAt, bodyOf}
+use Rattle.model.specs.Values.{noStatement, bodyOf}
 use Rattle.model.specs.Footprint.{writesOp, readsOp, writes, reads, tests, testsNext, writesOf, usesOf}
-use Rattle.tables.specs.Conflict.{noMarks}
-use Rattle.tables_laws.proofs.ConflictLaws.{T-same}
+use Rattle.model_effect.proofs.FootprintLaws.{asks-more, writes-asks, reads-asks}
 use Rattle.tables_conflict.specs.declared.Masks.{Masks}
-use Rattle.tables_conflict.specs.Mask.{masks, bitOf, opMasks, testMask, joinMasks, masksTo, masksOf, clash, fillTo, masksFor, rowTo, rowsTo}
+use Rattle.tables_conflict.specs.Mask.{masks, bitOf, opMasks, testMask, joinMasks, masksTo, masksOf, clash}
 
 -- exits
 
@@ -151,18 +148,6 @@ two-bits a b =
 Bits-same : {a : Masks} {f g i j : ℕ → Bool} → ((v : ℕ) → f v ≡ i v) → ((v : ℕ) → g v ≡ j v) → Bits a f g → Bits a i j
 Bits-same p q b = record { writes-bits = λ v h. b .writes-bits v h ∙ p v; uses-bits = λ v h. b .uses-bits v h ∙ q v }
 
-or-none : (a : Bool) → (a || false) ≡ a
-or-none true = refl
-or-none false = refl
-
-or-assoc : (a b c : Bool) → ((a || b) || c) ≡ (a || (b || c))
-or-assoc true b c = refl
-or-assoc false b c = refl
-
-or-again : (a b : Bool) → (a || b) ≡ (a || (a || b))
-or-again true b = refl
-or-again false b = refl
-
 or-swap : (a b c d : Bool) → ((a || b) || (c || d)) ≡ ((a || c) || (b || d))
 or-swap true b c d = refl
 or-swap false true true d = refl
@@ -171,15 +156,11 @@ or-swap false false c d = refl
 
 pub opMasks-bits : (o : Op) → Bits (opMasks o) (writesOp o) (λ v. writesOp o v || readsOp o v)
 unfolding opMasks
-opMasks-bits (Set a b) = Bits-same (λ v. refl) (λ v. sym (or-none (eqb a v))) (own-bit a)
-opMasks-bits (Add a b) = Bits-same (λ v. refl) (λ v. own v (eqb a v)) (own-bit a)
-  where
-    own : (v : ℕ) (x : Bool) → x ≡ (x || x)
-    own v true = refl
-    own v false = refl
+opMasks-bits (Set a b) = Bits-same (λ v. refl) (λ v. sym (or-false (eqb a v))) (own-bit a)
+opMasks-bits (Add a b) = Bits-same (λ v. refl) (λ v. sym (or-self (eqb a v))) (own-bit a)
 opMasks-bits (Copy a b) = two-bits a b
-opMasks-bits (AddVariable a b) = Bits-same (λ v. refl) (λ v. or-again (eqb a v) (eqb b v)) (two-bits a b)
-opMasks-bits (SubVariable a b) = Bits-same (λ v. refl) (λ v. or-again (eqb a v) (eqb b v)) (two-bits a b)
+opMasks-bits (AddVariable a b) = Bits-same (λ v. refl) (λ v. sym (or-self-left (eqb a v) (eqb b v))) (two-bits a b)
+opMasks-bits (SubVariable a b) = Bits-same (λ v. refl) (λ v. sym (or-self-left (eqb a v) (eqb b v))) (two-bits a b)
 opMasks-bits (Notify w) = no-bits
 
 pub joinMasks-bits : {a b : Masks} {f g i j : ℕ → Bool} → Bits a f g → Bits b i j → Bits (joinMasks a b) (λ v. f v || i v) (λ v. g v || j v)
@@ -192,35 +173,13 @@ joinMasks-bits {a} {b} p q =
 
 -- the statements
 
-writes-append : (xs ys : List Statement) (v : ℕ) → writes (xs ++ ys) v ≡ (writes xs v || writes ys v)
-unfolding writes
-writes-append [] ys v = refl
-writes-append (x ∷ xs) ys v = ap (λ (b : Bool). writesOp (x .op) v || b) (writes-append xs ys v) ∙ sym (or-assoc (writesOp (x .op) v) (writes xs v) (writes ys v))
-
-reads-append : (xs ys : List Statement) (v : ℕ) → reads (xs ++ ys) v ≡ (reads xs v || reads ys v)
-unfolding reads
-reads-append [] ys v = refl
-reads-append (x ∷ xs) ys v = ap (λ (b : Bool). readsOp (x .op) v || b) (reads-append xs ys v) ∙ sym (or-assoc (readsOp (x .op) v) (reads xs v) (reads ys v))
-
-writes-more : (xs : List Statement) (j v : ℕ) → j < length xs → (writes (take j xs) v || writesOp (getD xs j noStatement .op) v) ≡ writes (take (suc j) xs) v
-unfolding writes
-writes-more xs j v h =
-    ap (λ (b : Bool). writes (take j xs) v || b) (sym (or-none (writesOp (getD xs j noStatement .op) v)))
-    ∙ (sym (writes-append (take j xs) (getD xs j noStatement ∷ []) v) ∙ ap (λ (ys : List Statement). writes ys v) (sym (take-suc xs j noStatement h)))
-
-reads-more : (xs : List Statement) (j v : ℕ) → j < length xs → (reads (take j xs) v || readsOp (getD xs j noStatement .op) v) ≡ reads (take (suc j) xs) v
-unfolding reads
-reads-more xs j v h =
-    ap (λ (b : Bool). reads (take j xs) v || b) (sym (or-none (readsOp (getD xs j noStatement .op) v)))
-    ∙ (sym (reads-append (take j xs) (getD xs j noStatement ∷ []) v) ∙ ap (λ (ys : List Statement). reads ys v) (sym (take-suc xs j noStatement h)))
-
 pub masksTo-bits : (xs : List Statement) (j : ℕ) → j ≤ length xs → Bits (masksTo xs j) (writes (take j xs)) (λ v. writes (take j xs) v || reads (take j xs) v)
 unfolding masksTo writes reads
 masksTo-bits xs zero h = no-bits
 masksTo-bits xs (suc j) h =
-    Bits-same (λ v. writes-more xs j v h)
+    Bits-same (λ v. asks-more (writes-asks v) xs j h)
     (λ v. or-swap (writes (take j xs) v) (reads (take j xs) v) (writesOp (getD xs j noStatement .op) v) (readsOp (getD xs j noStatement .op) v)
-    ∙ ap₂ (λ (x y : Bool). x || y) (writes-more xs j v h) (reads-more xs j v h))
+    ∙ ap₂ (λ (x y : Bool). x || y) (asks-more (writes-asks v) xs j h) (asks-more (reads-asks v) xs j h))
     (joinMasks-bits (masksTo-bits xs j (omega arith)) (opMasks-bits (getD xs j noStatement .op)))
 
 -- "The test variable counts as read."
@@ -314,37 +273,6 @@ clash-bits a b f g i j small p q = T-same (clash a b) (anyBelow 64 h) (λ t. go 
         let (v, l, s) = anyBelow-some 64 h t in
         not-T (eqb w 0) (λ z. T-not (h v) (false→T (h v) (sym (w-bit v l) ∙ (ap (λ (x : ℕ). hasBit x v) (eqb→eq w 0 z) ∙ hasBit-zero v))) s)
 
--- what a loop `a[k] = f(k)` leaves
-
-module _ {A : Type 0} (f : ℕ → A) (base : List A) where
-  pub fillTo-length : (n : ℕ) → length (fillTo f base n) ≡ length base
-  unfolding fillTo
-  fillTo-length zero = refl
-  fillTo-length (suc n) = length-set (fillTo f base n) n (f n) ∙ fillTo-length n
-
-  pub fillTo-past : (d : A) (n k : ℕ) → n ≤ k → getD (fillTo f base n) k d ≡ getD base k d
-  unfolding fillTo
-  fillTo-past d zero k h = refl
-  fillTo-past d (suc n) k h = getD-set-other (fillTo f base n) n k (f n) d (λ e. omega arith) ∙ fillTo-past d n k (omega arith)
-
-  pub fillTo-at : (d : A) (n k : ℕ) → k < n → n ≤ length base → getD (fillTo f base n) k d ≡ f k
-  unfolding fillTo
-  fillTo-at d zero k h l = absurd (omega arith)
-  fillTo-at d (suc n) k h l = go (λ h. fillTo-at d n k h (omega arith)) (ℕ-discrete k n)
-    where
-      go : (k < n → getD (fillTo f base n) k d ≡ f k) → Dec (k ≡ n) → getD (set (fillTo f base n) n (f n)) k d ≡ f k
-      go ih (yes e) = rw e (getD-set-same (fillTo f base n) n (f n) d (omega (arith, fillTo-length n)))
-      go ih (no e) = getD-set-other (fillTo f base n) n k (f n) d e ∙ ih (omega arith)
-
-  -- for the code
-  pub fillTo-none : base ≡ fillTo f base 0
-  unfolding fillTo
-  fillTo-none = refl
-
-  pub fillTo-more : (n : ℕ) (xs : List A) (x : A) → xs ≡ fillTo f base n → x ≡ f n → set xs n x ≡ fillTo f base (n + 1)
-  unfolding fillTo
-  fillTo-more n xs x e g = rw (add-one, e, g) refl
-
 pub masksTo-none : (xs : List Statement) → masks 0 0 ≡ masksTo xs 0
 unfolding masksTo
 masksTo-none xs = refl
@@ -360,28 +288,3 @@ masksTo-more xs j d a o b h e f g =
 pub masksOf-made : (g : Segment) (j t : ℕ) (a : Masks) → j ≡ g .n → a ≡ masksTo (g .statements) j → t ≡ testMask (g .closer) → masks (a .writes) (bitOr (a .uses) t) ≡ masksOf g
 unfolding masksOf
 masksOf-made g j t a e f h = rw (f, h, e) refl
-
-pub masksFor-none : (m : Model) → replicate 64 (masks 0 0) ≡ masksFor m 0
-unfolding masksFor
-masksFor-none m = fillTo-none (λ i. masksOf (segmentAt m i)) (replicate 64 (masks 0 0))
-
-pub masksFor-more : (m : Model) (i : ℕ) (g : Segment) (xs : List Masks) (x : Masks) → xs ≡ masksFor m i → g ≡ segmentAt m i → x ≡ masksOf g → set xs i x ≡ masksFor m (i + 1)
-unfolding masksFor
-masksFor-more m i g xs x e f h = fillTo-more (λ i. masksOf (segmentAt m i)) (replicate 64 (masks 0 0)) i xs x e (h ∙ ap masksOf f)
-
-module _ (ms : List Masks) where
-  pub rowTo-none : (r : ℕ) → replicate 64 false ≡ rowTo ms r 0
-  unfolding rowTo
-  rowTo-none r = fillTo-none _ (replicate 64 false)
-
-  pub rowTo-more : (r s : ℕ) (xs : List Bool) (x : Bool) → xs ≡ rowTo ms r s → x ≡ clash (getD ms r (masks 0 0)) (getD ms s (masks 0 0)) → set xs s x ≡ rowTo ms r (s + 1)
-  unfolding rowTo
-  rowTo-more r s xs x e f = fillTo-more (λ s. clash (getD ms r (masks 0 0)) (getD ms s (masks 0 0))) (replicate 64 false) s xs x e f
-
-  pub rowsTo-none : (n : ℕ) → noMarks ≡ rowsTo ms n 0
-  unfolding rowsTo
-  rowsTo-none n = fillTo-none _ noMarks
-
-  pub rowsTo-more : (n r : ℕ) (xs : List (List Bool)) (x : List Bool) → xs ≡ rowsTo ms n r → x ≡ rowTo ms r n → set xs r x ≡ rowsTo ms n (r + 1)
-  unfolding rowsTo
-  rowsTo-more n r xs x e f = fillTo-more (λ r. rowTo ms r n) noMarks r xs x e f

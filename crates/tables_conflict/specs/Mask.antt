@@ -4,7 +4,8 @@ use mathlib.Core.Bool.{Bool, false, not, cond}
 use mathlib.Core.List.{List}
 use lib.Bits.{bitAnd, bitOr}
 use lib.Dec.{ltb, eqb}
-use lib.ListN.{getD, set, replicate}
+use lib.ListN.{getD, replicate}
+use Rattle.base.specs.Index.{storeTo}
 use Rattle.model.specs.declared.Op.{Op}
 use Rattle.model.specs.declared.Op.the-variants.{Set, Add, Copy, AddVariable, SubVariable, Notify}
 use Rattle.model.specs.declared.Statement.{Statement}
@@ -53,17 +54,12 @@ masksOf g = let a = masksTo (g .statements) (g .n) in masks (a .writes) (bitOr (
 unfoldable pub clash : Masks → Masks → Bool
 clash a b = not (eqb (bitAnd (bitAnd (a .uses) (b .uses)) (bitOr (a .writes) (b .writes))) 0)
 
--- a list whose first n elements are set, one after the other
-unfoldable pub fillTo : {A : Type 0} → (ℕ → A) → List A → ℕ → List A
-fillTo f base zero = base
-fillTo f base (suc n) = set (fillTo f base n) n (f n)
-
 -- the first segments; the first marks of a row; the first rows
 unfoldable pub masksFor : Model → ℕ → List Masks
-masksFor m n = fillTo (λ i. masksOf (segmentAt m i)) (replicate 64 (masks 0 0)) n
+masksFor m n = storeTo (λ i xs. masksOf (segmentAt m i)) 0 (replicate 64 (masks 0 0)) n
 
 unfoldable pub rowTo : List Masks → ℕ → ℕ → List Bool
-rowTo ms r n = fillTo (λ s. clash (getD ms r (masks 0 0)) (getD ms s (masks 0 0))) (replicate 64 false) n
+rowTo ms r n = storeTo (λ s xs. clash (getD ms r (masks 0 0)) (getD ms s (masks 0 0))) 0 (replicate 64 false) n
 
 unfoldable pub rowsTo : List Masks → ℕ → ℕ → List (List Bool)
-rowsTo ms n k = fillTo (λ r. rowTo ms r n) noMarks k
+rowsTo ms n k = storeTo (λ r xs. rowTo ms r n) 0 noMarks k

@@ -160,7 +160,7 @@ pub fn conflict_number(m: Model) -> u8
 fn marked_segments(m: Model) -> usize
     ensures { λ r. ⌜ r ≡ ifHeld m (m .n) 0 ⌝ }
 {
-    if model_rules::model_fault(m) != 0 {
+    if conflict_number(m) != 0 {
         return 0;
     }
     m.n as usize

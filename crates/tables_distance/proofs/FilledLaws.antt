@@ -1,85 +1,43 @@
 -- What the code stores is what `stored` says: row by row the first words, round by round the least over ways with places below k between, then the cut.
-use Prim.Native.Nat.{ℕ, zero, suc, _+_, _*_, _/_, _%_, _≤_, _<_}
+use Prim.Native.Nat.{ℕ, zero, suc, min, _+_, _*_, _/_, _%_, _≤_, _<_}
 use mathlib.Core.Path.{_≡_, refl, ap, ap₂, sym, _∙_}
 use mathlib.Core.Logic.{_⊎_, inl, inr}
 use mathlib.Core.Bool.{cond}
 use mathlib.Core.List.{List}
 use native.Mathlib.Omega.{arith}
 use native.Mathlib.Decide.{decLt, ℕ-discrete}
-use native.Mathlib.Nat.{suc-mul, mul-le-mul-right}
 use lib.Dec.{ltb, nltb→le}
-use lib.ListN.{length, getD, set}
-use lib.Seq.{getD-set-same, getD-set-other, ext-getD}
+use lib.ListN.{length, getD}
+use lib.Seq.{ext-getD}
 use Rattle.base.proofs.BoolLaws.{cond-case}
+use Rattle.base.proofs.IndexLaws.{storeTo-length, storeTo-other, storeTo-at}
 use Rattle.clock.specs.declared.Bound.{Bound}
 use Rattle.clock.specs.Advance.{_⊕_}
 use Rattle.model.specs.declared.Model.{Model}
 use Rattle.model.specs.Values.{segmentAt}
 use Rattle.model.specs.Rules.{modelFault}
 use Rattle.model_rules.proofs.RuleLaws.{modelFault-counts}
-use Rattle.tables_distance.specs.declared.Steps.{Steps}
 use Rattle.tables.specs.Distance.{edge, direct, cut, distanceTable, distanceOf}
 use Rattle.tables.specs.Word.{wordOf, stored}
-use Rattle.tables_distance.specs.Store.{far, lesser, heldWord, sumWord, stepsOf, directWord, directTo, directRows, relaxedTo, roundTo, roundsTo, cutWord, cutTo}
+use Rattle.tables_distance.specs.Store.{far, heldWord, sumWord, stepsOf, directWord, directTo, directRows, relaxedTo, roundTo, roundsTo, cutWord, cutTo}
 use Rattle.tables_laws.proofs.PathLaws.{leastVia, leastVia-row, rounds-leastVia}
 use Rattle.tables_laws.proofs.DeltaLaws.{StepsOnly, leastVia-delta}
 use Rattle.tables_laws.proofs.DistanceLaws.{edge-step}
-use Rattle.tables_laws.proofs.WordLaws.{place-row, place-column, place-split, wordsOf-word, stored-length, stored-at, stored-past}
+use Rattle.tables_laws.proofs.WordLaws.{row-before, row-within, place-row, place-column, place-split, wordsOf-word, stored-length, stored-at, stored-past}
 use Rattle.tables_distance.proofs.HeldLaws.{SmallDelta, heldWord-≤, heldWord-relaxed, heldWord-left, ⊕-delta, cutWord-heldWord, directWord-heldWord}
-use Rattle.tables_distance.proofs.StoreLaws.{row-within, directTo-length, directRows-length, relaxedTo-length, roundTo-length, roundsTo-length, cutTo-length}
-
--- a place before row i, or past it
-rows-apart : (n r i s : ℕ) → r < i → s < n → r * n + s < i * n
-rows-apart n r i s h l = omega (arith, mul-le-mul-right {m = suc r} {n = i} n h, suc-mul r n)
+use Rattle.tables_distance.proofs.StoreLaws.{directRows-length, roundTo-length, roundsTo-length}
 
 -- a place of another row
 other-row : (n r i s : ℕ) → (r ≡ i → ⊥) → s < n → (r * n + s < i * n) ⊎ (i * n + n ≤ r * n + s)
 other-row n r i s other l = go (decLt r i)
   where
     go : Dec (r < i) → (r * n + s < i * n) ⊎ (i * n + n ≤ r * n + s)
-    go (yes h) = inl (rows-apart n r i s h l)
-    go (no h) = let h′ : i < r = omega arith in inr (omega (arith, mul-le-mul-right {m = suc i} {n = r} n h′, suc-mul i n))
+    go (yes h) = inl (omega (arith, row-before n r i h))
+    go (no h) = let h′ : i < r = omega arith in inr (omega (arith, row-before n i r h′))
 
 -- the stores of one row
 
-module _ (g : Steps) (r p : ℕ) (ws : List ℕ) where
-  directTo-other : (s i : ℕ) → (i < p) ⊎ (p + s ≤ i) → getD (directTo g r p ws s) i 0 ≡ getD ws i 0
-  unfolding directTo
-  directTo-other zero i h = refl
-  directTo-other (suc s) i h =
-      getD-set-other (directTo g r p ws s) (p + s) i (directWord g r s) 0 (apart h) ∙ directTo-other s i (before h)
-    where
-      apart : (i < p) ⊎ (p + suc s ≤ i) → i ≡ p + s → ⊥
-      apart (inl l) e = omega arith
-      apart (inr l) e = omega arith
-
-      before : (i < p) ⊎ (p + suc s ≤ i) → (i < p) ⊎ (p + s ≤ i)
-      before (inl l) = inl l
-      before (inr l) = inr (omega arith)
-
-  directTo-at : (s t : ℕ) → t < s → p + s ≤ length ws → getD (directTo g r p ws s) (p + t) 0 ≡ directWord g r t
-  unfolding directTo
-  directTo-at zero t h l = absurd (omega arith)
-  directTo-at (suc s) t h l = go (λ h. directTo-at s t h (omega arith)) (ℕ-discrete t s)
-    where
-      go : (t < s → getD (directTo g r p ws s) (p + t) 0 ≡ directWord g r t) → Dec (t ≡ s) → getD (set (directTo g r p ws s) (p + s) (directWord g r s)) (p + t) 0 ≡ directWord g r t
-      go ih (yes e) = rw e (getD-set-same (directTo g r p ws s) (p + s) (directWord g r s) 0 (omega (arith, directTo-length g r p ws s)))
-      go ih (no e) = getD-set-other (directTo g r p ws s) (p + s) (p + t) (directWord g r s) 0 (λ f. e (omega arith)) ∙ ih (omega arith)
-
 module _ (a p q : ℕ) (ws : List ℕ) where
-  relaxedTo-other : (j i : ℕ) → (i < p) ⊎ (p + j ≤ i) → getD (relaxedTo a p q ws j) i 0 ≡ getD ws i 0
-  unfolding relaxedTo
-  relaxedTo-other zero i h = refl
-  relaxedTo-other (suc j) i h = getD-set-other (relaxedTo a p q ws j) (p + j) i _ 0 (apart h) ∙ relaxedTo-other j i (before h)
-    where
-      apart : (i < p) ⊎ (p + suc j ≤ i) → i ≡ p + j → ⊥
-      apart (inl l) e = omega arith
-      apart (inr l) e = omega arith
-
-      before : (i < p) ⊎ (p + suc j ≤ i) → (i < p) ⊎ (p + j ≤ i)
-      before (inl l) = inl l
-      before (inr l) = inr (omega arith)
-
   -- the row that is read is the one that is written, or does not meet it
   data Rows (n : ℕ) : Type 0 where
     same : q ≡ p → Rows n
@@ -88,29 +46,14 @@ module _ (a p q : ℕ) (ws : List ℕ) where
 
   -- what is read at column j is as it was
   relaxedTo-read : (n j : ℕ) → j < n → Rows n → getD (relaxedTo a p q ws j) (q + j) 0 ≡ getD ws (q + j) 0
-  relaxedTo-read n j h (same e) = relaxedTo-other j (q + j) (inr (omega arith))
-  relaxedTo-read n j h (below l) = relaxedTo-other j (q + j) (inl (omega arith))
-  relaxedTo-read n j h (above l) = relaxedTo-other j (q + j) (inr (omega arith))
+  relaxedTo-read n j h (same e) = storeTo-other _ p ws 0 j (q + j) (inr (omega arith))
+  relaxedTo-read n j h (below l) = storeTo-other _ p ws 0 j (q + j) (inl (omega arith))
+  relaxedTo-read n j h (above l) = storeTo-other _ p ws 0 j (q + j) (inr (omega arith))
 
-  relaxedTo-at : (n j t : ℕ) → t < j → j ≤ n → p + n ≤ length ws → Rows n → getD (relaxedTo a p q ws j) (p + t) 0 ≡ lesser (getD ws (p + t) 0) (sumWord a (getD ws (q + t) 0))
-  unfolding relaxedTo
-  relaxedTo-at n zero t h k l rows = absurd (omega arith)
-  relaxedTo-at n (suc j) t h k l rows = go (λ h. relaxedTo-at n j t h (omega arith) l rows) (ℕ-discrete t j)
-    where
-      vs : List ℕ
-      vs = relaxedTo a p q ws j
-
-      w : ℕ
-      w = lesser (getD vs (p + j) 0) (sumWord a (getD vs (q + j) 0))
-
-      go :
-          (t < j → getD vs (p + t) 0 ≡ lesser (getD ws (p + t) 0) (sumWord a (getD ws (q + t) 0))) → Dec (t ≡ j) →
-          getD (set vs (p + j) w) (p + t) 0 ≡ lesser (getD ws (p + t) 0) (sumWord a (getD ws (q + t) 0))
-      go ih (yes e) =
-          rw e
-          (getD-set-same vs (p + j) w 0 (omega (arith, relaxedTo-length a p q ws j))
-          ∙ ap₂ (λ (x y : ℕ). lesser x (sumWord a y)) (relaxedTo-other j (p + j) (inr (omega arith))) (relaxedTo-read n j (omega arith) rows))
-      go ih (no e) = getD-set-other vs (p + j) (p + t) w 0 (λ f. e (omega arith)) ∙ ih (omega arith)
+  relaxedTo-at : (n t : ℕ) → t < n → p + n ≤ length ws → Rows n → getD (relaxedTo a p q ws n) (p + t) 0 ≡ min (getD ws (p + t) 0) (sumWord a (getD ws (q + t) 0))
+  relaxedTo-at n t h l rows =
+      storeTo-at _ p ws 0 (λ t. min (getD ws (p + t) 0) (sumWord a (getD ws (q + t) 0))) n t (p + t) refl
+      (λ j b. ap₂ (λ (x y : ℕ). min x (sumWord a y)) (storeTo-other _ p ws 0 j (p + j) (inr (omega arith))) (relaxedTo-read n j b rows)) h l
 
 -- the first words of all rows
 
@@ -119,7 +62,7 @@ module _ (m : Model) (ws : List ℕ) (room : m .n * m .n ≤ length ws) where
   unfolding directRows
   directRows-past zero i h l = refl
   directRows-past (suc k) i h l =
-      directTo-other (stepsOf (segmentAt m k .closer)) k (k * m .n) (directRows m ws k) (m .n) i (inr (let w = row-within (m .n) k h in omega arith))
+      storeTo-other _ (k * m .n) (directRows m ws k) 0 (m .n) i (inr (omega (arith, row-within (m .n) k h)))
       ∙ directRows-past k i (omega arith) l
 
   directRows-at : (k r s : ℕ) → k ≤ m .n → r < k → s < m .n → getD (directRows m ws k) (r * m .n + s) 0 ≡ directWord (stepsOf (segmentAt m r .closer)) r s
@@ -135,10 +78,10 @@ module _ (m : Model) (ws : List ℕ) (room : m .n * m .n ≤ length ws) where
           getD (directTo (stepsOf (segmentAt m k .closer)) k (k * m .n) vs (m .n)) (r * m .n + s) 0 ≡ directWord (stepsOf (segmentAt m r .closer)) r s
       go ih (yes e) =
           rw e
-          (directTo-at (stepsOf (segmentAt m k .closer)) k (k * m .n) vs (m .n) s b
-          (let w = row-within (m .n) k h in omega (arith, directRows-length m ws k)))
+          (storeTo-at _ (k * m .n) vs 0 (λ s. directWord (stepsOf (segmentAt m k .closer)) k s) (m .n) s (k * m .n + s) refl (λ j b. refl) b
+          (omega (arith, row-within (m .n) k h, directRows-length m ws k)))
       go ih (no e) =
-          directTo-other (stepsOf (segmentAt m k .closer)) k (k * m .n) vs (m .n) (r * m .n + s) (other-row (m .n) r k s e b) ∙ ih (omega arith)
+          storeTo-other _ (k * m .n) vs 0 (m .n) (r * m .n + s) (other-row (m .n) r k s e b) ∙ ih (omega arith)
 
 -- one round: rows not yet reached, and places past the table
 
@@ -149,7 +92,7 @@ module _ (n k : ℕ) (ws : List ℕ) where
   roundTo-later (suc i) r s h l =
       cond-case (λ (vs : List ℕ). getD vs (r * n + s) 0 ≡ getD ws (r * n + s) 0) (ltb (getD (roundTo n k ws i) (i * n + k) 0) far)
       (λ t.
-      relaxedTo-other (getD (roundTo n k ws i) (i * n + k) 0) (i * n) (k * n) (roundTo n k ws i) n (r * n + s) (other-row n r i s (λ e. omega arith) l)
+      storeTo-other _ (i * n) (roundTo n k ws i) 0 n (r * n + s) (other-row n r i s (λ e. omega arith) l)
       ∙ roundTo-later i r s (omega arith) l)
       (λ t. roundTo-later i r s (omega arith) l)
 
@@ -159,7 +102,7 @@ module _ (n k : ℕ) (ws : List ℕ) where
   roundTo-past (suc i) j h l =
       cond-case (λ (vs : List ℕ). getD vs j 0 ≡ getD ws j 0) (ltb (getD (roundTo n k ws i) (i * n + k) 0) far)
       (λ t.
-      relaxedTo-other (getD (roundTo n k ws i) (i * n + k) 0) (i * n) (k * n) (roundTo n k ws i) n j (inr (let w = row-within n i h in omega arith))
+      storeTo-other _ (i * n) (roundTo n k ws i) 0 n j (inr (omega (arith, row-within n i h)))
       ∙ roundTo-past i j (omega arith) l)
       (λ t. roundTo-past i j (omega arith) l)
 
@@ -168,8 +111,8 @@ rows-of : (n k i : ℕ) (a : ℕ) (vs : List ℕ) → Rows a (i * n) (k * n) vs 
 rows-of n k i a vs = go (decLt k i) (decLt i k)
   where
     go : Dec (k < i) → Dec (i < k) → Rows a (i * n) (k * n) vs n
-    go (yes h) _ = below (omega (arith, mul-le-mul-right {m = suc k} {n = i} n h, suc-mul k n))
-    go (no h) (yes l) = above (omega (arith, mul-le-mul-right {m = suc i} {n = k} n l, suc-mul i n))
+    go (yes h) _ = below (row-before n k i h)
+    go (no h) (yes l) = above (row-before n i k l)
     go (no h) (no l) = let e : k ≡ i = omega arith in same (ap (λ (x : ℕ). x * n) e)
 
 -- the words hold f
@@ -210,7 +153,7 @@ module _ (E : ℕ → ℕ → Bound) (steps : StepsOnly E) (n : ℕ) (few : n �
       from-k ih (yes g) = ih k s g b ∙ ap heldWord (leastVia-row E k s)
       from-k ih (no g) = roundTo-later n k ws i k s (omega arith) b ∙ holds k s kn b
 
-      relaxed : getD vs (k * n + s) 0 ≡ heldWord (F k s) → lesser (getD vs (i * n + s) 0) (sumWord a (getD vs (k * n + s) 0)) ≡ heldWord (leastVia E (suc k) i s)
+      relaxed : getD vs (k * n + s) 0 ≡ heldWord (F k s) → min (getD vs (i * n + s) 0) (sumWord a (getD vs (k * n + s) 0)) ≡ heldWord (leastVia E (suc k) i s)
       relaxed e =
           rw (here, to-k, e)
           (heldWord-relaxed (F i s) (F i k) (F k s) (smaller (omega arith) (small k i s (omega arith))) (smaller (omega arith) (small k i k (omega arith)))
@@ -223,14 +166,14 @@ module _ (E : ℕ → ℕ → Bound) (steps : StepsOnly E) (n : ℕ) (few : n �
           rw e
           (cond-case (λ (us : List ℕ). getD us (i * n + s) 0 ≡ heldWord (leastVia E (suc k) i s)) (ltb a far)
           (λ t.
-          relaxedTo-at a (i * n) (k * n) vs n n s b (omega arith) (let w = row-within n i h in omega (arith, roundTo-length n k ws i)) (rows-of n k i a vs)
+          relaxedTo-at a (i * n) (k * n) vs n s b (omega (arith, row-within n i h, roundTo-length n k ws i)) (rows-of n k i a vs)
           ∙ relaxed (from-k ih (decLt k i)))
           (λ t.
           sym (heldWord-left (getD vs (i * n + s) 0) a (getD vs (k * n + s) 0) (rw here (heldWord-≤ (F i s))) (nltb→le a far t))
           ∙ relaxed (from-k ih (decLt k i))))
       go ih (no e) =
           cond-case (λ (us : List ℕ). getD us (r * n + s) 0 ≡ heldWord (leastVia E (suc k) r s)) (ltb a far)
-          (λ t. relaxedTo-other a (i * n) (k * n) vs n (r * n + s) (other-row n r i s e b) ∙ ih r s (omega arith) b)
+          (λ t. storeTo-other _ (i * n) vs 0 n (r * n + s) (other-row n r i s e b) ∙ ih r s (omega arith) b)
           (λ t. ih r s (omega arith) b)
 
   roundsTo-holds : (ws : List ℕ) → n * n ≤ length ws → Holds n (leastVia E 0) ws → (k : ℕ) → k ≤ n → Holds n (leastVia E k) (roundsTo n ws k)
@@ -246,22 +189,10 @@ roundsTo-past n ws (suc k) j h = roundTo-past n k (roundsTo n ws k) n j (omega a
 
 module _ (ws : List ℕ) where
   cutTo-past : (n i : ℕ) → n ≤ i → getD (cutTo ws n) i 0 ≡ getD ws i 0
-  unfolding cutTo
-  cutTo-past zero i h = refl
-  cutTo-past (suc n) i h = getD-set-other (cutTo ws n) n i (cutWord (getD (cutTo ws n) n 0)) 0 (λ e. omega arith) ∙ cutTo-past n i (omega arith)
+  cutTo-past n i h = storeTo-other _ 0 ws 0 n i (inr (omega arith))
 
   cutTo-at : (n i : ℕ) → i < n → n ≤ length ws → getD (cutTo ws n) i 0 ≡ cutWord (getD ws i 0)
-  unfolding cutTo
-  cutTo-at zero i h l = absurd (omega arith)
-  cutTo-at (suc n) i h l = go (λ h. cutTo-at n i h (omega arith)) (ℕ-discrete i n)
-    where
-      vs : List ℕ
-      vs = cutTo ws n
-
-      go : (i < n → getD vs i 0 ≡ cutWord (getD ws i 0)) → Dec (i ≡ n) → getD (set vs n (cutWord (getD vs n 0))) i 0 ≡ cutWord (getD ws i 0)
-      go ih (yes e) =
-          rw e (getD-set-same vs n (cutWord (getD vs n 0)) 0 (omega (arith, cutTo-length ws n)) ∙ ap cutWord (cutTo-past n n (omega arith)))
-      go ih (no e) = getD-set-other vs n i (cutWord (getD vs n 0)) 0 e ∙ ih (omega arith)
+  cutTo-at n i h l = storeTo-at _ 0 ws 0 (λ i. cutWord (getD ws i 0)) n i i (omega arith) (λ j b. ap cutWord (cutTo-past j j (omega arith))) h (omega arith)
 
 -- all of it, for a model that keeps the file rules
 
@@ -305,7 +236,7 @@ module _ (m : Model) (ws : List ℕ) (fit : modelFault m ≡ 0) (room : m .n * m
   pub filled-stored : cutTo (roundsTo (m .n) (directRows m ws (m .n)) (m .n)) (m .n * m .n) ≡ stored m ws
   unfolding last first
   filled-stored =
-      ext-getD 0 (cutTo last (m .n * m .n)) (stored m ws) (cutTo-length last (m .n * m .n) ∙ (last-length ∙ sym (stored-length m ws room)))
+      ext-getD 0 (cutTo last (m .n * m .n)) (stored m ws) (storeTo-length _ 0 last (m .n * m .n) ∙ (last-length ∙ sym (stored-length m ws room)))
       (λ i h. go i (decLt i (m .n * m .n)))
     where
       go : (i : ℕ) → Dec (i < m .n * m .n) → getD (cutTo last (m .n * m .n)) i 0 ≡ getD (stored m ws) i 0

@@ -3,13 +3,13 @@ use Prim.Native.Nat.{ℕ, zero, suc, _+_, _*_, _/_, _≤_, _<_}
 use mathlib.Core.Path.{_≡_, refl, ap, sym, _∙_}
 use mathlib.Core.List.{List}
 use native.Mathlib.Omega.{arith}
-use native.Mathlib.Nat.{suc-mul, mul-le-mul, mul-le-mul-right}
+use native.Mathlib.Nat.{suc-mul, mul-le-mul}
 use native.Mathlib.Numerals.{add-one}
 use lib.Dec.{ltb}
-use lib.ListN.{length, getD, set, length-set}
-use lib.Seq.{set-getD}
+use lib.ListN.{length, getD, set}
 use borrow.Author.Tests.{lt-ltb, le-ltb, eq-eqb, ne-eqb}
 use Rattle.base.proofs.BoolLaws.{cond-case}
+use Rattle.base.proofs.IndexLaws.{storeTo-more, storeTo-left, storeTo-length}
 use Rattle.clock.specs.declared.Delay.{Delay}
 use Rattle.clock.specs.declared.Wait.the-variants as wait
 use Rattle.clock.specs.Advance.{advanceOf}
@@ -18,12 +18,13 @@ use Rattle.model.specs.declared.Next.{Next}
 use Rattle.model.specs.declared.Closer.{Closer}
 use Rattle.model.specs.declared.Closer.the-variants.{End, Time, Event}
 use Rattle.model.specs.declared.Model.{Model}
+use Rattle.model.specs.Limits.{cutTime}
 use Rattle.model.specs.Values.{segmentAt}
 use Rattle.model.specs.Rules.{modelFault}
 use Rattle.model_rules.proofs.RuleLaws.{modelFault-counts}
 use Rattle.tables_distance.specs.declared.Steps.{Steps}
 use Rattle.tables.specs.Word.{allOnes, wordOf}
-use Rattle.tables_distance.specs.Store.{far, lesser, heldWord, sumWord, stepsOf, directWord, directTo, directRows, relaxedTo, roundTo, roundsTo, cutWord, cutTo}
+use Rattle.tables_distance.specs.Store.{far, heldWord, sumWord, stepsOf, directWord, directTo, directRows, relaxedTo, roundTo, roundsTo, cutWord, cutTo}
 
 module _ (a b : ℕ) where
   pub sumWord-far : far ≤ b → far ≡ sumWord a b
@@ -40,16 +41,16 @@ module _ (a b : ℕ) where
 
 module _ (k : Delay) where
   pub unitsWord-none : k .0 ≡ 0 → 1 ≡ heldWord (advanceOf (wait.Time k))
-  unfolding heldWord wordOf lesser
+  unfolding heldWord wordOf
   unitsWord-none e = rw (advanceOf-none k e) refl
 
-  pub unitsWord-far : 1000000000 ≤ k .0 → far ≡ heldWord (advanceOf (wait.Time k))
-  unfolding heldWord wordOf lesser
-  unitsWord-far h = rw (advanceOf-more k (λ e. omega arith), le-ltb (k .0 * 1024 + 0) far (omega arith)) refl
+  pub unitsWord-far : cutTime ≤ k .0 → far ≡ heldWord (advanceOf (wait.Time k))
+  unfolding heldWord wordOf
+  unitsWord-far h = rw (advanceOf-more k (λ e. omega arith)) (omega arith)
 
-  pub unitsWord-more : (k .0 ≡ 0 → ⊥) → k .0 < 1000000000 → k .0 * 1024 ≡ heldWord (advanceOf (wait.Time k))
-  unfolding heldWord wordOf lesser
-  unitsWord-more other h = rw (advanceOf-more k other, lt-ltb (k .0 * 1024 + 0) far (omega arith)) (omega arith)
+  pub unitsWord-more : (k .0 ≡ 0 → ⊥) → k .0 < cutTime → k .0 * 1024 ≡ heldWord (advanceOf (wait.Time k))
+  unfolding heldWord wordOf
+  unitsWord-more other h = rw (advanceOf-more k other) (omega arith)
 
 module _ (x : Closer) where
   pub stepsOf-end : x ≡ End → record { a = 0; b = 0; word = far } ≡ stepsOf x
@@ -81,40 +82,14 @@ module _ (g : Steps) (r s : ℕ) where
   unfolding directWord
   directWord-none other f e = rw (ne-eqb r s other, ne-eqb (g .a) s f, ne-eqb (g .b) s e) refl
 
--- the stores, one more
+-- the stores, one more: a lesser sum is stored, any other leaves the word
 
-module _ (g : Steps) (r p : ℕ) (ws : List ℕ) where
-  pub directTo-length : (s : ℕ) → length (directTo g r p ws s) ≡ length ws
-  unfolding directTo
-  directTo-length zero = refl
-  directTo-length (suc s) = length-set (directTo g r p ws s) (p + s) (directWord g r s) ∙ directTo-length s
+module _ (a p q : ℕ) (ws : List ℕ) (j : ℕ) (vs : List ℕ) (c : ℕ) (e : vs ≡ relaxedTo a p q ws j) (f : c ≡ sumWord a (getD vs (q + j) 0)) where
+  pub relaxedTo-stored : c < getD vs (p + j) 0 → set vs (p + j) c ≡ relaxedTo a p q ws (j + 1)
+  relaxedTo-stored h = storeTo-more _ p ws j (p + j) vs c e refl (omega arith)
 
-  pub directTo-none : ws ≡ directTo g r p ws 0
-  unfolding directTo
-  directTo-none = refl
-
-  pub directTo-more : (s : ℕ) (vs : List ℕ) (w : ℕ) → vs ≡ directTo g r p ws s → w ≡ directWord g r s → set vs (p + s) w ≡ directTo g r p ws (s + 1)
-  unfolding directTo
-  directTo-more s vs w e f = rw (e, f, add-one) refl
-
-module _ (a p q : ℕ) (ws : List ℕ) where
-  pub relaxedTo-length : (j : ℕ) → length (relaxedTo a p q ws j) ≡ length ws
-  unfolding relaxedTo
-  relaxedTo-length zero = refl
-  relaxedTo-length (suc j) = length-set (relaxedTo a p q ws j) (p + j) _ ∙ relaxedTo-length j
-
-  pub relaxedTo-none : ws ≡ relaxedTo a p q ws 0
-  unfolding relaxedTo
-  relaxedTo-none = refl
-
-  -- a lesser sum is stored, any other leaves the word
-  pub relaxedTo-stored : (j : ℕ) (vs : List ℕ) (c : ℕ) → vs ≡ relaxedTo a p q ws j → c ≡ sumWord a (getD vs (q + j) 0) → c < getD vs (p + j) 0 → set vs (p + j) c ≡ relaxedTo a p q ws (j + 1)
-  unfolding relaxedTo lesser
-  relaxedTo-stored j vs c e f h = rw (add-one, ← e, ← f, lt-ltb c (getD vs (p + j) 0) h) refl
-
-  pub relaxedTo-left : (j : ℕ) (vs : List ℕ) (c : ℕ) → vs ≡ relaxedTo a p q ws j → c ≡ sumWord a (getD vs (q + j) 0) → getD vs (p + j) 0 ≤ c → vs ≡ relaxedTo a p q ws (j + 1)
-  unfolding relaxedTo lesser
-  relaxedTo-left j vs c e f h = rw (add-one, ← e, ← f, le-ltb c (getD vs (p + j) 0) h) (sym (set-getD vs (p + j) 0))
+  pub relaxedTo-left : getD vs (p + j) 0 ≤ c → vs ≡ relaxedTo a p q ws (j + 1)
+  relaxedTo-left h = storeTo-left _ p ws 0 j (p + j) vs e refl (omega arith)
 
 module _ (n k : ℕ) (ws : List ℕ) where
   pub roundTo-length : (i : ℕ) → length (roundTo n k ws i) ≡ length ws
@@ -122,7 +97,7 @@ module _ (n k : ℕ) (ws : List ℕ) where
   roundTo-length zero = refl
   roundTo-length (suc i) =
       cond-case (λ (vs : List ℕ). length vs ≡ length ws) (ltb (getD (roundTo n k ws i) (i * n + k) 0) far)
-      (λ t. relaxedTo-length (getD (roundTo n k ws i) (i * n + k) 0) (i * n) (k * n) (roundTo n k ws i) n ∙ roundTo-length i)
+      (λ t. storeTo-length _ (i * n) (roundTo n k ws i) n ∙ roundTo-length i)
       (λ t. roundTo-length i)
 
   pub roundTo-none : ws ≡ roundTo n k ws 0
@@ -151,29 +126,20 @@ module _ (n : ℕ) (ws : List ℕ) where
   unfolding roundsTo
   roundsTo-more k vs us e f = rw (add-one, ← e) f
 
-module _ (ws : List ℕ) where
-  pub cutTo-length : (i : ℕ) → length (cutTo ws i) ≡ length ws
-  unfolding cutTo
-  cutTo-length zero = refl
-  cutTo-length (suc i) = length-set (cutTo ws i) i (cutWord (getD (cutTo ws i) i 0)) ∙ cutTo-length i
+module _ (ws : List ℕ) (i : ℕ) (vs : List ℕ) (e : vs ≡ cutTo ws i) where
+  pub cutTo-stored : far ≤ getD vs i 0 → set vs i allOnes ≡ cutTo ws (i + 1)
+  unfolding cutWord
+  cutTo-stored h = storeTo-more _ 0 ws i i vs allOnes e (omega arith) (rw (le-ltb (getD vs i 0) far h) refl)
 
-  pub cutTo-none : ws ≡ cutTo ws 0
-  unfolding cutTo
-  cutTo-none = refl
-
-  pub cutTo-stored : (i : ℕ) (vs : List ℕ) → vs ≡ cutTo ws i → far ≤ getD vs i 0 → set vs i allOnes ≡ cutTo ws (i + 1)
-  unfolding cutTo cutWord
-  cutTo-stored i vs e h = rw (add-one, ← e, le-ltb (getD vs i 0) far h) refl
-
-  pub cutTo-left : (i : ℕ) (vs : List ℕ) → vs ≡ cutTo ws i → getD vs i 0 < far → vs ≡ cutTo ws (i + 1)
-  unfolding cutTo cutWord
-  cutTo-left i vs e h = rw (add-one, ← e, lt-ltb (getD vs i 0) far h) (sym (set-getD vs i 0))
+  pub cutTo-left : getD vs i 0 < far → vs ≡ cutTo ws (i + 1)
+  unfolding cutWord
+  cutTo-left h = storeTo-left _ 0 ws 0 i i vs e (omega arith) (rw (lt-ltb (getD vs i 0) far h) refl)
 
 module _ (m : Model) (ws : List ℕ) where
   pub directRows-length : (r : ℕ) → length (directRows m ws r) ≡ length ws
   unfolding directRows
   directRows-length zero = refl
-  directRows-length (suc r) = directTo-length (stepsOf (segmentAt m r .closer)) r (r * m .n) (directRows m ws r) (m .n) ∙ directRows-length r
+  directRows-length (suc r) = storeTo-length _ (r * m .n) (directRows m ws r) (m .n) ∙ directRows-length r
 
   pub directRows-none : ws ≡ directRows m ws 0
   unfolding directRows
@@ -182,10 +148,6 @@ module _ (m : Model) (ws : List ℕ) where
   pub directRows-more : (r p n : ℕ) (g : Steps) (x : Closer) (vs us : List ℕ) → n ≡ m .n → vs ≡ directRows m ws r → p ≡ r * n → segmentAt m r .closer ≡ x → g ≡ stepsOf x → us ≡ directTo g r p vs n → us ≡ directRows m ws (r + 1)
   unfolding directRows
   directRows-more r p n g x vs us d e f y z l = rw add-one (cc)
-
--- row i lies within N × N
-pub row-within : (n i : ℕ) → i < n → i * n + n ≤ n * n
-row-within n i h = omega (arith, mul-le-mul-right {m = suc i} {n = n} n h, suc-mul i n)
 
 -- the next row begins n places on
 pub row-next : (n i p : ℕ) → p ≡ i * n → p + n ≡ (i + 1) * n

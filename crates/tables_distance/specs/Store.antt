@@ -1,31 +1,29 @@
 -- How the code makes the words, one store after the other. Only private contracts cite this; `proofs/StoreLaws.antt` says that the words are those of `stored`.
--- While the rounds run, a word at `far` or above stands for never: its time is 1,000,000,000 units or more.
-use Prim.Native.Nat.{ℕ, zero, suc, _+_, _*_, _/_}
+-- While the rounds run, a word at `far` or above stands for never: its time is at the cut or past it.
+use Prim.Native.Nat.{ℕ, zero, suc, _+_, _*_, _/_, min}
 use mathlib.Core.Bool.{cond, _||_}
 use mathlib.Core.List.{List}
 use lib.Dec.{ltb, eqb}
-use lib.ListN.{getD, set}
+use lib.ListN.{getD}
+use Rattle.base.specs.Index.{storeTo}
 use Rattle.clock.specs.declared.Wait.the-variants as wait
 use Rattle.clock.specs.declared.Bound.{Bound}
 use Rattle.clock.specs.Advance.{advanceOf}
 use Rattle.model.specs.declared.Closer.{Closer}
 use Rattle.model.specs.declared.Closer.the-variants.{End, Time, Event}
 use Rattle.model.specs.declared.Model.{Model}
+use Rattle.model.specs.Limits.{cutTime}
 use Rattle.model.specs.Values.{segmentAt}
 use Rattle.tables_distance.specs.declared.Steps.{Steps}
 use Rattle.tables.specs.Word.{allOnes, wordOf}
 
--- 1,000,000,000 × 1,024
+-- the cut as a word
 abbrev pub far : ℕ
-far = 1024000000000
-
--- the lesser of two words
-unfoldable pub lesser : ℕ → ℕ → ℕ
-lesser w c = cond (ltb c w) c w
+far = 1024 * cutTime
 
 -- a bound while the rounds run
 unfoldable pub heldWord : Bound → ℕ
-heldWord b = lesser far (wordOf b)
+heldWord b = min far (wordOf b)
 
 -- the sum of two words: the first's delta counts only if the second takes no time
 unfoldable pub sumWord : ℕ → ℕ → ℕ
@@ -41,9 +39,8 @@ unfoldable pub directWord : Steps → ℕ → ℕ → ℕ
 directWord g r s = cond (eqb r s) 0 (cond (eqb (g .a) s || eqb (g .b) s) (g .word) far)
 
 -- the first n words of row r, which begins at place p
-unfoldable pub directTo : Steps → ℕ → ℕ → List ℕ → ℕ → List ℕ
-directTo g r p ws zero = ws
-directTo g r p ws (suc s) = set (directTo g r p ws s) (p + s) (directWord g r s)
+abbrev pub directTo : Steps → ℕ → ℕ → List ℕ → ℕ → List ℕ
+directTo g r p ws n = storeTo (λ s vs. directWord g r s) p ws n
 
 -- the first rows of all
 unfoldable pub directRows : Model → List ℕ → ℕ → List ℕ
@@ -51,11 +48,8 @@ directRows m ws zero = ws
 directRows m ws (suc r) = directTo (stepsOf (segmentAt m r .closer)) r (r * m .n) (directRows m ws r) (m .n)
 
 -- the first n words of the row that begins at p, each made the lesser of itself and the way of word a, then on by the row that begins at q
-unfoldable pub relaxedTo : ℕ → ℕ → ℕ → List ℕ → ℕ → List ℕ
-relaxedTo a p q ws zero = ws
-relaxedTo a p q ws (suc j) =
-    let vs = relaxedTo a p q ws j in
-    set vs (p + j) (lesser (getD vs (p + j) 0) (sumWord a (getD vs (q + j) 0)))
+abbrev pub relaxedTo : ℕ → ℕ → ℕ → List ℕ → ℕ → List ℕ
+relaxedTo a p q ws n = storeTo (λ j vs. min (getD vs (p + j) 0) (sumWord a (getD vs (q + j) 0))) p ws n
 
 -- one round, over place k: the first rows of n; a row with no way to k stays
 unfoldable pub roundTo : ℕ → ℕ → List ℕ → ℕ → List ℕ
@@ -74,9 +68,8 @@ roundsTo n ws (suc k) = roundTo n k (roundsTo n ws k) n
 unfoldable pub cutWord : ℕ → ℕ
 cutWord w = cond (ltb w far) w allOnes
 
-unfoldable pub cutTo : List ℕ → ℕ → List ℕ
-cutTo ws zero = ws
-cutTo ws (suc i) = let vs = cutTo ws i in set vs i (cutWord (getD vs i 0))
+abbrev pub cutTo : List ℕ → ℕ → List ℕ
+cutTo ws n = storeTo (λ i vs. cutWord (getD vs i 0)) 0 ws n
 
 -- all of it
 unfoldable pub filled : Model → List ℕ → List ℕ

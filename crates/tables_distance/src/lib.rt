@@ -1,6 +1,8 @@
 // Document 01, "Tables": the words of distance.
 use clock::Delay;
 use clock::Wait;
+use model::CUT_TIME;
+use model::CUT_WORD;
 use model::Closer;
 use model::Model;
 ghost use mathlib.Core.Path.{_≡_};
@@ -13,15 +15,12 @@ ghost use Rattle.model.specs.Refusal.{accepted, unfit, shortTable};
 ghost use Rattle.model.specs.Rules.{modelFault};
 ghost use Rattle.tables.specs.Word.{stored};
 ghost use Rattle.tables.specs.Outcome.{ifHeld, distancesNumber, distancesBuffer};
-ghost use Rattle.tables_distance.specs.Store.{heldWord, sumWord, stepsOf, directWord, directTo, directRows, relaxedTo, roundTo, roundsTo, cutTo};
+ghost use Rattle.tables_distance.specs.Store.{far, heldWord, sumWord, stepsOf, directWord, directTo, directRows, relaxedTo, roundTo, roundsTo, cutTo};
 
 // Document 01: "'never' as all ones".
 const NEVER: u64 = 18446744073709551615;
 
-// Document 01: "at 1,000,000,000 units or more", as a word. While the rounds run it stands for never.
-const FAR: u64 = 1024000000000;
-
-// The next segments of a closer, and the word of a step to them.
+// The next segments of a closer, and the word of a step to them. While the rounds run CUT_WORD stands for never.
 struct Steps {
     a: u8,
     b: u8,
@@ -32,14 +31,14 @@ struct Steps {
 fn units_word(k: Delay) -> u64
     ensures { λ r. ⌜ r ≡ heldWord (advanceOf (Wait.Time k)) ⌝ }
 {
-    let units = k.0;
+    let units = k.0 as u64;
     if units == 0 {
         return 1;
     }
-    if units >= 1000000000 {
-        return FAR;
+    if units >= CUT_TIME {
+        return CUT_WORD;
     }
-    units as u64 * 1024
+    units * 1024
 }
 
 // Both next segments are steps, whatever the limit; "over an event wait it is one delta".
@@ -50,7 +49,7 @@ fn steps_of(closer: Closer) -> Steps
         Closer::End => Steps {
             a: 0,
             b: 0,
-            word: FAR,
+            word: CUT_WORD,
         },
         Closer::Time(k, x) => Steps {
             a: x.a,
@@ -78,7 +77,7 @@ fn direct_word(g: Steps, r: usize, s: usize) -> u64
     if g.b as usize == s {
         return g.word;
     }
-    FAR
+    CUT_WORD
 }
 
 // Row r, which begins at place p: ways of at most one step.
@@ -95,11 +94,11 @@ fn direct_row(words: &mut [u64], n: usize, r: usize, p: usize, g: Steps)
 
 // The sum of two words: a time wait starts the delta anew.
 fn sum_word(a: u64, b: u64) -> u64
-    requires { ⌜ a < 1024000000000 ⌝ }
+    requires { ⌜ a < far ⌝ }
     ensures { λ r. ⌜ r ≡ sumWord a b ⌝ }
 {
-    if b >= FAR {
-        return FAR;
+    if b >= CUT_WORD {
+        return CUT_WORD;
     }
     if b < 1024 {
         return a + b;
@@ -109,7 +108,7 @@ fn sum_word(a: u64, b: u64) -> u64
 
 // The row that begins at p, where a way of word a leads to the row that begins at q.
 fn relax_row(words: &mut [u64], n: usize, a: u64, p: usize, q: usize)
-    requires { ⌜ (a < 1024000000000) × (p + n ≤ length (now words)) × (q + n ≤ length (now words)) ⌝ }
+    requires { ⌜ (a < far) × (p + n ≤ length (now words)) × (q + n ≤ length (now words)) ⌝ }
     ensures { λ _. ⌜ now (words .exit) ≡ relaxedTo a p q (now (words .entry)) n ⌝ }
 {
     let mut j = 0;
@@ -132,7 +131,7 @@ fn round(words: &mut [u64], n: usize, k: usize)
     let mut i = 0;
     while i < n {
         let a = words[p + k];
-        if a < FAR {
+        if a < CUT_WORD {
             relax_row(words, n, a, p, q);
         }
         p += n;
@@ -159,7 +158,7 @@ fn cut_words(words: &mut [u64], count: usize)
 {
     let mut i = 0;
     while i < count {
-        if words[i] >= FAR {
+        if words[i] >= CUT_WORD {
             words[i] = NEVER;
         }
         i += 1;

@@ -5,7 +5,7 @@
 --     unmarked→apart     no unmarked pair touches a variable that one of them writes
 --     mark-self     a segment that writes conflicts with itself
 use Prim.Native.Nat.{ℕ, _+_, _<_}
-use mathlib.Core.Path.{_≡_, refl, ap₂, sym, _∙_}
+use mathlib.Core.Path.{_≡_, ap₂, sym, _∙_}
 use mathlib.Core.Logic.{_⊎_, inl, inr}
 use mathlib.Core.Bool.{Bool, true, false, _&&_, _||_}
 use mathlib.Core.List.{[]}
@@ -14,7 +14,7 @@ use native.Mathlib.Nat.{zero-add}
 use lib.Dec.{T, ltb, lt→ltb, ltb→lt, T-not}
 use lib.ListN.{length, replicate, getD-replicate}
 use Rattle.base.specs.Index.{tabulate}
-use Rattle.base.proofs.BoolLaws.{false→T, and→both, both→and, or→either, either→or}
+use Rattle.base.proofs.BoolLaws.{false→T, T-same, and→both, both→and, or→either, either→or}
 use Rattle.base.proofs.IndexLaws.{anyBelow-some, anyBelow-found, tabulate-at, tabulate-length}
 use Rattle.model.specs.declared.Model.{Model}
 use Rattle.model.specs.Values.{segmentAt}
@@ -75,13 +75,6 @@ module _ (m : Model) (r s : ℕ) where
 
   pub mark→shared : T (mark m r s) → (v : ℕ) × (v < m .v) × Shared m r s v
   mark→shared t = let (h, l, x) = mark→ t in conflict→shared x
-
--- two tests that imply each other are one
-pub T-same : (a b : Bool) → (T a → T b) → (T b → T a) → a ≡ b
-T-same true true f g = refl
-T-same true false f g = absurd (f tt)
-T-same false true f g = absurd (g tt)
-T-same false false f g = refl
 
 swapped : (m : Model) (r s v : ℕ) → Shared m r s v → Shared m s r v
 swapped m r s v (inl (a, b)) = inr (b, a)

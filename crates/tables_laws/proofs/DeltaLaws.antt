@@ -11,19 +11,9 @@ use Rattle.clock.specs.declared.Bound.the-variants.{Never, At}
 use Rattle.clock.specs.Cycle.{cycleAt}
 use Rattle.clock.specs.Order.{_⊑_, _≼_, sooner, same-time}
 use Rattle.clock.specs.Advance.{deltaAfter, plusOf, _⊕_, noAdvance}
-use Rattle.clock.proofs.OrderLaws.{cycle-path}
-use Rattle.clock.proofs.AdvanceLaws.{⊕-assoc, ⊕-noAdvance, noAdvance-⊕}
-use Rattle.tables_laws.proofs.PathLaws.{Via, none, last, over, Via-join, leastVia, leastVia-below, leastVia-path, At-not-Never}
-
-pub At-same : {a b : Cycle} → At a ≡ At b → a ≡ b
-At-same e = cc
-
--- the parts of a sum that is not never
-pub ⊕-parts : (a b : Bound) {c : Cycle} → a ⊕ b ≡ At c → (x : Cycle) × (y : Cycle) × (a ≡ At x) × (b ≡ At y) × (plusOf x y ≡ c)
-unfolding _⊕_
-⊕-parts Never b e = absurd (At-not-Never (sym e))
-⊕-parts (At x) Never e = absurd (At-not-Never (sym e))
-⊕-parts (At x) (At y) e = (x, y, refl, refl, At-same e)
+use Rattle.clock.proofs.OrderLaws.{cycle-path, At-same, At-not-Never}
+use Rattle.clock.proofs.AdvanceLaws.{⊕-assoc, ⊕-noAdvance, noAdvance-⊕, ⊕-parts}
+use Rattle.tables_laws.proofs.PathLaws.{Via, none, last, over, Via-join, leastVia, leastVia-below, leastVia-path}
 
 -- a step over time alone, or one delta
 pub data IsStep (c : Cycle) : Type 0 where

@@ -17,43 +17,44 @@ use Rattle.clock.specs.declared.Bound.the-variants.{Never, At}
 use Rattle.clock.specs.declared.Wait.the-variants as wait
 use Rattle.clock.specs.Order.{_≼_, sooner, same-time}
 use Rattle.clock.specs.Advance.{_⊕_, noAdvance, advanceOf, advanceOfUnits}
-use Rattle.clock.proofs.OrderLaws.{≼-refl, ≼-trans}
+use Rattle.clock.proofs.OrderLaws.{At-same, At-not-Never, ≼-refl, ≼-trans}
 use Rattle.clock.proofs.AdvanceLaws.{⊕-assoc, ⊕-mono, ⊕-inflate-right}
 use Rattle.model.specs.declared.Next.{Next}
 use Rattle.model.specs.declared.Closer.{Closer}
 use Rattle.model.specs.declared.Closer.the-variants.{End, Time, Event}
 use Rattle.model.specs.declared.Model.{Model}
+use Rattle.model.specs.Limits.{cutTime}
 use Rattle.model.specs.Values.{segmentAt}
 use Rattle.model.specs.Effect.{nextOf}
 use Rattle.model_effect.proofs.EffectLaws.{nextOf-either}
 use Rattle.tables.specs.Distance.{stepOf, goesTo, edge, IsLeast, cut, IsDistance, cell, distanceTable, distanceOf}
-use Rattle.tables_laws.proofs.PathLaws.{At-not-Never, rounds-leastVia, rounds-least, IsLeast-unique, IsLeast-triangle, IsLeast-step, IsLeast-after, IsLeast-self}
-use Rattle.tables_laws.proofs.DeltaLaws.{At-same, IsStep, time-step, delta-step, StepsOnly, leastVia-delta-last}
+use Rattle.tables_laws.proofs.PathLaws.{rounds-leastVia, rounds-least, IsLeast-unique, IsLeast-triangle, IsLeast-step, IsLeast-after, IsLeast-self}
+use Rattle.tables_laws.proofs.DeltaLaws.{IsStep, time-step, delta-step, StepsOnly, leastVia-delta-last}
 
 -- the cut
 
 pub cut-≼ : (b : Bound) → b ≼ cut b
 unfolding cut
 cut-≼ Never = tt
-cut-≼ (At c) = cond-case (λ (x : Bound). At c ≼ x) (ltb (c .time .0) 1000000000) (λ t. ≼-refl (At c)) (λ t. tt)
+cut-≼ (At c) = cond-case (λ (x : Bound). At c ≼ x) (ltb (c .time .0) cutTime) (λ t. ≼-refl (At c)) (λ t. tt)
 
-pub cut-before : (c : Cycle) → c .time .0 < 1000000000 → cut (At c) ≡ At c
+pub cut-before : (c : Cycle) → c .time .0 < cutTime → cut (At c) ≡ At c
 unfolding cut
-cut-before c h = rw (T→true (ltb (c .time .0) 1000000000) (lt→ltb (c .time .0) 1000000000 h)) refl
+cut-before c h = rw (T→true (ltb (c .time .0) cutTime) (lt→ltb (c .time .0) cutTime h)) refl
 
 -- a bound not after one before the cut stays
-pub cut-small : (b : Bound) (d : Cycle) → b ≼ At d → d .time .0 < 1000000000 → cut b ≡ b
+pub cut-small : (b : Bound) (d : Cycle) → b ≼ At d → d .time .0 < cutTime → cut b ≡ b
 cut-small Never d h l = absurd h
 cut-small (At c) d (sooner p) l = cut-before c (omega arith)
 cut-small (At c) d (same-time p q) l = cut-before c (omega arith)
 
 -- what is left is as it was, and before the cut
-pub cut-At : (b : Bound) {c : Cycle} → cut b ≡ At c → (b ≡ At c) × (c .time .0 < 1000000000)
+pub cut-At : (b : Bound) {c : Cycle} → cut b ≡ At c → (b ≡ At c) × (c .time .0 < cutTime)
 unfolding cut
 cut-At Never e = absurd (At-not-Never (sym e))
 cut-At (At x) {c} e =
-    cond-case (λ (y : Bound). y ≡ At c → (At x ≡ At c) × (c .time .0 < 1000000000)) (ltb (x .time .0) 1000000000)
-    (λ t f. (f, let g = ap (λ (u : Cycle). u .time .0) (At-same f) in let h = ltb→lt (x .time .0) 1000000000 t in omega arith))
+    cond-case (λ (y : Bound). y ≡ At c → (At x ≡ At c) × (c .time .0 < cutTime)) (ltb (x .time .0) cutTime)
+    (λ t f. (f, let g = ap (λ (u : Cycle). u .time .0) (At-same f) in let h = ltb→lt (x .time .0) cutTime t in omega arith))
     (λ t f. absurd (At-not-Never (sym f))) e
 
 -- the steps
@@ -91,7 +92,7 @@ module _ (m : Model) where
     unfolding distanceOf
     distanceOf-is = record { uncut = uncutOf r s; is-least = uncutOf-least; is-cut = refl }
 
-    pub distanceOf-time : {c : Cycle} → distanceOf m r s ≡ At c → c .time .0 < 1000000000
+    pub distanceOf-time : {c : Cycle} → distanceOf m r s ≡ At c → c .time .0 < cutTime
     unfolding distanceOf
     distanceOf-time e = cut-At (uncutOf r s) e .1
 
@@ -107,7 +108,7 @@ module _ (m : Model) where
   distanceOf-self r h = rw (IsLeast-self (uncutOf-least r r h h)) (cut-before _ (omega arith))
 
   -- Where the whole way is before the cut, no part of it is cut.
-  module _ (r t s : ℕ) (rn : r < m .n) (tn : t < m .n) (sn : s < m .n) (y : Bound) (d : Cycle) (before : d .time .0 < 1000000000) where
+  module _ (r t s : ℕ) (rn : r < m .n) (tn : t < m .n) (sn : s < m .n) (y : Bound) (d : Cycle) (before : d .time .0 < cutTime) where
     kept : (b : Bound) → uncutOf r s ≼ b → y ⊕ b ≼ At d → y ⊕ distanceOf m r s ≼ At d
     unfolding distanceOf
     kept b h l =

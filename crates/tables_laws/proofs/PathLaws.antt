@@ -12,13 +12,12 @@ use lib.Dec.{eqb, eqb-refl, eqb→eq}
 use Rattle.base.specs.Index.{tabulate}
 use Rattle.base.proofs.BoolLaws.{T→true, cond-case}
 use Rattle.base.proofs.IndexLaws.{tabulate-at}
-use Rattle.clock.specs.declared.Cycle.{Cycle}
 use Rattle.clock.specs.declared.Bound.{Bound}
 use Rattle.clock.specs.declared.Bound.the-variants.{Never, At}
 use Rattle.clock.specs.Order.{_≼_}
 use Rattle.clock.specs.Advance.{least, _⊕_, noAdvance}
-use Rattle.clock.proofs.OrderLaws.{≼-refl, ≼-trans, ≼-antisym}
-use Rattle.clock.proofs.LeastLaws.{least-left, least-right, least-case, least-glb}
+use Rattle.clock.proofs.OrderLaws.{At-not-Never, ≼-refl, ≼-trans, ≼-antisym}
+use Rattle.clock.proofs.LeastLaws.{least-left, least-right, least-case, least-glb, attained-same}
 use Rattle.clock.proofs.AdvanceLaws.{⊕-assoc, ⊕-mono, ⊕-inflate, ⊕-inflate-right, noAdvance-⊕, ⊕-noAdvance, noAdvance-≼, Never-⊕, ⊕-Never}
 use Rattle.tables.specs.Distance.{GraphPath, here, step, IsLeast, cell, square, direct, throughPlace, rounds}
 
@@ -27,9 +26,6 @@ pub data Via (E : ℕ → ℕ → Bound) (k : ℕ) : ℕ → ℕ → Bound → T
   none : {r : ℕ} → Via E k r r noAdvance
   last : {r s : ℕ} → Via E k r s (E r s)
   over : {r s t : ℕ} {w : Bound} → s < k → Via E k s t w → Via E k r t (E r s ⊕ w)
-
-pub At-not-Never : {c : Cycle} → At c ≡ Never → ⊥
-At-not-Never e = let z : _≡_ {A = ℕ} 0 1 = cc in omega arith
 
 module _ (E : ℕ → ℕ → Bound) where
   -- the least over paths with only the places below k between
@@ -186,13 +182,8 @@ pub rounds-least : (n : ℕ) (E : ℕ → ℕ → Bound) (r s : ℕ) → r < n �
 rounds-least n E r s p q = rw (rounds-leastVia n E n r s (omega arith) p q) (leastVia-least E n r s q)
 
 -- there is one least only
-
-IsLeast-≼ : (n : ℕ) (E : ℕ → ℕ → Bound) (r s : ℕ) (a b : Bound) → IsLeast n E r s a → IsLeast n E r s b → a ≼ b
-IsLeast-≼ n E r s a Never p q = tt
-IsLeast-≼ n E r s a (At c) p q = p .below (q .attained (λ e. At-not-Never e))
-
 pub IsLeast-unique : {n : ℕ} {E : ℕ → ℕ → Bound} {r s : ℕ} {a b : Bound} → IsLeast n E r s a → IsLeast n E r s b → a ≡ b
-IsLeast-unique {n} {E} {r} {s} {a} {b} p q = ≼-antisym a b (IsLeast-≼ n E r s a b p q) (IsLeast-≼ n E r s b a q p)
+IsLeast-unique {n} {E} {r} {s} {a} {b} p q = attained-same (GraphPath n E r s) a b (λ x w. p .below w) (p .attained) (λ x w. q .below w) (q .attained)
 
 -- the least of a path in two parts, and of a path with a step in front or behind
 

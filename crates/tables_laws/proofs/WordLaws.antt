@@ -19,6 +19,7 @@ use Rattle.clock.specs.declared.Bound.{Bound}
 use Rattle.clock.specs.declared.Bound.the-variants.{Never, At}
 use Rattle.clock.proofs.OrderLaws.{cycle-path}
 use Rattle.model.specs.declared.Model.{Model}
+use Rattle.model.specs.Limits.{cutTime}
 use Rattle.model.specs.Rules.{modelFault}
 use Rattle.model_rules.proofs.RuleLaws.{modelFault-counts}
 use Rattle.tables.specs.Distance.{distanceTable, distanceOf, cell, cut}
@@ -35,7 +36,7 @@ packed-delta t d h = omega arith
 -- what a word can hold: never, or a time and a delta in range
 pub data IsPacked : Bound → Type 0 where
   never : IsPacked Never
-  at : {c : Cycle} → c .time .0 < 1000000000 → c .delta .0 < 1024 → IsPacked (At c)
+  at : {c : Cycle} → c .time .0 < cutTime → c .delta .0 < 1024 → IsPacked (At c)
 
 pub wordOf-below : {b : Bound} → IsPacked b → wordOf b < 2 ^ 64
 unfolding wordOf
@@ -50,12 +51,12 @@ boundOf-wordOf (at {c = c} h l) =
     (ap At (cycle-path (packed-time (c .time .0) (c .delta .0) l) (packed-delta (c .time .0) (c .delta .0) l)))
 
 -- all ones, or a time below the cut
-pub wordOf-fit : {b : Bound} → IsPacked b → T (eqb (wordOf b) allOnes || ltb (wordOf b / 1024) 1000000000)
+pub wordOf-fit : {b : Bound} → IsPacked b → T (eqb (wordOf b) allOnes || ltb (wordOf b / 1024) cutTime)
 unfolding wordOf
 wordOf-fit never = tt
 wordOf-fit (at {c = c} h l) =
-    either→or (eqb (c .time .0 * 1024 + c .delta .0) allOnes) (ltb ((c .time .0 * 1024 + c .delta .0) / 1024) 1000000000)
-    (inr (lt→ltb ((c .time .0 * 1024 + c .delta .0) / 1024) 1000000000 (omega arith)))
+    either→or (eqb (c .time .0 * 1024 + c .delta .0) allOnes) (ltb ((c .time .0 * 1024 + c .delta .0) / 1024) cutTime)
+    (inr (lt→ltb ((c .time .0 * 1024 + c .delta .0) / 1024) cutTime (omega arith)))
 
 -- rows of n, one after the other
 
@@ -85,9 +86,17 @@ module _ (n : ℕ) (f : ℕ → ℕ → ℕ) where
       ∙ (getD-append-add (rowOf i) (joined (tabulate k (i + 1) rowOf)) (r * n + s) 0
       ∙ (joined-at k (i + 1) r s (omega arith) l ∙ ap (λ (x : ℕ). f x s) g))
 
+-- row r of n places ends before row i begins
+pub row-before : (n r i : ℕ) → r < i → r * n + n ≤ i * n
+row-before n r i h = omega (arith, mul-le-mul-right {m = suc r} {n = i} n h, suc-mul r n)
+
+-- row i lies within N × N
+pub row-within : (n i : ℕ) → i < n → i * n + n ≤ n * n
+row-within n i h = row-before n i n h
+
 -- "The word from r to s stands at place r × N + s": below N × N, and each such place is one
 pub place-below : (n r s : ℕ) → r < n → s < n → r * n + s < n * n
-place-below n r s h l = omega (arith, mul-le-mul-right {m = suc r} {n = n} n h, suc-mul r n)
+place-below n r s h l = omega (arith, row-within n r h)
 
 pub place-row : (n i : ℕ) → i < n * n → i / n < n
 place-row n i h = div-lt-iff-lt-mul {k = n} {x = i} {y = n} (positive n h) .1 h
@@ -118,7 +127,7 @@ module _ (m : Model) where
     pub distanceOf-packed : (r s : ℕ) → r < m .n → s < m .n → IsPacked (distanceOf m r s)
     distanceOf-packed r s h l = go (distanceOf m r s) (λ c e. distanceOf-time m r s h l e) (λ c e. distanceOf-delta m r s h l e)
       where
-        go : (b : Bound) → ((c : Cycle) → b ≡ At c → c .time .0 < 1000000000) → ((c : Cycle) → b ≡ At c → c .delta .0 < m .n) → IsPacked b
+        go : (b : Bound) → ((c : Cycle) → b ≡ At c → c .time .0 < cutTime) → ((c : Cycle) → b ≡ At c → c .delta .0 < m .n) → IsPacked b
         go Never t d = never
         go (At c) t d = at {c = c} (t c refl) (omega (arith, d c refl, modelFault-counts m fit .segments))
 
@@ -131,7 +140,7 @@ module _ (m : Model) where
         ap (λ (x : ℕ). getD (wordsOf m) x 0) (place-split (m .n) i)
         ∙ wordsOf-at (i / m .n) (i % m .n) (place-row (m .n) i h) (place-column (m .n) i h)
 
-    pub wordsOf-fit : (i : ℕ) → i < m .n * m .n → T (eqb (getD (wordsOf m) i 0) allOnes || ltb (getD (wordsOf m) i 0 / 1024) 1000000000)
+    pub wordsOf-fit : (i : ℕ) → i < m .n * m .n → T (eqb (getD (wordsOf m) i 0) allOnes || ltb (getD (wordsOf m) i 0 / 1024) cutTime)
     wordsOf-fit i h = rw (wordsOf-word i h) (wordOf-fit (distanceOf-packed (i / m .n) (i % m .n) (place-row (m .n) i h) (place-column (m .n) i h)))
 
     pub wordsOf-below : (i : ℕ) → i < m .n * m .n → getD (wordsOf m) i 0 < 2 ^ 64

@@ -84,7 +84,7 @@ unfolding threadOf
 threadOf-large x h = rw (le-ltb x 255 h) refl
 
 -- the number so far, and one digit more, fit a word of 64 bits
-pub left-fits : (bs : List ℕ) (i x : ℕ) → i < 19 → Left bs i x → x < 1000000000000000000
+pub left-fits : (bs : List ℕ) (i x : ℕ) → i < 19 → Left bs i x → x < 10 ^ 18
 left-fits bs i x h l =
     let p : 10 ^ i ≤ 10 ^ 18 = pow-le-pow-right {n = 10} (omega arith) {i = i} {j = 18} (omega arith) in
     omega (arith, l .small)

@@ -3,8 +3,8 @@ use Prim.Native.Nat.{_≤_, _-_}
 use mathlib.Core.Path.{_≡_}
 use native.Mathlib.Omega.{arith}
 use borrow.Author.Needs.{needs}
+use Rattle.base.proofs.IndexLaws.{storeTo-none, storeTo-more}
 use Rattle.tables_conflict.specs.Mask.{rowsTo}
-use Rattle.tables_conflict.proofs.MaskLaws.{rowsTo-none, rowsTo-more}
 use Rattle.tables_conflict.proofs.all_marks.Tie as tie
 use Rattle.tables_conflict.proofs.all_marks.Statement.{statement}
 
@@ -15,7 +15,8 @@ abbrev μ-loop : tie.MeasureT-loop
 μ-loop all n out₀ r₀ out r = n - r
 
 loop-holds : tie.Need-loop-holds Inv-loop μ-loop
-loop-holds c = (omega arith, rowsTo-none _ _)
+unfolding rowsTo
+loop-holds c = (omega arith, storeTo-none _ _ _)
 
 row-marks-requires : tie.Need-row-marks-requires Inv-loop μ-loop
 row-marks-requires c κs = search needs
@@ -33,10 +34,10 @@ loop-less : tie.Need-loop-less Inv-loop μ-loop
 loop-less c = search needs
 
 loop-again : tie.Need-loop-again Inv-loop μ-loop
+unfolding rowsTo
 loop-again c =
-    let x = c .before .before .before .args in
     let l = c .before .before .loop in
-    (omega arith, rowsTo-more (x .all) (x .n) (l .r) _ _ (l .inv .1) (c .row-marks .ensures))
+    (omega arith, storeTo-more _ 0 _ (l .r) (l .r) _ _ (l .inv .1) (omega arith) (c .row-marks .ensures))
 
 returns : tie.Need-returns Inv-loop μ-loop
 returns c = let e : c .before .loop .r ≡ c .before .before .args .n = omega arith in rw e at (c .before .loop .inv .1)

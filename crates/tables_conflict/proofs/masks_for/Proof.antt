@@ -1,15 +1,15 @@
 -- `tables_conflict::masks_for` meets its contract: two words for each segment.
 use Prim.Native.Nat.{ℕ, _≤_, _<_, _-_}
-use mathlib.Core.Path.{_≡_}
+use mathlib.Core.Path.{_≡_, ap, _∙_}
 use native.Mathlib.Omega.{arith}
 use lib.ListN.{length}
 use borrow.Author.Needs.{needs}
 use borrow.Author.Count.{below-more}
-use Rattle.tables_conflict.proofs.MaskLaws.{masksFor-none, masksFor-more}
+use Rattle.base.proofs.IndexLaws.{storeTo-none, storeTo-more}
 use Rattle.model_rules.proofs.FaultLaws.{segmentAt-read}
 use Rattle.model_rules.proofs.RuleLaws.{modelFault-statements}
 use Rattle.tables_conflict.proofs.MarkLaws.{held-below, held-few}
-use Rattle.tables_conflict.specs.Mask.{masksFor}
+use Rattle.tables_conflict.specs.Mask.{masksOf, masksFor}
 use Rattle.model.specs.Values.{segmentAt}
 use Rattle.model_effect.proofs.LengthLaws.{segments-length}
 use Rattle.tables_conflict.proofs.masks_for.Tie as tie
@@ -22,7 +22,8 @@ abbrev μ-loop : tie.MeasureT-loop
 μ-loop n m all₀ i₀ all i = n - i
 
 loop-holds : tie.Need-loop-holds Inv-loop μ-loop
-loop-holds c = (omega arith, masksFor-none _, λ k h. omega arith)
+unfolding masksFor
+loop-holds c = (omega arith, storeTo-none _ _ _, λ k h. omega arith)
 
 mul-g : tie.Need-mul-g Inv-loop μ-loop
 mul-g c = let few = held-few (c .before .before .args .t1) _ (c .before .before .pre) in omega arith
@@ -52,6 +53,7 @@ loop-less : tie.Need-loop-less Inv-loop μ-loop
 loop-less c = search needs
 
 loop-again : tie.Need-loop-again Inv-loop μ-loop
+unfolding masksFor
 loop-again c =
     let m = c .before .before .before .before .args .t1 in
     let l = c .before .before .before .loop in
@@ -59,7 +61,7 @@ loop-again c =
     let size = segments-length m _ (c .before .before .before .before .good .0) in
     let read = segmentAt-read m (l .i) _ (omega arith) in (
       omega arith,
-      masksFor-more m (l .i) _ _ _ (l .inv .1) read (c .masks-of .ensures .0),
+      storeTo-more _ 0 _ (l .i) (l .i) _ _ (l .inv .1) (omega arith) (c .masks-of .ensures .0 ∙ ap masksOf read),
       below-more _ _ (l .inv .2) (rw read at (c .masks-of .ensures .1)),
     )
 

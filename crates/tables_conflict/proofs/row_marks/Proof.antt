@@ -3,8 +3,8 @@ use Prim.Native.Nat.{_≤_, _-_}
 use mathlib.Core.Path.{_≡_}
 use native.Mathlib.Omega.{arith}
 use borrow.Author.Needs.{needs}
+use Rattle.base.proofs.IndexLaws.{storeTo-none, storeTo-more}
 use Rattle.tables_conflict.specs.Mask.{rowTo}
-use Rattle.tables_conflict.proofs.MaskLaws.{rowTo-none, rowTo-more}
 use Rattle.tables_conflict.proofs.row_marks.Statement.{statement}
 use Rattle.tables_conflict.proofs.row_marks.Tie as tie
 
@@ -21,7 +21,8 @@ array-copy-out-a : tie.Need-array-copy-out-a Inv-loop μ-loop
 array-copy-out-a c = search needs
 
 loop-holds : tie.Need-loop-holds Inv-loop μ-loop
-loop-holds c = (omega arith, rowTo-none _ _)
+unfolding rowTo
+loop-holds c = (omega arith, storeTo-none _ _ _)
 
 mul-b : tie.Need-mul-b Inv-loop μ-loop
 mul-b c = search needs
@@ -42,10 +43,10 @@ loop-less : tie.Need-loop-less Inv-loop μ-loop
 loop-less c = search needs
 
 loop-again : tie.Need-loop-again Inv-loop μ-loop
+unfolding rowTo
 loop-again c =
-    let x = c .before .before .before .before .before .args in
     let l = c .before .before .before .loop in
-    (omega arith, rowTo-more (x .t1) (x .r) (l .s) _ _ (l .inv .1) (c .clashes .ensures))
+    (omega arith, storeTo-more _ 0 _ (l .s) (l .s) _ _ (l .inv .1) (omega arith) (c .clashes .ensures))
 
 returns : tie.Need-returns Inv-loop μ-loop
 returns c = let e : c .before .loop .s ≡ c .before .before .before .args .n = omega arith in rw e at (c .before .loop .inv .1)

@@ -5,8 +5,9 @@ use mathlib.Core.Logic.{⊎-elim}
 use native.Mathlib.Omega.{arith}
 use lib.ListN.{length}
 use borrow.Author.Needs.{needs}
+use Rattle.base.proofs.IndexLaws.{storeTo-none, storeTo-length}
 use Rattle.tables_distance.specs.Store.{cutTo}
-use Rattle.tables_distance.proofs.StoreLaws.{cutTo-length, cutTo-none, cutTo-stored, cutTo-left}
+use Rattle.tables_distance.proofs.StoreLaws.{cutTo-stored, cutTo-left}
 use Rattle.tables_distance.proofs.cut_words.Statement.{statement}
 use Rattle.tables_distance.proofs.cut_words.Tie as tie
 
@@ -17,7 +18,7 @@ abbrev μ-loop : tie.MeasureT-loop
 μ-loop words₀ count i₀ words i = count - i
 
 loop-holds : tie.Need-loop-holds Inv-loop μ-loop
-loop-holds c = (omega arith, refl, cutTo-none _)
+loop-holds c = (omega arith, refl, storeTo-none _ _ _)
 
 mul-if1 : tie.Need-mul-if1 Inv-loop μ-loop
 mul-if1 c = search needs
@@ -46,7 +47,7 @@ loop-again c =
     (λ w. w .1 ∙ cutTo-stored (x .words .now) (l .i) _ (l .inv .2) (omega arith))
     (λ w. w .1 ∙ cutTo-left (x .words .now) (l .i) _ (l .inv .2) (omega arith))
     (c .if1 .came) in
-    (omega arith, ap length e ∙ cutTo-length (x .words .now) _, e)
+    (omega arith, ap length e ∙ storeTo-length _ 0 (x .words .now) _, e)
 
 same-length : tie.Need-same-length Inv-loop μ-loop
 same-length c = search needs

@@ -1,11 +1,11 @@
 -- `tables_distance::direct_row` meets its contract: a store for each column.
-use Prim.Native.Nat.{_≤_, _-_}
+use Prim.Native.Nat.{_+_, _≤_, _-_}
 use mathlib.Core.Path.{_≡_, refl, ap, _∙_}
 use native.Mathlib.Omega.{arith}
 use lib.ListN.{length}
 use borrow.Author.Needs.{needs}
+use Rattle.base.proofs.IndexLaws.{storeTo-none, storeTo-more, storeTo-length}
 use Rattle.tables_distance.specs.Store.{directTo}
-use Rattle.tables_distance.proofs.StoreLaws.{directTo-length, directTo-none, directTo-more}
 use Rattle.tables_distance.proofs.direct_row.Statement.{statement}
 use Rattle.tables_distance.proofs.direct_row.Tie as tie
 
@@ -16,7 +16,7 @@ abbrev μ-loop : tie.MeasureT-loop
 μ-loop words₀ n r p g s₀ words s = n - s
 
 loop-holds : tie.Need-loop-holds Inv-loop μ-loop
-loop-holds c = (omega arith, refl, directTo-none _ _ _ _)
+loop-holds c = (omega arith, refl, storeTo-none _ _ _)
 
 direct-word-requires : tie.Need-direct-word-requires Inv-loop μ-loop
 direct-word-requires c κs = search needs
@@ -40,8 +40,8 @@ loop-again : tie.Need-loop-again Inv-loop μ-loop
 loop-again c =
     let x = c .before .before .before .before .args in
     let l = c .before .before .loop in
-    let e = directTo-more (x .g) (x .r) (x .p) (x .words .now) (l .s) _ _ (l .inv .2) (c .direct-word .ensures) in
-    (omega arith, ap length e ∙ directTo-length (x .g) (x .r) (x .p) (x .words .now) _, e)
+    let e = storeTo-more _ (x .p) (x .words .now) (l .s) (x .p + l .s) _ _ (l .inv .2) refl (c .direct-word .ensures) in
+    (omega arith, ap length e ∙ storeTo-length _ (x .p) (x .words .now) _, e)
 
 same-length : tie.Need-same-length Inv-loop μ-loop
 same-length c = search needs

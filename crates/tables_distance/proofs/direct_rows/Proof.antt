@@ -5,10 +5,11 @@ use native.Mathlib.Omega.{arith}
 use lib.ListN.{length}
 use borrow.Author.Needs.{needs}
 use Rattle.model_rules.proofs.FaultLaws.{segmentAt-read}
+use Rattle.tables_laws.proofs.WordLaws.{row-within}
 use Rattle.tables_distance.specs.Store.{directRows}
 use Rattle.model.specs.declared.Segment.{Segment}
 use Rattle.model_effect.proofs.LengthLaws.{segments-length}
-use Rattle.tables_distance.proofs.StoreLaws.{directRows-length, directRows-none, directRows-more, row-within, row-next}
+use Rattle.tables_distance.proofs.StoreLaws.{directRows-length, directRows-none, directRows-more, row-next}
 use Rattle.tables_distance.proofs.direct_rows.Tie as tie
 use Rattle.tables_distance.proofs.direct_rows.Statement.{statement}
 

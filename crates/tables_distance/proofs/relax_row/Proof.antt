@@ -5,7 +5,8 @@ use mathlib.Core.Logic.{⊎-elim}
 use native.Mathlib.Omega.{arith}
 use lib.ListN.{length}
 use borrow.Author.Needs.{needs}
-use Rattle.tables_distance.proofs.StoreLaws.{relaxedTo-length, relaxedTo-none, relaxedTo-stored, relaxedTo-left}
+use Rattle.base.proofs.IndexLaws.{storeTo-none, storeTo-length}
+use Rattle.tables_distance.proofs.StoreLaws.{relaxedTo-stored, relaxedTo-left}
 use Rattle.tables_distance.specs.Store.{relaxedTo}
 use Rattle.tables_distance.proofs.relax_row.Statement.{statement}
 use Rattle.tables_distance.proofs.relax_row.Tie as tie
@@ -17,7 +18,7 @@ abbrev μ-loop : tie.MeasureT-loop
 μ-loop words₀ n a p q j₀ words j = n - j
 
 loop-holds : tie.Need-loop-holds Inv-loop μ-loop
-loop-holds c = (omega arith, refl, relaxedTo-none _ _ _ _)
+loop-holds c = (omega arith, refl, storeTo-none _ _ _)
 
 add-sum-word : tie.Need-add-sum-word Inv-loop μ-loop
 add-sum-word c = search needs
@@ -64,7 +65,7 @@ loop-again c =
     (λ w. w .1 ∙ relaxedTo-stored (x .a) (x .p) (x .q) (x .words .now) (l .j) _ _ (l .inv .2) (c .before .before .sum-word .ensures) (omega arith))
     (λ w. w .1 ∙ relaxedTo-left (x .a) (x .p) (x .q) (x .words .now) (l .j) _ _ (l .inv .2) (c .before .before .sum-word .ensures) (omega arith))
     (c .if1 .came) in
-    (omega arith, ap length e ∙ relaxedTo-length (x .a) (x .p) (x .q) (x .words .now) _, e)
+    (omega arith, ap length e ∙ storeTo-length _ (x .p) (x .words .now) _, e)
 
 same-length : tie.Need-same-length Inv-loop μ-loop
 same-length c = search needs

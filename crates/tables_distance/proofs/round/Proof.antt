@@ -5,8 +5,9 @@ use mathlib.Core.Logic.{⊎-elim}
 use native.Mathlib.Omega.{arith}
 use lib.ListN.{length}
 use borrow.Author.Needs.{needs}
+use Rattle.tables_laws.proofs.WordLaws.{row-within}
 use Rattle.tables_distance.specs.Store.{roundTo}
-use Rattle.tables_distance.proofs.StoreLaws.{roundTo-length, roundTo-none, roundTo-relaxed, roundTo-left, row-within, row-next}
+use Rattle.tables_distance.proofs.StoreLaws.{roundTo-length, roundTo-none, roundTo-relaxed, roundTo-left, row-next}
 use Rattle.tables_distance.proofs.round.Statement.{statement}
 use Rattle.tables_distance.proofs.round.Tie as tie
 
