@@ -23,8 +23,12 @@ recordTime = 2000000000
 abbrev pub endTime : Model → ℕ
 endTime m = m .horizon .0
 
+-- a cycle before an end time: the one comparison, for a model and for code that hands on an end time alone
+abbrev pub isBeforeTime : ℕ → Cycle → Bool
+isBeforeTime end c = ltb (c .time .0) end
+
 unfoldable pub isBeforeHorizon : Model → Cycle → Bool
-isBeforeHorizon m c = ltb (c .time .0) (endTime m)
+isBeforeHorizon m c = isBeforeTime (endTime m) c
 
 unfoldable pub isBoundBeforeHorizon : Model → Bound → Bool
 isBoundBeforeHorizon m Never = false
