@@ -44,9 +44,13 @@ unfoldable pub withPairs : List Notification → Cycle → List ℕ → List Not
 withPairs l c [] = l
 withPairs l c (e ∷ es) = withPairs (withPair l (pairOf e c)) c es
 
--- the places that 15 counts: "log plus new pairs", the new pairs of all that the segment s of thread k lists
+-- "log plus new pairs": the places that it takes with the pairs of the events es at c
+abbrev pub placesWith : List Notification → Cycle → List ℕ → ℕ
+placesWith l c es = length (withPairs l c es)
+
+-- the places that 15 counts: the new pairs of all that the segment s of thread k lists
 unfoldable pub countedPlaces : Model → Site → ℕ → ℕ → Cycle → ℕ
-countedPlaces m site k s c = length (withPairs (logOf site) c (listedIn m k s))
+countedPlaces m site k s c = placesWith (logOf site) c (listedIn m k s)
 
 -- "the least logged notification not before its wait", of event e since a cycle
 unfoldable pub isHeard : ℕ → Cycle → Notification → Bool

@@ -1,13 +1,15 @@
 -- What document 01 leaves free of a request, and what holds of it: which marks are read, what lies past the counts, equal pairs that are handed in. That threads are
 -- looked at in any order is `settled-any` of AnyOrderLaws.
 use Prim.Native.Nat.{ℕ, _<_, _≤_}
-use mathlib.Core.Path.{_≡_, refl, ap, ap₂, sym, _∙_}
+use mathlib.Core.Path.{_≡_, refl, ap, sym, fun-ext, _∙_}
 use mathlib.Core.Bool.{Bool, true, false, cond, not, _&&_, _||_}
 use mathlib.Core.List.{List, [], _∷_, _++_, append-assoc, append-nil}
 use native.Mathlib.Omega.{arith}
+use native.Mathlib.Decide.{ℕ-discrete}
 use lib.Dec.{ltb, eqb}
 use lib.ListN.{getD}
 use lib.Seq.{getD-take}
+use borrow.Author.Tests.{eq-eqb, ne-eqb}
 use Rattle.base.specs.Index.{anyBelow}
 use Rattle.base.proofs.IndexLaws.{anyBelow-same}
 use Rattle.clock.specs.declared.Cycle.{Cycle}
@@ -18,21 +20,20 @@ use Rattle.clock.specs.Advance.{_⊕_}
 use Rattle.model.specs.declared.Model.{Model}
 use Rattle.model.specs.declared.Thread.{Thread}
 use Rattle.model.specs.Rules.{modelFault}
-use Rattle.model.specs.Refusal.{accepted, wrongThread, unfit, notReady, atHorizon, hazardStands, logFull}
-use Rattle.model.specs.Limits.{isBeforeHorizon}
-use Rattle.model.specs.Record.{threadAt, readyCycle, isLive}
+use Rattle.model.specs.Refusal.{accepted, unfit}
+use Rattle.model.specs.Record.{threadAt, cycleOf, isLive}
 use Rattle.tables.specs.Conflict.{markAt}
 use Rattle.tables.specs.Word.{distanceIn}
 use Rattle.plain.specs.Wake.{floorOf}
 use Rattle.early.specs.declared.Site.{Site}
 use Rattle.early.specs.declared.Notification.{Notification}
-use Rattle.early.specs.Log.{places, pairOf, logOf, holds, withPair, withPairs, countedPlaces, dropBefore, isDropped}
+use Rattle.early.specs.Log.{places, pairOf, logOf, holds, withPair, withPairs, dropBefore, isDropped}
 use Rattle.early.specs.Earliest.{earliestOf}
 use Rattle.early.specs.Hazard.{threadsConflict, isSooner, threatens, hazard}
 use Rattle.early.specs.Fit.{isFitPair, isUnfitThreads, isUnfitLog, isUnfitWords, isUnfit, isUnfitState}
 use Rattle.early.specs.Grant.{effectAt, logAfter, closedThreads, threadsAfter, siteAfter}
 use Rattle.early.specs.Answer.{numberOf}
-use Rattle.early.specs.Request.{Requested, isFull, refusedWith, grantedTo, requestAt, requestFit, requestOf}
+use Rattle.early.specs.Request.{numberIn, Requested, refusedWith, grantedTo, answeredBy, requestFit, requestOf}
 use Rattle.plain_laws.proofs.RecordLaws.{threadAt-other}
 use Rattle.early_laws.proofs.LogLaws.{logOf-siteOf}
 use Rattle.early_laws.proofs.SettleLaws.{settled-past}
@@ -58,24 +59,15 @@ module _ (m : Model) (ws : List ℕ) (ts : List Thread) (k : ℕ) (marks others 
       (λ j. (not (eqb j k) && isLive (threadAt ts j .state)) && threatens m others ws ts k c j (getD (earliestOf m ws l ts) j Never))
       (λ j h. ap (λ (x : Bool). (not (eqb j k) && isLive (threadAt ts j .state)) && x) (threatens-row c j (getD (earliestOf m ws l ts) j Never)))
 
-  requestAt-row : (site : Site) (b : Bound) → requestAt m marks ws site ts k b ≡ requestAt m others ws site ts k b
-  unfolding requestAt
-  requestAt-row site Never = refl
-  requestAt-row site (At c) = rw (hazard-row (logOf site) c) refl
-
   pub requestOf-row : (site : Site) → requestOf m marks ws site ts k ≡ requestOf m others ws site ts k
-  unfolding requestOf requestFit
-  requestOf-row site = rw (requestAt-row site (readyCycle (threadAt ts k .state))) refl
+  unfolding requestOf requestFit numberIn
+  requestOf-row site = rw (fun-ext (hazard-row (logOf site))) refl
 
 -- places past the log's count: answers, records and what a grant leaves do not depend on them
 pub record Alike (a b : Requested) : Type 0 where
   pub answer : a .answer ≡ b .answer
   pub threads : a .threads ≡ b .threads
   pub granted : numberOf (a .answer) ≡ 0 → a .site ≡ b .site
-
-cond-alike : (b : Bool) {x y u v : Requested} → Alike x u → Alike y v → Alike (cond b x y) (cond b u v)
-cond-alike true p q = p
-cond-alike false p q = q
 
 module _ (m : Model) (marks : List (List Bool)) (ws : List ℕ) (ts : List Thread) (k : ℕ) (site other : Site)
     (variables : site .variables ≡ other .variables) (count : site .count ≡ other .count) (held : logOf site ≡ logOf other) where
@@ -98,34 +90,30 @@ module _ (m : Model) (marks : List (List Bool)) (ws : List ℕ) (ts : List Threa
           (λ i h. ap (λ (x : Notification). not (isFitPair m x)) (at i h))
 
   granted-held : (c : Cycle) → Alike (grantedTo m ws site ts k c) (grantedTo m ws other ts k c)
-  unfolding grantedTo siteAfter threadsAfter logAfter closedThreads effectAt
+  unfolding grantedTo effectAt
   granted-held c = record { answer = refl; threads = rw (held, variables) refl; granted = λ e. rw (held, variables) refl }
 
-  isFull-held : (c : Cycle) → isFull m site ts k c ≡ isFull m other ts k c
-  unfolding isFull countedPlaces
-  isFull-held c = rw held refl
-
-  requestAt-held : (b : Bound) → Alike (requestAt m marks ws site ts k b) (requestAt m marks ws other ts k b)
-  unfolding requestAt
-  requestAt-held Never = refused-alike notReady (λ e. omega arith)
-  requestAt-held (At c) =
-      rw (held, isFull-held c)
-      (cond-alike
-      (not (isBeforeHorizon m c))
-      (refused-alike atHorizon (λ e. omega arith))
-      (cond-alike
-      (hazard m marks ws (logOf other) ts k c)
-      (refused-alike hazardStands (λ e. omega arith))
-      (cond-alike (isFull m other ts k c) (refused-alike logFull (λ e. omega arith)) (granted-held c))))
+  number-held : numberIn m marks ws site ts k ≡ numberIn m marks ws other ts k
+  unfolding numberIn
+  number-held = rw held refl
 
   pub requestOf-held : Alike (requestOf m marks ws site ts k) (requestOf m marks ws other ts k)
-  unfolding requestOf requestFit
-  requestOf-held =
-      rw isUnfit-held
-      (cond-alike
-      (isUnfit m ws other ts)
-      (refused-alike unfit (λ e. omega arith))
-      (cond-alike (not (ltb k (m .t))) (refused-alike wrongThread (λ e. omega arith)) (requestAt-held (readyCycle (threadAt ts k .state)))))
+  unfolding requestOf requestFit answeredBy
+  requestOf-held = rw (isUnfit-held, number-held) (whole (isUnfit m ws other ts))
+    where
+      n : ℕ
+      n = numberIn m marks ws other ts k
+
+      c : Cycle
+      c = cycleOf (threadAt ts k .state)
+
+      decided : Dec (n ≡ accepted) → Alike (answeredBy n site ts (grantedTo m ws site ts k c)) (answeredBy n other ts (grantedTo m ws other ts k c))
+      decided (yes e) = rw (eq-eqb n accepted e) (granted-held c)
+      decided (no e) = rw (ne-eqb n accepted e) (refused-alike n e)
+
+      whole : (b : Bool) → Alike (cond b (refusedWith unfit site ts) (answeredBy n site ts (grantedTo m ws site ts k c))) (cond b (refusedWith unfit other ts) (answeredBy n other ts (grantedTo m ws other ts k c)))
+      whole true = refused-alike unfit (λ e. omega arith)
+      whole false = decided (ℕ-discrete n accepted)
 
 -- records past the threads stay as they are
 pub threadsAfter-past : (m : Model) (ws : List ℕ) (site : Site) (ts : List Thread) (k : ℕ) (c : Cycle) (j : ℕ) → k < m .t → m .t ≤ j

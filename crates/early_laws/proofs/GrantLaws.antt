@@ -16,24 +16,28 @@ use Rattle.clock.proofs.LeastLaws.{≼→not-isBoundBefore}
 use Rattle.model.specs.declared.Model.{Model}
 use Rattle.model.specs.declared.Thread.{Thread}
 use Rattle.model.specs.Record.{threadAt, nothing, awaitedBy}
-use Rattle.model_effect.proofs.FrameLaws.{notified-listed}
+use Rattle.model_effect.proofs.FrameLaws.{effectOf-begins}
 use Rattle.plain.specs.Wake.{floorOf}
 use Rattle.plain.specs.History.{ran}
 use Rattle.plain_laws.proofs.RecordLaws.{threadAt-set, threadAt-other}
 use Rattle.early.specs.declared.Site.{Site}
-use Rattle.early.specs.Log.{places, logOf, withPairs, dropBefore, countedPlaces}
+use Rattle.early.specs.Log.{places, logOf, dropBefore, countedPlaces}
 use Rattle.early.specs.Deliver.{settledItems}
 use Rattle.early.specs.Grant.{effectAt, logAfter, closedThreads, threadsAfter, siteAfter, itemsAfter}
 use Rattle.early.specs.Request.{earlyPlaces, isFull}
 use Rattle.early_laws.proofs.LogLaws.{logOf-siteOf, siteOf-variables}
+use Rattle.early_laws.proofs.OnceLaws.{placesWith-begins}
+use Rattle.early_laws.proofs.NumberLaws.{isFullBy-none}
 use Rattle.early_laws.proofs.RestLaws.{Rest, settled-rest}
 use Rattle.early_laws.proofs.SettleLaws.{settled-length, settled-segment, settled-kept}
 
 module _ (m : Model) (site : Site) (ts : List Thread) (k : ℕ) (c : Cycle) where
-  -- "its notifications are logged": as many places as 15 counts, as the segment notifies what it lists
-  pub logAfter-counted : length (logAfter m site ts k c) ≡ countedPlaces m site k (threadAt ts k .segment) c
+  -- "its notifications are logged": in no more places than 15 counts, as the segment notifies a beginning of what it lists
+  pub logAfter-counted : length (logAfter m site ts k c) ≤ countedPlaces m site k (threadAt ts k .segment) c
   unfolding logAfter effectAt countedPlaces
-  logAfter-counted = ap (λ (es : List ℕ). length (withPairs (logOf site) c es)) (notified-listed m k (threadAt ts k .segment) c (site .variables .at))
+  logAfter-counted =
+      let (rest, p) = effectOf-begins m k (threadAt ts k .segment) c (site .variables .at) in
+      rw p (placesWith-begins (logOf site) c (effectAt m site ts k c .notified) rest)
 
   -- "its closer is applied at its cycle"
 
@@ -53,10 +57,7 @@ module _ (m : Model) (site : Site) (ts : List Thread) (k : ℕ) (c : Cycle) wher
 
   pub isFull-none : isFull m site ts k c ≡ false → countedPlaces m site k (threadAt ts k .segment) c ≤ places
   unfolding isFull
-  isFull-none e =
-      let n = countedPlaces m site k (threadAt ts k .segment) c in
-      let early = isBoundBefore (floorOf m ts) (At c) && ltb earlyPlaces n in
-      nltb→le places n (not-or→both early (ltb places n) (false→T (early || ltb places n) e) .1)
+  isFull-none e = isFullBy-none (floorOf m ts) (countedPlaces m site k (threadAt ts k .segment) c) c e
 
   pub isFull-early : isFull m site ts k c ≡ false → T (isBoundBefore (floorOf m ts) (At c)) → countedPlaces m site k (threadAt ts k .segment) c ≤ earlyPlaces
   unfolding isFull

@@ -13,6 +13,7 @@ pub mod RestLaws
 pub mod AnyOrderLaws
 pub mod FitLaws
 pub mod RangeLaws
+pub mod NumberLaws
 pub mod GrantLaws
 pub mod RequestLaws
 pub mod FreeLaws

@@ -16,7 +16,7 @@ use Rattle.clock.specs.declared.Bound.{Bound}
 use Rattle.clock.specs.Cycle.{cycleAt}
 use Rattle.model.specs.Footprint.{has}
 use Rattle.early.specs.declared.Notification.{Notification}
-use Rattle.early.specs.Log.{pairOf, holds, withPair, withPairs, isDropped, dropBefore}
+use Rattle.early.specs.Log.{pairOf, holds, withPair, withPairs, placesWith, isDropped, dropBefore}
 use Rattle.early_laws.proofs.LogLaws.{In, pair-path, In→holds, withPairs-kept, withPairs-new, withPairs-only, dropBefore-only}
 
 -- no pair is held twice
@@ -70,6 +70,15 @@ withPairs-length l c (e ∷ es) =
     let h = withPair-length l (pairOf e c) in
     let k = withPairs-length (withPair l (pairOf e c)) c es in
     omega arith
+
+-- more events take more places
+pub withPairs-append : (l : List Notification) (c : Cycle) (es fs : List ℕ) → withPairs l c (es ++ fs) ≡ withPairs (withPairs l c es) c fs
+unfolding withPairs
+withPairs-append l c [] fs = refl
+withPairs-append l c (e ∷ es) fs = withPairs-append (withPair l (pairOf e c)) c es fs
+
+pub placesWith-begins : (l : List Notification) (c : Cycle) (es fs : List ℕ) → placesWith l c es ≤ placesWith l c (es ++ fs)
+placesWith-begins l c es fs = rw (withPairs-append l c es fs) (withPairs-length (withPairs l c es) c fs .0)
 
 pub dropBefore-length : (f : Bound) (l : List Notification) → length (dropBefore f l) ≤ length l
 unfolding dropBefore

@@ -3,28 +3,30 @@
 use Prim.Native.Nat.{ℕ, _<_}
 use mathlib.Core.Path.{_≡_, refl, ap, sym, subst, fun-ext}
 use mathlib.Core.Logic.{_↔_}
-use mathlib.Core.Bool.{Bool, true, false, cond, not}
+use mathlib.Core.Bool.{Bool, true, false}
 use mathlib.Core.List.{List, [], _∷_, _++_, append-assoc, append-nil}
 use native.Mathlib.Omega.{arith}
-use lib.Dec.{T, ltb, ltb→lt, T-not}
-use borrow.Author.Tests.{lt-ltb}
-use Rattle.base.proofs.BoolLaws.{T→true, T→false, true→T, false→T, not-not}
+use lib.Dec.{T-not}
+use borrow.Author.Tests.{ne-eqb}
+use Rattle.base.proofs.BoolLaws.{cond-case, T→true, T→false, true→T, false→T}
 use Rattle.clock.specs.declared.Cycle.{Cycle}
-use Rattle.clock.specs.declared.Bound.{Bound}
-use Rattle.clock.specs.declared.Bound.the-variants.{Never, At}
+use Rattle.clock.specs.declared.Bound.the-variants.{At}
 use Rattle.model.specs.declared.Model.{Model}
 use Rattle.model.specs.declared.Thread.{Thread}
-use Rattle.model.specs.Refusal.{wrongThread, unfit, notReady, atHorizon, hazardStands, logFull}
-use Rattle.model.specs.Limits.{isBeforeHorizon}
-use Rattle.model.specs.Record.{threadAt, readyCycle}
+use Rattle.model.specs.Refusal.{accepted, unfit}
+use Rattle.model.specs.Limits.{endTime, isBeforeHorizon}
+use Rattle.model.specs.Record.{threadAt, readyCycle, cycleOf}
+use Rattle.model.specs.Footprint.{listedIn}
+use Rattle.plain.specs.Wake.{floorOf}
 use Rattle.plain.specs.History.{Item}
 use Rattle.early.specs.declared.Site.{Site}
 use Rattle.early.specs.declared.Answer.the-variants.{Granted, Refused}
-use Rattle.early.specs.Log.{logOf}
+use Rattle.early.specs.Log.{logOf, countedPlaces}
 use Rattle.early.specs.Hazard.{hazard}
 use Rattle.early.specs.Fit.{isUnfit}
 use Rattle.early.specs.Answer.{numberOf}
-use Rattle.early.specs.Request.{isFull, Requested, refusedWith, grantedTo, requestAt, requestFit, requestOf, requestsOf}
+use Rattle.early.specs.Request.{isFull, numberIn, Requested, refusedWith, grantedTo, answeredBy, requestFit, requestOf, requestsOf}
+use Rattle.early_laws.proofs.NumberLaws.{readyCycle→cycle, Decided, refuses, passes, numberFor-decided, passed→numberFor}
 
 module _ (m : Model) (marks : List (List Bool)) (ws : List ℕ) (site : Site) (ts : List Thread) (k : ℕ) where
   -- what stands where a request is granted at c
@@ -41,57 +43,24 @@ module _ (m : Model) (marks : List (List Bool)) (ws : List ℕ) (site : Site) (t
     refused : (n : ℕ) → (n ≡ 0 → ⊥) → (n ≡ unfit → isUnfit m ws site ts ≡ true) → Asked (refusedWith n site ts)
     granted : (c : Cycle) → Grantable c → Asked (grantedTo m ws site ts k c)
 
-  cond-asked : (b : Bool) (x y : Requested) → (T b → Asked x) → (T (not b) → Asked y) → Asked (cond b x y)
-  cond-asked true x y f g = f tt
-  cond-asked false x y f g = g tt
+  -- the number of the model
+  DecidedIn : ℕ → Type 0
+  DecidedIn = Decided (m .t) (endTime m) (hazard m marks ws (logOf site) ts k) (floorOf m ts) (listedIn m k (threadAt ts k .segment)) (logOf site) ts k
 
   pub requestOf-asked : Asked (requestOf m marks ws site ts k)
-  unfolding requestOf requestFit requestAt
+  unfolding requestOf requestFit answeredBy numberIn isBeforeHorizon isFull countedPlaces DecidedIn
   requestOf-asked =
-      cond-asked
+      cond-case
+      Asked
       (isUnfit m ws site ts)
-      (refusedWith unfit site ts)
-      (requestFit m marks ws site ts k)
       (λ t. refused unfit (λ e. omega arith) (λ e. T→true (isUnfit m ws site ts) t))
-      (λ t.
-      cond-asked
-      (not (ltb k (m .t)))
-      (refusedWith wrongThread site ts)
-      (requestAt m marks ws site ts k (readyCycle (threadAt ts k .state)))
-      (λ u. refused wrongThread (λ e. omega arith) (λ e. absurd (omega arith)))
-      (λ u. at t (not-not (ltb k (m .t)) u) (readyCycle (threadAt ts k .state)) refl))
+      (λ t. go (T→false (isUnfit m ws site ts) t) (numberFor-decided (m .t) (endTime m) (hazard m marks ws (logOf site) ts k) (floorOf m ts) (listedIn m k (threadAt ts k .segment)) (logOf site) ts k))
     where
-      at : T (not (isUnfit m ws site ts)) → T (ltb k (m .t)) → (b : Bound) → readyCycle (threadAt ts k .state) ≡ b → Asked (requestAt m marks ws site ts k b)
-      at t u Never e = refused notReady (λ e. omega arith) (λ e. absurd (omega arith))
-      at t u (At c) e =
-          cond-asked
-          (not (isBeforeHorizon m c))
-          (refusedWith atHorizon site ts)
-          (cond (hazard m marks ws (logOf site) ts k c) (refusedWith hazardStands site ts) (cond (isFull m site ts k c) (refusedWith logFull site ts) (grantedTo m ws site ts k c)))
-          (λ a. refused atHorizon (λ e. omega arith) (λ e. absurd (omega arith)))
-          (λ a.
-          cond-asked
-          (hazard m marks ws (logOf site) ts k c)
-          (refusedWith hazardStands site ts)
-          (cond (isFull m site ts k c) (refusedWith logFull site ts) (grantedTo m ws site ts k c))
-          (λ b. refused hazardStands (λ e. omega arith) (λ e. absurd (omega arith)))
-          (λ b.
-          cond-asked
-          (isFull m site ts k c)
-          (refusedWith logFull site ts)
-          (grantedTo m ws site ts k c)
-          (λ d. refused logFull (λ e. omega arith) (λ e. absurd (omega arith)))
-          (λ d.
-          granted
-          c
-          (record {
-            fit = T→false (isUnfit m ws site ts) t;
-            thread = ltb→lt k (m .t) u;
-            ready = e;
-            before-horizon = T→true (isBeforeHorizon m c) (not-not (isBeforeHorizon m c) a);
-            no-hazard = T→false (hazard m marks ws (logOf site) ts k c) b;
-            room = T→false (isFull m site ts k c) d;
-          }))))
+      go : isUnfit m ws site ts ≡ false → {n : ℕ} → DecidedIn n → Asked (answeredBy n site ts (grantedTo m ws site ts k (cycleOf (threadAt ts k .state))))
+      go fit (refuses n other u) = rw (ne-eqb n accepted other) (refused n other (λ e. absurd (u e)))
+      go fit (passes c p) =
+          rw (readyCycle→cycle (threadAt ts k .state) c (p .ready))
+          (granted c (record { fit = fit; thread = p .thread; ready = p .ready; before-horizon = p .in-time; no-hazard = p .no-hazard; room = p .room }))
 
   -- "A refused request returns the number with state and thread records as handed in."
   pub requestOf-refused : (numberOf (requestOf m marks ws site ts k .answer) ≡ 0 → ⊥)
@@ -113,8 +82,12 @@ module _ (m : Model) (marks : List (List Bool)) (ws : List ℕ) (site : Site) (t
       go (granted c g) f = let z : _≡_ {A = ℕ} 0 1 = cc in absurd (omega arith)
 
   pub requestOf-granted : (c : Cycle) → Grantable c → requestOf m marks ws site ts k ≡ grantedTo m ws site ts k c
-  unfolding requestOf requestFit requestAt
-  requestOf-granted c g = rw (g .fit, lt-ltb k (m .t) (g .thread), g .ready, g .before-horizon, g .no-hazard, g .room) refl
+  unfolding requestOf requestFit answeredBy numberIn isBeforeHorizon isFull countedPlaces
+  requestOf-granted c g =
+      let number =
+      passed→numberFor (m .t) (endTime m) (hazard m marks ws (logOf site) ts k) (floorOf m ts) (listedIn m k (threadAt ts k .segment)) (logOf site) ts k c
+      (record { thread = g .thread; ready = g .ready; in-time = g .before-horizon; no-hazard = g .no-hazard; room = g .room }) in
+      rw (g .fit, number, readyCycle→cycle (threadAt ts k .state) c (g .ready)) refl
 
   -- a grant's answer says the segment and the cycle, and that everything stood for it
   pub granted→ : (s : ℕ) (c : Cycle) → requestOf m marks ws site ts k .answer ≡ Granted s c → (s ≡ threadAt ts k .segment) × Grantable c

@@ -1,7 +1,7 @@
 -- What a request asks of the thread records it asks of the first T alone: where two lists agree on those, every definition of "Early issue"
 -- gives the same for both. "records past those are neither read nor written"
 --     Agree     two lists of records, at least T each, that agree on the first T
---     earliestOf-same, forecastOf-same, hazard-same, floorOf-same, isFull-same, heardNow-same, effectAt-same, logAfter-same, isUnfitThreads-same
+--     earliestOf-same, forecastOf-same, hazard-same, floorOf-same, heardNow-same, effectAt-same, logAfter-same, isUnfitThreads-same
 use Prim.Native.Nat.{ℕ, zero, suc, _+_, _<_, _≤_}
 use mathlib.Core.Path.{_≡_, refl, ap, ap₂, _∙_}
 use mathlib.Core.Bool.{Bool, cond, not, _&&_}
@@ -29,7 +29,6 @@ use Rattle.early.specs.Hazard.{threatens, hazard}
 use Rattle.early.specs.Deliver.{forecastSooner, heardBy, heardNow}
 use Rattle.early.specs.Fit.{isFitThread, isUnfitThreads}
 use Rattle.early.specs.Grant.{effectAt, logAfter}
-use Rattle.early.specs.Request.{isFull}
 use Rattle.base.proofs.IndexLaws.{anyBelow-same}
 
 -- lists filled by functions that agree
@@ -122,10 +121,6 @@ module _ (m : Model) (ts us : List Thread) (agree : Agree m ts us) where
           threat j h = rw (agree .same i p, agree .same j h, earliestOf-same) refl
 
   module _ (site : Site) (k : ℕ) (c : Cycle) (h : k < m .t) where
-    pub isFull-same : isFull m site ts k c ≡ isFull m site us k c
-    unfolding isFull
-    isFull-same = rw (agree .same k h, floorOf-same) refl
-
     pub effectAt-same : effectAt m site ts k c ≡ effectAt m site us k c
     unfolding effectAt
     effectAt-same = rw (agree .same k h) refl

@@ -10,19 +10,18 @@ use mathlib.Core.Bool.{Bool, true, false, cond, not, _||_}
 use mathlib.Core.List.{List}
 use native.Mathlib.Omega.{arith}
 use native.Mathlib.Decide.{ℕ-discrete}
-use lib.Dec.{T, ltb, eqb, ltb→lt}
+use lib.Dec.{eqb}
 use lib.ListN.{length, set, length-set}
-use borrow.Author.Tests.{lt-ltb, ne-eqb}
-use Rattle.base.proofs.BoolLaws.{not-not}
+use borrow.Author.Tests.{lt-ltb, eq-eqb, ne-eqb}
 use Rattle.clock.specs.declared.Cycle.{Cycle}
-use Rattle.clock.specs.declared.Bound.{Bound}
-use Rattle.clock.specs.declared.Bound.the-variants.{Never, At}
 use Rattle.model.specs.declared.Model.{Model}
 use Rattle.model.specs.declared.Thread.{Thread}
-use Rattle.model.specs.Refusal.{accepted, wrongThread, unfit, notReady, atHorizon, hazardStands, logFull}
-use Rattle.model.specs.Limits.{isBeforeHorizon}
-use Rattle.model.specs.Record.{threadAt, readyCycle, awaitedBy}
+use Rattle.model.specs.Refusal.{accepted, unfit}
+use Rattle.model.specs.Limits.{endTime}
+use Rattle.model.specs.Record.{threadAt, readyCycle, cycleOf, awaitedBy}
+use Rattle.model.specs.Footprint.{listedIn}
 use Rattle.model.specs.Rules.{modelFault}
+use Rattle.plain.specs.Wake.{floorOf}
 use Rattle.plain_laws.proofs.RecordLaws.{threadAt-set, threadAt-other}
 use Rattle.early.specs.declared.Notification.{Notification}
 use Rattle.early.specs.declared.Site.{Site}
@@ -32,11 +31,12 @@ use Rattle.early.specs.Hazard.{hazard}
 use Rattle.early.specs.Deliver.{forecastSooner, lookedBy, afterHearing, heardNow, lookedAt, settled}
 use Rattle.early.specs.Fit.{isUnfitThreads, isUnfitLog, isUnfitWords, isUnfitState, isUnfit}
 use Rattle.early.specs.Grant.{effectAt, logAfter, closedThreads, threadsAfter, siteAfter}
-use Rattle.early.specs.Request.{isFull, Requested, refusedWith, grantedTo, requestAt, requestFit, requestOf}
+use Rattle.early.specs.Request.{numberIn, Requested, refusedWith, grantedTo, answeredBy, requestFit, requestOf}
 use Rattle.early_laws.proofs.SettleLaws.{settledBy-both, settled-past}
 use Rattle.early_laws.proofs.GrantLaws.{closedThreads-other, threadsAfter-length}
+use Rattle.early_laws.proofs.NumberLaws.{numberFor→passed, numberFor-same}
 use Rattle.early_laws.proofs.RequestLaws as asked
-use Rattle.early_lent.proofs.PlaceLaws.{Agree, isUnfitThreads-same, floorOf-same, heardNow-same, hazard-same, isFull-same, effectAt-same, logAfter-same}
+use Rattle.early_lent.proofs.PlaceLaws.{Agree, isUnfitThreads-same, floorOf-same, heardNow-same, hazard-same, effectAt-same, logAfter-same}
 
 -- the same record set in both
 set-agree : (m : Model) (ts us : List Thread) (k : ℕ) (t u : Thread) → t ≡ u → Agree m ts us → Agree m (set ts k t) (set us k u)
@@ -108,12 +108,8 @@ module _ (m : Model) (marks : List (List Bool)) (ws : List ℕ) (site : Site) (k
     refused-alike : (n : ℕ) → AlikeAfter m (refusedWith n site ts) (refusedWith n site us)
     refused-alike n = record { answer = refl; site = refl; threads = agree }
 
-    cond-alike : (b : Bool) (x y v w : Requested) → AlikeAfter m x v → (T (not b) → AlikeAfter m y w) → AlikeAfter m (cond b x y) (cond b v w)
-    cond-alike true x y v w p q = p
-    cond-alike false x y v w p q = q tt
-
     granted-alike : (c : Cycle) → k < m .t → AlikeAfter m (grantedTo m ws site ts k c) (grantedTo m ws site us k c)
-    unfolding grantedTo
+    unfolding grantedTo siteAfter threadsAfter logAfter closedThreads
     granted-alike c h =
         record {
           answer = ap (λ (t : Thread). Granted (t .segment) c) (agree .same k h);
@@ -121,68 +117,46 @@ module _ (m : Model) (marks : List (List Bool)) (ws : List ℕ) (site : Site) (k
           threads = threadsAfter-agree m site k c h ws ts us agree;
         }
 
-    at-alike : (b : Bound) → k < m .t → AlikeAfter m (requestAt m marks ws site ts k b) (requestAt m marks ws site us k b)
-    unfolding requestAt
-    at-alike Never h = refused-alike notReady
-    at-alike (At c) h =
-        rw (hazard-same m ts us agree ws (logOf site) marks k c h, isFull-same m ts us agree site k c h)
-        (cond-alike
-        (not (isBeforeHorizon m c))
-        (refusedWith atHorizon site ts)
-        (cond (hazard m marks ws (logOf site) us k c) (refusedWith hazardStands site ts) (cond (isFull m site us k c) (refusedWith logFull site ts) (grantedTo m ws site ts k c)))
-        (refusedWith atHorizon site us)
-        (cond (hazard m marks ws (logOf site) us k c) (refusedWith hazardStands site us) (cond (isFull m site us k c) (refusedWith logFull site us) (grantedTo m ws site us k c)))
-        (refused-alike atHorizon)
-        (λ _.
-        cond-alike
-        (hazard m marks ws (logOf site) us k c)
-        (refusedWith hazardStands site ts)
-        (cond (isFull m site us k c) (refusedWith logFull site ts) (grantedTo m ws site ts k c))
-        (refusedWith hazardStands site us)
-        (cond (isFull m site us k c) (refusedWith logFull site us) (grantedTo m ws site us k c))
-        (refused-alike hazardStands)
-        (λ _.
-        cond-alike
-        (isFull m site us k c)
-        (refusedWith logFull site ts)
-        (grantedTo m ws site ts k c)
-        (refusedWith logFull site us)
-        (grantedTo m ws site us k c)
-        (refused-alike logFull)
-        (λ _. granted-alike c h))))
+    number-same : numberIn m marks ws site ts k ≡ numberIn m marks ws site us k
+    unfolding numberIn
+    number-same =
+        numberFor-same (m .t) (endTime m) (hazard m marks ws (logOf site) ts k) (floorOf m ts) (listedIn m k (threadAt ts k .segment)) (logOf site) ts k
+        (hazard m marks ws (logOf site) us k) (floorOf m us) (listedIn m k (threadAt us k .segment)) us
+        (λ h.
+        record {
+          ready = ap (λ (t : Thread). readyCycle (t .state)) (agree .same k h);
+          hazards = λ c _ _. hazard-same m ts us agree ws (logOf site) marks k c h;
+          floors = floorOf-same m ts us agree;
+          listed = ap (λ (t : Thread). listedIn m k (t .segment)) (agree .same k h);
+        })
 
     fit-alike : AlikeAfter m (requestFit m marks ws site ts k) (requestFit m marks ws site us k)
-    unfolding requestFit
-    fit-alike =
-        cond-alike
-        (not (ltb k (m .t)))
-        (refusedWith wrongThread site ts)
-        (requestAt m marks ws site ts k (readyCycle (threadAt ts k .state)))
-        (refusedWith wrongThread site us)
-        (requestAt m marks ws site us k (readyCycle (threadAt us k .state)))
-        (refused-alike wrongThread)
-        (λ u.
-        let h : k < m .t = ltb→lt k (m .t) (not-not (ltb k (m .t)) u) in
-        rw (agree .same k h) (at-alike (readyCycle (threadAt us k .state)) h))
+    unfolding requestFit answeredBy numberIn
+    fit-alike = rw number-same (go (ℕ-discrete n accepted))
+      where
+        n : ℕ
+        n = numberIn m marks ws site us k
+
+        go : Dec (n ≡ accepted)
+            → AlikeAfter m (answeredBy n site ts (grantedTo m ws site ts k (cycleOf (threadAt ts k .state)))) (answeredBy n site us (grantedTo m ws site us k (cycleOf (threadAt us k .state))))
+        go (no other) = rw (ne-eqb n accepted other) (refused-alike n)
+        go (yes e) =
+            let (c, p) = numberFor→passed (m .t) (endTime m) (hazard m marks ws (logOf site) us k) (floorOf m us) (listedIn m k (threadAt us k .segment)) (logOf site) us k e in
+            rw (eq-eqb n accepted e, agree .same k (p .thread)) (granted-alike (cycleOf (threadAt us k .state)) (p .thread))
 
     -- a request gives the same answer and state, and its records agree, for whatever stands past the threads
     pub requestOf-alike : AlikeAfter m (requestOf m marks ws site ts k) (requestOf m marks ws site us k)
     unfolding requestOf isUnfit isUnfitState
-    requestOf-alike =
-        rw (isUnfitThreads-same m ts us agree)
-        (cond-alike
-        (isUnfit m ws site us)
-        (refusedWith unfit site ts)
-        (requestFit m marks ws site ts k)
-        (refusedWith unfit site us)
-        (requestFit m marks ws site us k)
-        (refused-alike unfit)
-        (λ _. fit-alike))
+    requestOf-alike = rw (isUnfitThreads-same m ts us agree) (go (isUnfit m ws site us))
+      where
+        go : (b : Bool) → AlikeAfter m (cond b (refusedWith unfit site ts) (requestFit m marks ws site ts k)) (cond b (refusedWith unfit site us) (requestFit m marks ws site us k))
+        go true = refused-alike unfit
+        go false = fit-alike
 
   module _ (ts : List Thread) where
     -- "neither read nor written"
     pub requestOf-past : (j : ℕ) → m .t ≤ j → threadAt (requestOf m marks ws site ts k .threads) j ≡ threadAt ts j
-    unfolding grantedTo
+    unfolding grantedTo threadsAfter logAfter closedThreads
     requestOf-past j past = go (asked.requestOf-asked m marks ws site ts k)
       where
         go : {r : Requested} → asked.Asked m marks ws site ts k r → threadAt (r .threads) j ≡ threadAt ts j
@@ -190,7 +164,7 @@ module _ (m : Model) (marks : List (List Bool)) (ws : List ℕ) (site : Site) (k
         go (asked.granted c g) = threadsAfter-past m site k c (g .thread) ws ts j past
 
     pub requestOf-length : length (requestOf m marks ws site ts k .threads) ≡ length ts
-    unfolding grantedTo
+    unfolding grantedTo threadsAfter logAfter closedThreads
     requestOf-length = go (asked.requestOf-asked m marks ws site ts k)
       where
         go : {r : Requested} → asked.Asked m marks ws site ts k r → length (r .threads) ≡ length ts

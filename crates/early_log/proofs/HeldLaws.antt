@@ -19,7 +19,7 @@ use Rattle.early.specs.declared.Notification.{Notification}
 use Rattle.early.specs.declared.Site.{Site}
 use Rattle.early.specs.Log.{places, pairOf, logOf, isSamePair, holds, withPair, withPairs, isHeard, leastHeard, isDropped, dropBefore}
 use Rattle.early_laws.proofs.LogLaws.{In, isSamePair→≡, In→holds}
-use Rattle.early_laws.proofs.OnceLaws.{getD-In, dropBefore-length}
+use Rattle.early_laws.proofs.OnceLaws.{withPairs-append, getD-In, dropBefore-length}
 use Rattle.early_laws.proofs.FitLaws.{placeOf}
 use Rattle.early_log.specs.Noted.{noPair}
 use Rattle.early_log.proofs.LengthLaws.{take-within}
@@ -169,15 +169,11 @@ module _ (f : Bound) (l log : List Notification) (d : Notification) (i count : �
   dropped-goes e = rw (dropBefore-goes f l d i below e) (counted, held)
 
 -- one event more
-withPairs-end : (l : List Notification) (c : Cycle) (es : List ℕ) (e : ℕ) → withPairs l c (es ++ (e ∷ [])) ≡ withPair (withPairs l c es) (pairOf e c)
-unfolding withPairs
-withPairs-end l c [] e = refl
-withPairs-end l c (d ∷ es) e = withPairs-end (withPair l (pairOf d c)) c es e
-
 module _ (l : List Notification) (c : Cycle) (es : List ℕ) where
   pub withPairs-none : withPairs l c (take 0 es) ≡ l
   unfolding withPairs
   withPairs-none = refl
 
   pub withPairs-more : (j : ℕ) → j < length es → withPairs l c (take (j + 1) es) ≡ withPair (withPairs l c (take j es)) (pairOf (getD es j 0) c)
-  withPairs-more j h = rw (add-one, take-suc es j 0 h) (withPairs-end l c (take j es) (getD es j 0))
+  unfolding withPairs
+  withPairs-more j h = rw (add-one, take-suc es j 0 h) (withPairs-append l c (take j es) (getD es j 0 ∷ []))

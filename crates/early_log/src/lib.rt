@@ -9,14 +9,9 @@ use model::Events;
 ghost use mathlib.Core.Path.{_≡_};
 ghost use Prim.Native.Nat.{_≤_, min};
 ghost use lib.ListN.{length, take};
-ghost use Rattle.early.specs.Log.{pairOf, logOf, siteOf, holds, isHeard, leastHeard, isDropped, dropBefore};
+ghost use Rattle.model.specs.Footprint.{has};
+ghost use Rattle.early.specs.Log.{pairOf, logOf, siteOf, holds, placesWith, isHeard, leastHeard, isDropped, dropBefore};
 ghost use Rattle.early_log.specs.Noted.{noPair, notedOf};
-
-// The state with its new pairs, and whether there were more than it has places for.
-pub struct Noted {
-    pub site: Site,
-    pub over: bool,
-}
 
 fn wide(x: u8) -> usize
     ensures { λ r. ⌜ r ≡ x ⌝ }
@@ -87,15 +82,14 @@ fn cleared(site: Site) -> Site
     }
 }
 
-// Document 01: "New pairs go to its end in statement order", "an equal pair held once".
-pub fn note(site: Site, c: Cycle, events: Events) -> Noted
+// Document 01: "New pairs go to its end in statement order", "an equal pair held once"; as far as there are places.
+pub fn note(site: Site, c: Cycle, events: Events) -> Site
     ensures { λ r. ⌜ r ≡ notedOf site c (take (events .n) (events .at)) ⌝ }
 {
     let tidy = cleared(site);
     let variables = tidy.variables;
     let mut log = tidy.log;
     let mut count = tidy.count;
-    let mut over = false;
     let n = within(events.n, 32);
     let mut j = 0;
     while j < n {
@@ -108,18 +102,53 @@ pub fn note(site: Site, c: Cycle, events: Events) -> Noted
         if k < 128 {
             log[k] = Notification { event: e, cycle: c };
             count += 1;
-        } else {
-            over = true;
         }
     }
-    Noted {
-        site: Site {
-            variables,
-            log,
-            count,
-        },
-        over,
+    Site {
+        variables,
+        log,
+        count,
     }
+}
+
+// Whether one of the first n events is e.
+fn is_listed(events: Events, n: usize, e: u8) -> bool
+    requires { ⌜ n ≤ 32 ⌝ }
+    ensures { λ r. ⌜ r ≡ has (take n (events .at)) e ⌝ }
+{
+    let mut i = 0;
+    while i < n {
+        let x = events.at[i];
+        i += 1;
+        if x == e {
+            return true;
+        }
+    }
+    false
+}
+
+// Document 01, 15: "log plus new pairs": the places that the log takes with the pairs of the events at c, each once.
+pub fn places_with(site: Site, c: Cycle, events: Events) -> usize
+    ensures { λ r. ⌜ r ≡ placesWith (logOf site) c (take (events .n) (events .at)) ⌝ }
+{
+    let log = site.log;
+    let used = within(site.count, 128);
+    let n = within(events.n, 32);
+    let mut count = used;
+    let mut j = 0;
+    while j < n {
+        let e = events.at[j];
+        let again = is_listed(events, j, e);
+        j += 1;
+        if again {
+            continue;
+        }
+        if is_held(log, used, e, c) {
+            continue;
+        }
+        count += 1;
+    }
+    count
 }
 
 // Whether event e is heard of it since a cycle.

@@ -19,6 +19,7 @@ use Rattle.early.specs.declared.Answer.{Answer}
 use Rattle.early.specs.declared.Answer.the-variants.{Granted, Refused}
 use Rattle.early.specs.declared.After.{After}
 use Rattle.early.specs.Fit.{isUnfit}
+use Rattle.early.specs.Grant.{logAfter, closedThreads, threadsAfter, siteAfter}
 use Rattle.early.specs.Request.{Requested, Listed, refusedWith, grantedTo, requestOf, requestsOf}
 use Rattle.early_laws.proofs.RequestLaws.{Asked, refused, granted, requestOf-asked}
 use Rattle.early_limits.proofs.StateLaws.{isUnfit→FitState}
@@ -35,7 +36,7 @@ grantsIn-≤ (Refused n) e = omega arith
 module _ (m : Model) (marks : List (List Bool)) (ws : List ℕ) where
   pub request-keeps : (site : Site) (ts : List Thread) (k : ℕ) → isUnfit m ws site ts ≡ false
       → isUnfit m ws (requestOf m marks ws site ts k .site) (requestOf m marks ws site ts k .threads) ≡ false
-  unfolding grantedTo
+  unfolding grantedTo siteAfter threadsAfter logAfter closedThreads
   request-keeps site ts k e = go (requestOf-asked m marks ws site ts k)
     where
       go : {r : Requested} → Asked m marks ws site ts k r → isUnfit m ws (r .site) (r .threads) ≡ false

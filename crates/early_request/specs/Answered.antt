@@ -1,77 +1,46 @@
--- A request on a fit state as the code answers it: by the counts of the model, the segment to run, and limits.
+-- A request on a fit state as the code asks it of `early`: by the counts of the model, its end time, the segment to run, and limits.
 use Prim.Native.Nat.{ℕ}
-use mathlib.Core.Bool.{Bool, cond, not, _&&_, _||_}
-use mathlib.Core.List.{List}
-use lib.Dec.{ltb}
-use lib.ListN.{set, take}
+use mathlib.Core.Bool.{Bool}
+use mathlib.Core.List.{List, []}
+use lib.ListN.{take}
 use Rattle.clock.specs.declared.Cycle.{Cycle}
-use Rattle.clock.specs.declared.Stamp.{Stamp}
-use Rattle.clock.specs.declared.Time.{Time}
-use Rattle.clock.specs.declared.Bound.{Bound}
-use Rattle.clock.specs.declared.Bound.the-variants.{Never, At}
 use Rattle.clock.specs.Cycle.{stampAt}
-use Rattle.clock.specs.Advance.{isBoundBefore}
 use Rattle.model.specs.declared.Segment.{Segment}
 use Rattle.model.specs.declared.Thread.{Thread}
 use Rattle.model.specs.declared.Ran.{Ran}
-use Rattle.model.specs.Refusal.{wrongThread, notReady, atHorizon, hazardStands, logFull}
-use Rattle.model.specs.Record.{threadAt, readyCycle}
-use Rattle.model.specs.Effect.{effectIn, heldEffect}
+use Rattle.model.specs.Values.{bodyOf}
+use Rattle.model.specs.Statement.{notifiedBy}
+use Rattle.model.specs.Record.{threadAt, cycleOf}
+use Rattle.model.specs.Effect.{Effect, effectIn, heldEffect}
+use Rattle.early.specs.declared.Notification.{Notification}
 use Rattle.early.specs.declared.Site.{Site}
-use Rattle.early.specs.declared.Answer.the-variants.{Granted, Refused}
-use Rattle.early.specs.declared.After.{After}
-use Rattle.early.specs.Log.{logOf, siteOf, dropBefore}
+use Rattle.early.specs.Log.{logOf}
 use Rattle.early.specs.Deliver.{settledBy}
-use Rattle.early.specs.Request.{earlyPlaces}
+use Rattle.early.specs.Request.{numberFor, Requested, grantedBy, answeredBy}
 use Rattle.early_limits.specs.Ahead.{hazardAt, segmentsOf}
-use Rattle.early_log.specs.declared.Noted.{Noted}
-use Rattle.early_log.specs.Noted.{notedOf}
 use Rattle.early_deliver.specs.Awake.{floorBelow, aheadOf, soonerOn}
 
-abbrev pub refusedOn : ℕ → Site → List Thread → After
-refusedOn n site ts = record { answer = Refused n; site = site; threads = record { at = ts } }
+-- whether a hazard stands for thread k at a cycle, on limits
+unfoldable pub hazardOn : ℕ → ℕ → List (List Bool) → List ℕ → List ℕ → List Notification → List Thread → ℕ → Cycle → Bool
+hazardOn n t marks ws reach l ts k c = hazardAt marks ws n t (segmentsOf t ts) (aheadOf reach t l ts) (stampAt c k)
 
--- after the segment s has run and closed at c, on the log and the records that this left
-unfoldable pub grantedOn : List ℕ → ℕ → Site → List Thread → ℕ → Cycle → After
-grantedOn reach t site ts s c =
-    let us = settledBy (soonerOn reach t (logOf site)) (logOf site) t ts in
-    record {
-      answer = Granted s c;
-      site = siteOf (site .variables .at) (dropBefore (floorBelow t us) (logOf site));
-      threads = record { at = us };
-    }
+unfoldable pub numberOn : ℕ → ℕ → ℕ → List ℕ → List (List Bool) → List ℕ → List ℕ → List Notification → List Thread → ℕ → ℕ
+numberOn end n t es marks ws reach l ts k = numberFor t end (hazardOn n t marks ws reach l ts k) (floorBelow t ts) es l ts k
 
--- what running thread k leaves, and the log after it
-unfoldable pub ranOn : Segment → Site → List Thread → ℕ → Cycle → Ran
-ranOn g site ts k c = heldEffect (effectIn g (threadAt ts k .segment) c (site .variables .at))
+-- an effect as the code holds it
+abbrev pub effectFrom : Ran → Effect
+effectFrom ran = record { variables = ran .variables .at; notified = take (ran .notified .n) (ran .notified .at); thread = ran .thread }
 
-unfoldable pub notedOn : Ran → Site → Cycle → Noted
-notedOn ran site c =
-    notedOf (record { variables = ran .variables; log = site .log; count = site .count }) c (take (ran .notified .n) (ran .notified .at))
+-- a grant with deliveries on limits; the code keeps no history
+unfoldable pub grantOn : List ℕ → ℕ → Site → List Thread → ℕ → Cycle → Effect → Requested
+grantOn reach t site ts k c x = grantedBy (floorBelow t) (λ l us. settledBy (soonerOn reach t l) l t us) (λ j. []) site ts k c x
 
-unfoldable pub triedOn : List ℕ → ℕ → Segment → Site → List Thread → ℕ → Cycle → After
-triedOn reach t g site ts k c =
-    let ran = ranOn g site ts k c in
-    let noted = notedOn ran site c in
-    cond (noted .over || (isBoundBefore (floorBelow t ts) (At c) && ltb earlyPlaces (noted .site .count)))
-    (refusedOn logFull site ts)
-    (grantedOn reach t (noted .site) (set ts k (ran .thread)) (threadAt ts k .segment) c)
+-- segment g run by thread k at the cycle of its record
+unfoldable pub runOn : List ℕ → ℕ → Segment → Site → List Thread → ℕ → Requested
+runOn reach t g site ts k =
+    let c = cycleOf (threadAt ts k .state) in
+    grantOn reach t site ts k c (effectFrom (heldEffect (effectIn g (threadAt ts k .segment) c (site .variables .at))))
 
-unfoldable pub clearOn : ℕ → ℕ → Segment → List (List Bool) → List ℕ → List ℕ → Site → List Thread → Stamp → After
-clearOn n t g marks ws reach site ts x =
-    cond (hazardAt marks ws n t (segmentsOf t ts) (aheadOf reach t (logOf site) ts) x)
-    (refusedOn hazardStands site ts)
-    (triedOn reach t g site ts (x .thread .0) (x .cycle))
-
-unfoldable pub readyOn : Time → ℕ → ℕ → Segment → List (List Bool) → List ℕ → List ℕ → Site → List Thread → ℕ → Bound → After
-readyOn horizon n t g marks ws reach site ts k Never = refusedOn notReady site ts
-readyOn horizon n t g marks ws reach site ts k (At c) =
-    cond (not (ltb (c .time .0) (horizon .0)))
-    (refusedOn atHorizon site ts)
-    (clearOn n t g marks ws reach site ts (stampAt c k))
-
-unfoldable pub answeredOn : Time → ℕ → ℕ → Segment → List (List Bool) → List ℕ → List ℕ → Site → List Thread → ℕ → After
-answeredOn horizon n t g marks ws reach site ts k =
-    cond (not (ltb k t))
-    (refusedOn wrongThread site ts)
-    (readyOn horizon n t g marks ws reach site ts k (readyCycle (threadAt ts k .state)))
+unfoldable pub answeredOn : ℕ → ℕ → ℕ → Segment → List (List Bool) → List ℕ → List ℕ → Site → List Thread → ℕ → Requested
+answeredOn end n t g marks ws reach site ts k =
+    answeredBy (numberOn end n t (notifiedBy (bodyOf g)) marks ws reach (logOf site) ts k) site ts (runOn reach t g site ts k)

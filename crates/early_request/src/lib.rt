@@ -9,7 +9,9 @@ use early::After;
 use early::Answer;
 use early::Notification;
 use early::Site;
+use model::Events;
 use model::Model;
+use model::Ran;
 use model::Segment;
 use model::State;
 use model::Thread;
@@ -17,18 +19,21 @@ use model::Threads;
 use model::Variables;
 ghost use Prim.Native.Nat.{_+_, _*_, _<_, _≤_};
 ghost use mathlib.Core.Path.{_≡_};
-ghost use mathlib.Core.Bool.{false, cond, _&&_, _||_};
+ghost use mathlib.Core.Bool.{false, cond};
 ghost use mathlib.Core.List.{[], _∷_};
 ghost use lib.Dec.{ltb};
-ghost use lib.ListN.{length, replicate};
+ghost use lib.ListN.{length, replicate, take};
 ghost use lib.Seq.{sets};
-ghost use Rattle.clock.specs.Advance.{isBoundBefore};
-ghost use Rattle.model.specs.Record.{noThread, threadAt};
+ghost use Rattle.model.specs.Values.{bodyOf};
+ghost use Rattle.model.specs.Statement.{notifiedBy};
+ghost use Rattle.model.specs.Record.{noThread, threadAt, cycleOf};
 ghost use Rattle.plain.specs.Start.{freshThreads};
+ghost use Rattle.early.specs.Log.{logOf, placesWith};
 ghost use Rattle.early.specs.Fit.{isUnfit};
-ghost use Rattle.early.specs.Request.{earlyPlaces, freshSite, requestOf, requestsOf};
+ghost use Rattle.early.specs.Request.{isFullBy, numberReady, refusedWith, freshSite, requestOf, requestsOf};
 ghost use Rattle.early_limits.specs.Ahead.{reachOf};
-ghost use Rattle.early_request.specs.Answered.{refusedOn, grantedOn, triedOn, clearOn, answeredOn};
+ghost use Rattle.early_deliver.specs.Awake.{floorBelow};
+ghost use Rattle.early_request.specs.Answered.{hazardOn, numberOn, effectFrom, grantOn, runOn, answeredOn};
 ghost use Rattle.early_request.specs.After.{afterOf};
 ghost use Rattle.early_request.specs.Fresh.{freshOf};
 ghost use Rattle.early_request.specs.Answers.{answerWords, answersWords, grantsIn, leftBy, outcomeOf, answersIn};
@@ -55,7 +60,7 @@ fn wide(x: u8) -> usize
 }
 
 fn refused(number: u8, site: Site, threads: Threads) -> After
-    ensures { λ r. ⌜ r ≡ refusedOn number site (threads .at) ⌝ }
+    ensures { λ r. ⌜ r ≡ afterOf (refusedWith number site (threads .at)) ⌝ }
 {
     After {
         answer: Answer::Refused(number),
@@ -65,26 +70,113 @@ fn refused(number: u8, site: Site, threads: Threads) -> After
 }
 
 // Document 01, 15: "cycle later than the floor and log plus new pairs above 96; or above 128 for any thread".
-fn is_full(over: bool, count: u8, floor: Bound, c: Cycle) -> bool
-    ensures { λ r. ⌜ r ≡ (over || (isBoundBefore floor (Bound.At c) && ltb earlyPlaces count)) ⌝ }
+fn is_full(t: u8, listed: Events, site: Site, threads: Threads, c: Cycle) -> bool
+    requires { ⌜ t ≤ 32 ⌝ }
+    ensures { λ r. ⌜ r ≡ isFullBy (floorBelow t (threads .at)) (placesWith (logOf site) c (take (listed .n) (listed .at))) c ⌝ }
 {
-    if over {
+    let n = early_log::places_with(site, c, listed);
+    if 128 < n {
         return true;
     }
-    if clock::is_bound_before(floor, Bound::At(c)) {
-        return 96 < count;
+    if n <= 96 {
+        return false;
     }
-    false
+    clock::is_bound_before(early_deliver::floor_of(threads, t), Bound::At(c))
 }
 
-// Document 01, "After a grant": deliveries, and the drop before the floor.
-fn granted(reach: &[u64], t: u8, site: Site, threads: Threads, s: u8, c: Cycle) -> After
+// 14, 15 or 0, of a ready thread before the end time.
+fn decide_ready(
+    n: u8,
+    t: u8,
+    listed: Events,
+    marks: [[bool; 64]; 64],
+    words: &[u64],
+    reach: &[u64],
+    site: Site,
+    threads: Threads,
+    at: Stamp,
+) -> u8
     requires { ⌜ t ≤ 32 ⌝ }
-    ensures { λ r. ⌜ r ≡ grantedOn (now (reach .entry)) t site (threads .at) s c ⌝ }
+    ensures { λ r. ⌜ r ≡ numberReady (hazardOn n t marks (now (words .entry)) (now (reach .entry)) (logOf site) (threads .at) (at .thread .0)) (floorBelow t (threads .at)) (take (listed .n) (listed .at)) (logOf site) (at .cycle) ⌝ }
 {
-    let after = early_deliver::settle(reach, site, threads, t);
+    let o = early_deliver::outlook_of(reach, site, threads, t);
+    let crew = o.crew;
+    let limits = o.limits;
+    if early_ahead::hazard(marks, words, n, t, crew, limits, at) {
+        return 14;
+    }
+    let c = at.cycle;
+    if is_full(t, listed, site, threads, c) {
+        return 15;
+    }
+    0
+}
+
+// The number on a fit state, 0 for a grant: by the counts of the model, its end time and the events that the segment lists.
+fn decide(
+    end: Time,
+    n: u8,
+    t: u8,
+    listed: Events,
+    marks: [[bool; 64]; 64],
+    words: &[u64],
+    reach: &[u64],
+    site: Site,
+    threads: Threads,
+    k: ThreadNo,
+) -> u8
+    requires { ⌜ t ≤ 32 ⌝ }
+    ensures { λ r. ⌜ r ≡ numberOn (end .0) n t (take (listed .n) (listed .at)) marks (now (words .entry)) (now (reach .entry)) (logOf site) (threads .at) (k .0) ⌝ }
+{
+    if t <= k.0 {
+        return 10;
+    }
+    let i = wide(k.0);
+    let x = threads.at[i];
+    let s = x.state;
+    let State::Ready(c) = s else {
+        return 12;
+    };
+    if end.0 <= c.time.0 {
+        return 13;
+    }
+    let at = Stamp {
+        cycle: c,
+        thread: k,
+    };
+    decide_ready(n, t, listed, marks, words, reach, site, threads, at)
+}
+
+// Document 01, "After a grant": what the segment left is logged and its record closed, then deliveries, and the drop before the floor.
+fn finish(reach: &[u64], t: u8, ran: Ran, site: Site, threads: Threads, at: Stamp) -> After
+    requires { ⌜ t ≤ 32 ⌝ }
+    requires { ⌜ at .thread .0 < t ⌝ }
+    requires { ⌜ placesWith (logOf site) (at .cycle) (effectFrom ran .notified) ≤ 128 ⌝ }
+    ensures { λ r. ⌜ r ≡ afterOf (grantOn (now (reach .entry)) t site (threads .at) (at .thread .0) (at .cycle) (effectFrom ran)) ⌝ }
+{
+    let i = wide(at.thread.0);
+    let c = at.cycle;
+    let x = threads.at[i];
+    let s = x.segment;
+    let variables = ran.variables;
+    let events = ran.notified;
+    let thread = ran.thread;
+    let log = site.log;
+    let count = site.count;
+    let noted = early_log::note(
+        Site {
+            variables,
+            log,
+            count,
+        },
+        c,
+        events,
+    );
+    let mut closed = threads;
+    closed.at[i] = thread;
+    let after = early_deliver::settle(reach, noted, closed, t);
     let floor = early_deliver::floor_of(after, t);
-    let kept = early_log::drop_before(site, floor);
+    let kept = early_log::drop_before(noted, floor);
     After {
         answer: Answer::Granted(s, c),
         site: kept,
@@ -92,78 +184,30 @@ fn granted(reach: &[u64], t: u8, site: Site, threads: Threads, s: u8, c: Cycle) 
     }
 }
 
-// Document 01: "the segment runs whole, its notifications are logged, and its closer is applied at its cycle".
-fn tried(
-    reach: &[u64],
-    t: u8,
-    g: Segment,
-    site: Site,
-    threads: Threads,
-    k: usize,
-    c: Cycle,
-) -> After
+// Document 01: "the segment runs whole", at the cycle of its thread's record.
+fn run_grant(reach: &[u64], t: u8, g: Segment, site: Site, threads: Threads, k: ThreadNo) -> After
     requires { ⌜ t ≤ 32 ⌝ }
-    requires { ⌜ k < t ⌝ }
-    ensures { λ r. ⌜ r ≡ triedOn (now (reach .entry)) t g site (threads .at) k c ⌝ }
+    requires { ⌜ k .0 < t ⌝ }
+    requires { ⌜ placesWith (logOf site) (cycleOf (threadAt (threads .at) (k .0) .state)) (notifiedBy (bodyOf g)) ≤ 128 ⌝ }
+    ensures { λ r. ⌜ r ≡ afterOf (runOn (now (reach .entry)) t g site (threads .at) (k .0)) ⌝ }
 {
-    let x = threads.at[k];
+    let i = wide(k.0);
+    let x = threads.at[i];
     let s = x.segment;
+    let state = x.state;
+    let c = model_effect::cycle_of(state);
     let v = site.variables;
     let ran = model_effect::effect_in(g, s, c, v);
-    let variables = ran.variables;
-    let events = ran.notified;
-    let thread = ran.thread;
-    let log = site.log;
-    let noted = early_log::note(
-        Site {
-            variables,
-            log,
-            count: site.count,
-        },
-        c,
-        events,
-    );
-    let over = noted.over;
-    let after = noted.site;
-    let count = after.count;
-    if is_full(over, count, early_deliver::floor_of(threads, t), c) {
-        return refused(15, site, threads);
-    }
-    let mut closed = threads;
-    closed.at[k] = thread;
-    granted(reach, t, after, closed, s, c)
+    let at = Stamp {
+        cycle: c,
+        thread: k,
+    };
+    finish(reach, t, ran, site, threads, at)
 }
 
-// Hazards, before anything is run.
-fn clear(
-    n: u8,
-    t: u8,
-    g: Segment,
-    marks: [[bool; 64]; 64],
-    words: &[u64],
-    reach: &[u64],
-    site: Site,
-    threads: Threads,
-    at: Stamp,
-) -> After
-    requires { ⌜ t ≤ 32 ⌝ }
-    requires { ⌜ at .thread .0 < t ⌝ }
-    ensures { λ r. ⌜ r ≡ clearOn n t g marks (now (words .entry)) (now (reach .entry)) site (threads .at) at ⌝ }
-{
-    let o = early_deliver::outlook_of(reach, site, threads, t);
-    let crew = o.crew;
-    let limits = o.limits;
-    if early_ahead::hazard(marks, words, n, t, crew, limits, at) {
-        return refused(14, site, threads);
-    }
-    let i = wide(at.thread.0);
-    let c = at.cycle;
-    tried(reach, t, g, site, threads, i, c)
-}
-
-// A request on a fit state, by the counts of its model and the segment that the thread is in.
+// A request on a fit state, by the counts of its model, its end time and the segment that the thread is in: decided, then run.
 fn answered(
-    horizon: Time,
+    end: Time,
     n: u8,
     t: u8,
     g: Segment,
@@ -175,25 +219,14 @@ fn answered(
     k: ThreadNo,
 ) -> After
     requires { ⌜ t ≤ 32 ⌝ }
-    ensures { λ r. ⌜ r ≡ answeredOn horizon n t g marks (now (words .entry)) (now (reach .entry)) site (threads .at) (k .0) ⌝ }
+    ensures { λ r. ⌜ r ≡ afterOf (answeredOn (end .0) n t g marks (now (words .entry)) (now (reach .entry)) site (threads .at) (k .0)) ⌝ }
 {
-    if t <= k.0 {
-        return refused(10, site, threads);
+    let listed = model_effect::listed(g);
+    let number = decide(end, n, t, listed, marks, words, reach, site, threads, k);
+    if number != 0 {
+        return refused(number, site, threads);
     }
-    let i = wide(k.0);
-    let x = threads.at[i];
-    let s = x.state;
-    let State::Ready(c) = s else {
-        return refused(12, site, threads);
-    };
-    if horizon.0 <= c.time.0 {
-        return refused(13, site, threads);
-    }
-    let at = Stamp {
-        cycle: c,
-        thread: k,
-    };
-    clear(n, t, g, marks, words, reach, site, threads, at)
+    run_grant(reach, t, g, site, threads, k)
 }
 
 // The segment that thread k is in, 0 where there is no such thread.
@@ -306,10 +339,10 @@ pub fn request(
     early_ahead::fill_reach(m, words, &mut reach);
     let t = m.t;
     let n = m.n;
-    let horizon = m.horizon;
+    let end = m.horizon;
     let s = segment_of(threads, t, k.0);
     let g = m.segments[s];
-    answered(horizon, n, t, g, marks, words, &reach, site, threads, k)
+    answered(end, n, t, g, marks, words, &reach, site, threads, k)
 }
 
 // Whether an answer is a grant, as a number.
@@ -376,7 +409,7 @@ fn answer_all(
 {
     let t = m.t;
     let n = m.n;
-    let horizon = m.horizon;
+    let end = m.horizon;
     let mut s = site;
     let mut ts = threads;
     let mut granted: u64 = 0;
@@ -385,7 +418,7 @@ fn answer_all(
         let k = ks[i];
         let j = segment_of(ts, t, k);
         let g = m.segments[j];
-        let a = answered(horizon, n, t, g, marks, words, reach, s, ts, ThreadNo(k));
+        let a = answered(end, n, t, g, marks, words, reach, s, ts, ThreadNo(k));
         let answer = a.answer;
         put_answer(answers, 4 * i, answer);
         granted += grants_in(answer);

@@ -4,12 +4,13 @@
 --     effectOf-length     the variables keep their number
 --     effectOf-local     where the variables used agree, the effects are alike
 --     writesIn→usesIn     what is written is used
---     notified-listed     what is notified is what is listed, whatever the variables
+--     effectIn-begins, effectOf-begins     what is notified is a beginning of what is listed, whatever the variables
+--     has-append     an event of a list is one of a longer list
 use Prim.Native.Nat.{ℕ, _<_}
 use mathlib.Core.Path.{_≡_, refl, sym, _∙_}
 use mathlib.Core.Logic.{_⊎_, inl, inr}
 use mathlib.Core.Bool.{false, not, _||_}
-use mathlib.Core.List.{List, [], _∷_}
+use mathlib.Core.List.{List, [], _∷_, _++_, append-nil}
 use native.Mathlib.Decide.{decLt, ℕ-discrete}
 use native.Mathlib.Omega.{arith}
 use lib.Dec.{T, not-T, eqb, eqb→eq, eqb-refl}
@@ -27,9 +28,9 @@ use Rattle.model.specs.declared.Closer.the-variants.{End, Time, Event}
 use Rattle.model.specs.declared.Segment.{Segment}
 use Rattle.model.specs.declared.Model.{Model}
 use Rattle.model.specs.Values.{segmentFor, bodyOf}
-use Rattle.model.specs.Statement.{executeOp, execute}
+use Rattle.model.specs.Statement.{executeOp, execute, notifiedBy}
 use Rattle.model.specs.Effect.{nextOf, closedAt, Effect, effectIn, effectOf}
-use Rattle.model.specs.Footprint.{writesOp, readsOp, writes, reads, testsNext, tests, writesOf, usesOf, writesIn, usesIn, listedIn}
+use Rattle.model.specs.Footprint.{writesOp, readsOp, writes, reads, testsNext, tests, writesOf, usesOf, writesIn, usesIn, listedIn, has}
 use Rattle.model_effect.proofs.StatementLaws.{execute-length}
 use Rattle.model_effect.proofs.EffectLaws.{nextOf-untested}
 
@@ -177,6 +178,10 @@ module _ (g : Segment) (s : ℕ) (c : Cycle) where
   unfolding effectIn
   effectIn-length v = execute-length (bodyOf g) v
 
+  pub effectIn-begins : (v : List ℕ) → (rest : List ℕ) × (notifiedBy (bodyOf g) ≡ effectIn g s c v .notified ++ rest)
+  unfolding effectIn
+  effectIn-begins v = ([], sym (append-nil (notifiedBy (bodyOf g))))
+
   pub effectIn-local : (v w : List ℕ) → Agree (λ i. T (usesOf g i)) v w → Alike (λ i. T (usesOf g i)) (effectIn g s c v) (effectIn g s c w)
   unfolding effectIn
   effectIn-local v w a =
@@ -186,6 +191,15 @@ module _ (g : Segment) (s : ℕ) (c : Cycle) where
         same-notified = refl;
         same-thread = closedAt-agree s (g .closer) c _ _ (λ i h. after .same i (testsOf→usesOf g i h));
       }
+
+pub has-append : (es fs : List ℕ) (e : ℕ) → T (has es e) → T (has (es ++ fs) e)
+unfolding has
+has-append [] fs e t = absurd t
+has-append (d ∷ es) fs e t = go (or→either (eqb d e) (has es e) t) (has-append es fs e)
+  where
+    go : T (eqb d e) ⊎ T (has es e) → (T (has es e) → T (has (es ++ fs) e)) → T (eqb d e || has (es ++ fs) e)
+    go (inl s) ih = either→or (eqb d e) (has (es ++ fs) e) (inl s)
+    go (inr s) ih = either→or (eqb d e) (has (es ++ fs) e) (inr (ih s))
 
 -- thread k in segment s of a model
 module _ (m : Model) (k s : ℕ) where
@@ -201,9 +215,9 @@ module _ (m : Model) (k s : ℕ) where
   unfolding effectOf
   effectOf-length c v = effectIn-length (segmentFor m k s) s c v
 
-  pub notified-listed : (c : Cycle) (v : List ℕ) → effectOf m k s c v .notified ≡ listedIn m k s
-  unfolding effectOf effectIn listedIn
-  notified-listed c v = refl
+  pub effectOf-begins : (c : Cycle) (v : List ℕ) → (rest : List ℕ) × (listedIn m k s ≡ effectOf m k s c v .notified ++ rest)
+  unfolding effectOf listedIn
+  effectOf-begins c v = effectIn-begins (segmentFor m k s) s c v
 
   pub effectOf-local : (c : Cycle) (v w : List ℕ) → Agree (λ i. T (usesIn m k s i)) v w
       → Alike (λ i. T (usesIn m k s i)) (effectOf m k s c v) (effectOf m k s c w)

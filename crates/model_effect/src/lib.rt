@@ -22,7 +22,7 @@ ghost use lib.ListN.{length, getD, set, replicate};
 ghost use Rattle.clock.specs.Wait.{waitEnds, heldStep};
 ghost use Rattle.model.specs.Values.{noStatement, bodyOf};
 ghost use Rattle.model.specs.Statement.{executeOp, execute, notifiedBy};
-ghost use Rattle.model.specs.Record.{noThread, readyCycle, stateAfter};
+ghost use Rattle.model.specs.Record.{noThread, readyCycle, cycleOf, stateAfter};
 ghost use Rattle.model.specs.Effect.{nextOf, closedAt, effectIn, withOp, heldThread, heldEvents, heldEffect};
 
 // The value of variable a; 0 past the places.
@@ -123,8 +123,8 @@ fn with_op(es: Events, op: Op) -> Events
     Events { n: count + 1, at }
 }
 
-// The events that a segment notifies, in statement order.
-fn notified_by(g: Segment) -> Events
+// The events that a segment lists as notifying, in statement order, whatever the variables.
+pub fn listed(g: Segment) -> Events
     ensures { λ r. ⌜ r ≡ heldEvents (notifiedBy (bodyOf g)) ⌝ }
 {
     let n = body_length(g);
@@ -188,13 +188,25 @@ pub fn effect_in(g: Segment, s: u8, c: Cycle, v: Variables) -> Ran
     ensures { λ r. ⌜ r ≡ heldEffect (effectIn g s c (v .at)) ⌝ }
 {
     let variables = execute_all(g, v);
-    let notified = notified_by(g);
+    let notified = listed(g);
     let closer = g.closer;
     let thread = closed_at(s, closer, c, variables);
     Ran {
         variables,
         notified,
         thread,
+    }
+}
+
+// The cycle that a state carries.
+pub fn cycle_of(s: State) -> Cycle
+    ensures { λ r. ⌜ r ≡ cycleOf s ⌝ }
+{
+    match s {
+        State::Ended(c) => c,
+        State::Overrun(c) => c,
+        State::Ready(c) => c,
+        State::Waiting(_, c) => c,
     }
 }
 

@@ -33,8 +33,8 @@ use Rattle.model.specs.Values.{segmentAt, segmentFor}
 use Rattle.model.specs.Effect.{nextOf, closedAt, effectOf}
 use Rattle.model.specs.Footprint.{has, writesIn, usesIn, notifiesIn}
 use Rattle.model.specs.Rules.{modelFault}
-use Rattle.model_effect.proofs.FrameLaws.{writesIn→usesIn, effectOf-frame, effectOf-length, notified-listed, effectOf-local}
-use Rattle.model_rules.proofs.RuleLaws.{modelFault-horizon, modelFault-counts}
+use Rattle.model_effect.proofs.FrameLaws.{writesIn→usesIn, effectOf-frame, effectOf-length, effectOf-local}
+use Rattle.model_rules.proofs.RuleLaws.{modelFault-horizon, modelFault-counts, modelFault-notifies}
 use Rattle.tables.specs.Conflict.{marksOf}
 use Rattle.tables.specs.Distance.{stepOf, goesTo, edge, distanceOf}
 use Rattle.tables.specs.Word.{wordsOf, distanceIn}
@@ -148,13 +148,6 @@ module _ (m : Model) (fit : modelFault m ≡ 0) (ws : List ℕ) (begins : Begins
       (onward r a next y c (cycleAt (h .time .0) (h .delta .0 + 1)) rn an (next-below k a c x an) (before-cut h t)
       (rw (edge-waits k a e c since x f, ← ⊕-oneDelta h) (⊕-mono (At c) (At h) oneDelta oneDelta start (≼-refl oneDelta))) l)
 
-  -- a segment notifies all that it lists, so that what it lists are events of the model
-  listed-below : (k s e : ℕ) → s < m .n → T (notifiesIn m k s e) → e < m .e
-  unfolding notifiesIn
-  listed-below k s e below t =
-      let same = notified-listed m k s (cycleAt 0 0) [] in
-      modelFault-keeps m fit .notifies k s (cycleAt 0 0) [] e below (subst (λ (es : List ℕ). T (has es e)) (sym same) t)
-
   distances : Distances m ws
   distances =
       record {
@@ -164,7 +157,7 @@ module _ (m : Model) (fit : modelFault m ≡ 0) (ws : List ℕ) (begins : Begins
         over-event = over-event;
         self = λ r h. distance-at r r h h ∙ distanceOf-self m r h;
         listed = λ k s c x e t. effectOf-notifies m k s c x e t;
-        listed-below = listed-below;
+        listed-below = λ k s e h t. modelFault-notifies m fit k s h e t;
         wait-begins = λ k s c x e since f. effectOf-waits m k s c x e since f;
       }
 

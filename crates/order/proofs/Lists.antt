@@ -139,7 +139,7 @@ module _ (m : Model) (pf : PlainFacts m) {marks : List (List Bool)} {ws : List �
   -- a request leads from a reached state to a reached state
   pub request-reached : (site : Site) (ts : List Thread) (h : ℕ → List Item) → Reached m site ts h → (k : ℕ)
       → let a = requestOf m marks ws site ts k in Reached m (a .site) (a .threads) (λ j. h j ++ a .items j)
-  unfolding grantedTo
+  unfolding grantedTo siteAfter threadsAfter logAfter closedThreads
   request-reached site ts h r k = go (requestOf m marks ws site ts k) (requestOf-asked m marks ws site ts k)
     where
       here : IsCut m (site .variables .at) (logOf site) ts h (r .cut) (floorOf m ts)

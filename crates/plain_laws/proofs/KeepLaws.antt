@@ -22,7 +22,7 @@ use Rattle.model.specs.Effect.{closedAt, effectOf}
 use Rattle.model.specs.Footprint.{has, notifiesIn}
 use Rattle.model.specs.Rules.{modelFault}
 use Rattle.model_effect.proofs.EffectLaws.{delayOf, closedAt-cycle}
-use Rattle.model_effect.proofs.FrameLaws.{notified-listed, effectOf-length}
+use Rattle.model_effect.proofs.FrameLaws.{has-append, effectOf-begins, effectOf-length}
 use Rattle.model_rules.proofs.RuleLaws.{closerFault-delay, closerFault-event, closedAt-segment, modelFault-horizon, modelFault-counts, segmentFor-closer, segmentFor-next, modelFault-first, modelFault-notifies}
 use Rattle.plain_laws.proofs.RecordLaws.{stateAfter-not-waits, stateAfter-delta, effectOf-thread}
 use Rattle.plain_laws.proofs.RangeLaws.{Keeps}
@@ -54,7 +54,9 @@ module _ (m : Model) (k s : ℕ) (c : Cycle) (v : List ℕ) where
   -- what it notifies is listed
   pub effectOf-notifies : (e : ℕ) → T (has (effectOf m k s c v .notified) e) → T (notifiesIn m k s e)
   unfolding notifiesIn
-  effectOf-notifies e t = rw (notified-listed m k s c v) at t
+  effectOf-notifies e t =
+      let (rest, p) = effectOf-begins m k s c v in
+      rw p (has-append (effectOf m k s c v .notified) rest e t)
 
 -- every model that keeps the file rules
 pub modelFault-keeps : (m : Model) → modelFault m ≡ 0 → Keeps m

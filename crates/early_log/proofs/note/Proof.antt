@@ -12,10 +12,10 @@ use Rattle.early_log.proofs.note.Statement.{statement}
 use Rattle.early_log.proofs.note.Tie as tie
 
 abbrev Inv-loop : tie.InvT-loop
-Inv-loop c events variables log₀ count₀ over₀ n j₀ log count over j = (j ≤ n) × Holding (withPairs (take count₀ log₀) c (take j (events .at))) log count over
+Inv-loop c events variables log₀ count₀ n j₀ log count j = (j ≤ n) × Holding (withPairs (take count₀ log₀) c (take j (events .at))) log count
 
 abbrev μ-loop : tie.MeasureT-loop
-μ-loop c events variables log₀ count₀ over₀ n j₀ log count over j = n - j
+μ-loop c events variables log₀ count₀ n j₀ log count j = n - j
 
 cleared-requires : tie.Need-cleared-requires Inv-loop μ-loop
 cleared-requires c κs = search needs
@@ -44,8 +44,8 @@ add-j c = search needs
 is-held-requires : tie.Need-is-held-requires Inv-loop μ-loop
 is-held-requires c κs =
     let l = c .before .before .before .loop in
-    let few = holding-few _ (l .log) (l .count) _ (l .inv .1) in
-    let size = holding-length _ (l .log) (l .count) _ (l .inv .1) in
+    let few = holding-few _ (l .log) (l .count) (l .inv .1) in
+    let size = holding-length _ (l .log) (l .count) (l .inv .1) in
     (omega arith, omega arith)
 
 loop-less : tie.Need-loop-less Inv-loop μ-loop
@@ -57,7 +57,7 @@ loop-again c =
     let size = events-length (x .t3) _ (c .before .before .before .before .before .before .before .before .before .before .good .1 .1 .0) in
     let t = c .before .before .before .before .before .before .before .before .before .cleared .result in
     let l = c .before .before .before .before .before .loop in
-    (omega arith, rw (withPairs-more (take (t .count) (t .log)) (x .c) (x .t3 .at) (l .j) (omega arith)) (holding-held _ (l .log) (l .count) _ (l .inv .1) _ _ (c .before .before .wide .ensures) (sym (c .if1 .taken) ∙ c .before .is-held .ensures)))
+    (omega arith, rw (withPairs-more (take (t .count) (t .log)) (x .c) (x .t3 .at) (l .j) (omega arith)) (holding-held _ (l .log) (l .count) (l .inv .1) _ _ (c .before .before .wide .ensures) (sym (c .if1 .taken) ∙ c .before .is-held .ensures)))
 
 mul-log : tie.Need-mul-log Inv-loop μ-loop
 mul-log c = search needs
@@ -77,7 +77,7 @@ loop-again-2 c =
     let size = events-length (x .t3) _ (c .before .before .before .before .before .before .before .before .before .before .before .good .1 .1 .0) in
     let t = c .before .before .before .before .before .before .before .before .before .before .cleared .result in
     let l = c .before .before .before .before .before .before .loop in
-    (omega arith, rw (withPairs-more (take (t .count) (t .log)) (x .c) (x .t3 .at) (l .j) (omega arith)) (holding-new _ (l .log) (l .count) _ (l .inv .1) _ _ (c .before .before .before .wide .ensures) (sym (c .before .if1 .left) ∙ c .before .before .is-held .ensures) (c .if2 .taken)))
+    (omega arith, rw (withPairs-more (take (t .count) (t .log)) (x .c) (x .t3 .at) (l .j) (omega arith)) (holding-new _ (l .log) (l .count) (l .inv .1) _ _ (c .before .before .before .wide .ensures) (sym (c .before .if1 .left) ∙ c .before .before .is-held .ensures) (c .if2 .taken)))
 
 loop-less-3 : tie.Need-loop-less-3 Inv-loop μ-loop
 loop-less-3 c = search needs
@@ -88,7 +88,7 @@ loop-again-3 c =
     let size = events-length (x .t3) _ (c .before .before .before .before .before .before .before .before .before .before .before .good .1 .1 .0) in
     let t = c .before .before .before .before .before .before .before .before .before .before .cleared .result in
     let l = c .before .before .before .before .before .before .loop in
-    (omega arith, rw (withPairs-more (take (t .count) (t .log)) (x .c) (x .t3 .at) (l .j) (omega arith)) (holding-full _ (l .log) (l .count) _ (l .inv .1) _ _ (c .before .before .before .wide .ensures) (sym (c .before .if1 .left) ∙ c .before .before .is-held .ensures) (c .if2 .left)))
+    (omega arith, rw (withPairs-more (take (t .count) (t .log)) (x .c) (x .t3 .at) (l .j) (omega arith)) (holding-full _ (l .log) (l .count) (l .inv .1) _ _ (c .before .before .before .wide .ensures) (c .if2 .left)))
 
 returns : tie.Need-returns Inv-loop μ-loop
 returns c =
@@ -104,7 +104,6 @@ returns c =
     (t .result .variables)
     (l .log)
     (l .count)
-    (l .over)
     (cleared-variables (t .result) _ _ (t .ensures))
     (rw (cleared-log (t .result) _ _ (t .ensures), n, take-within (x .t3 .at) (x .t3 .n) 32 size) at (l .inv .1))
 

@@ -1,20 +1,35 @@
--- `early_request::is_full` meets its contract.
-use mathlib.Core.Path.{refl, sym, _∙_}
+-- `early_request::is_full` meets its contract. Above 128, up to 96, and between them by the floor.
+use mathlib.Core.Path.{ap, _∙_}
+use native.Mathlib.Omega.{arith}
 use borrow.Author.Needs.{needs}
+use Rattle.clock.specs.declared.Bound.the-variants.{At}
+use Rattle.clock.specs.Advance.{isBoundBefore}
+use Rattle.early_request.proofs.AnsweredLaws.{floor-few, full-over, full-few, full-early}
 use Rattle.early_request.proofs.is_full.Statement.{statement}
 use Rattle.early_request.proofs.is_full.Tie as tie
 
+places-with-requires : tie.Need-places-with-requires
+places-with-requires c κs = search needs
+
 returns : tie.Need-returns
-returns c = search needs
+returns c = full-over _ _ _ _ (c .before .places-with .ensures) (c .if1 .taken)
+
+returns-2 : tie.Need-returns-2
+returns-2 c = full-few _ _ _ _ (c .before .before .places-with .ensures) (omega arith)
+
+floor-of-requires : tie.Need-floor-of-requires
+floor-of-requires c κs = search needs
 
 is-bound-before-requires : tie.Need-is-bound-before-requires
 is-bound-before-requires c κs = search needs
 
-returns-2 : tie.Need-returns-2
-returns-2 c = rw (c .before .before .if1 .left, sym (c .before .is-bound-before .ensures) ∙ c .if2 .taken) refl
-
 returns-3 : tie.Need-returns-3
-returns-3 c = rw (c .before .before .if1 .left, sym (c .before .is-bound-before .ensures) ∙ c .if2 .left) refl
+returns-3 c =
+    full-early _ _ _ _ (c .before .before .before .before .places-with .ensures) _
+    (c .is-bound-before .ensures ∙ ap (λ x. isBoundBefore x (At (c .before .before .before .before .before .args .c))) (floor-few (c .before .before .before .before .before .args .t) (c .before .before .before .before .before .args .threads .at) (omega arith) (c .before .floor-of .ensures)))
+    (omega arith) (omega arith)
 
 pub is-full-spec : {M : Type 1} → statement M
-is-full-spec = tie.close (tie.spec returns is-bound-before-requires returns-2 returns-3)
+is-full-spec =
+    tie.close
+    (tie.spec places-with-requires returns returns-2 floor-of-requires is-bound-before-requires returns-3)

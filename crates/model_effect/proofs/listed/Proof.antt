@@ -1,4 +1,4 @@
--- `model_effect::notified_by` meets its contract. The invariant: what the first j statements notify stands at the front.
+-- `model_effect::listed` meets its contract. The invariant: what the first j statements notify stands at the front.
 use Prim.Native.Nat.{_≤_, _<_, _-_}
 use mathlib.Core.Path.{_≡_, ap, _∙_}
 use native.Mathlib.Numerals.{add-one}
@@ -13,8 +13,8 @@ use Rattle.model.specs.declared.Events.{Events}
 use Rattle.model_effect.proofs.EffectLaws.{heldEvents-none, heldEvents-count, heldEvents-more}
 use Rattle.model_effect.proofs.LengthLaws.{statements-length}
 use Rattle.model_effect.proofs.StatementLaws.{notifiedBy-none, notifiedBy-more, notifiedBy-first, bodyOf-length}
-use Rattle.model_effect.proofs.notified_by.Statement.{statement}
-use Rattle.model_effect.proofs.notified_by.Tie as tie
+use Rattle.model_effect.proofs.listed.Statement.{statement}
+use Rattle.model_effect.proofs.listed.Tie as tie
 
 abbrev Inv-loop : tie.InvT-loop
 Inv-loop g n es₀ j₀ es j = (j ≤ n) × ((n ≤ 32) × (es ≡ heldEvents (notifiedBy (take j (bodyOf g)))))
@@ -70,8 +70,8 @@ loop-again c =
 returns : tie.Need-returns Inv-loop μ-loop
 returns c = rw (← take-all (c .before .loop .j) (bodyOf (c .before .before .before .args .g)) (omega arith)) (c .before .loop .inv .1 .1)
 
-pub notified-by-spec : {M : Type 1} → statement M
-notified-by-spec =
+pub listed-spec : {M : Type 1} → statement M
+listed-spec =
     tie.close
     (tie.spec
     Inv-loop

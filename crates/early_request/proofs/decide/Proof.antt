@@ -1,0 +1,67 @@
+-- `early_request::decide` meets its contract. 10, 12, 13, or what comes after them.
+use mathlib.Core.Path.{ap, sym, _∙_}
+use native.Mathlib.Omega.{arith}
+use lib.ListN.{getD}
+use borrow.Author.Needs.{needs}
+use Rattle.model.specs.Record.{noThread, readyCycle}
+use Rattle.model_effect.proofs.VariantLaws.{readyCycle-other}
+use Rattle.early_request.specs.Answered.{numberOn}
+use Rattle.early_request.proofs.AnsweredLaws.{number-thread, number-unready, number-late, number-ready}
+use Rattle.early_request.proofs.decide.Statement.{statement}
+use Rattle.early_request.proofs.decide.Tie as tie
+
+returns : tie.Need-returns
+unfolding numberOn
+returns c =
+    let x = c .before .before .before .before .args in
+    number-thread _ _ _ _ (x .t) (x .end .0) (x .t9 .at) (x .k .0) (omega arith)
+
+wide-requires : tie.Need-wide-requires
+wide-requires c κs = search needs
+
+mul-x : tie.Need-mul-x
+mul-x c = search needs
+
+element-copy-out-x : tie.Need-element-copy-out-x
+element-copy-out-x c = search needs
+
+enum-known-s : tie.Need-enum-known-s
+enum-known-s c = search needs
+
+returns-2 : tie.Need-returns-2
+unfolding numberOn
+returns-2 c =
+    let x = c .before .before .before .before .before .before .before .args in
+    let i = c .before .before .wide in
+    number-unready _ _ _ _ (x .t) (x .end .0) (x .t9 .at) (x .k .0) (omega arith)
+    (ap (λ j. readyCycle (getD (x .t9 .at) j noThread .state)) (sym (i .ensures)) ∙ sym (readyCycle-other (getD (x .t9 .at) (i .result) noThread .state) (c .match .keys2)))
+
+returns-3 : tie.Need-returns-3
+unfolding numberOn
+returns-3 c =
+    let x = c .before .before .before .before .before .before .before .before .before .before .before .before .args in
+    number-late _ _ _ _ (x .t) (x .end .0) (x .t9 .at) (x .k .0) (omega arith) _ (ap (λ j. getD (x .t9 .at) j noThread .state) (sym (c .before .before .before .before .before .before .before .wide .ensures)) ∙ c .before .before .before .before .s .given .1) (omega arith)
+
+decide-ready-requires : tie.Need-decide-ready-requires
+decide-ready-requires c κs = search needs
+
+returns-4 : tie.Need-returns-4
+unfolding numberOn
+returns-4 c =
+    let x = c .before .before .before .before .before .before .before .before .before .before .before .before .before .args in
+    c .decide-ready .ensures
+    ∙ number-ready _ _ _ _ (x .t) (x .end .0) (x .t9 .at) (x .k .0) (omega arith) _ (ap (λ j. getD (x .t9 .at) j noThread .state) (sym (c .before .before .before .before .before .before .before .before .wide .ensures)) ∙ c .before .before .before .before .before .s .given .1) (omega arith)
+
+pub decide-spec : {M : Type 1} → statement M
+decide-spec =
+    tie.close
+    (tie.spec
+    returns
+    wide-requires
+    mul-x
+    element-copy-out-x
+    enum-known-s
+    returns-2
+    returns-3
+    decide-ready-requires
+    returns-4)
