@@ -30,7 +30,22 @@ fn small(x: usize) -> u8
     x as u8
 }
 
-// Document 01: "Little-endian." Past the end bytes count as 0.
+// Document 01: "Little-endian." The bytes are there.
+fn word_within(s: &[u8], at: usize) -> u32
+    requires { ⌜ at + 2 ≤ length (now s) ⌝ }
+    ensures { λ r. ⌜ (r ≡ wordAt (now (s .entry)) at) × (r < 65536) ⌝ }
+{
+    wide(s[at]) + wide(s[at + 1]) * 256
+}
+
+fn long_within(s: &[u8], at: usize) -> u32
+    requires { ⌜ at + 4 ≤ length (now s) ⌝ }
+    ensures { λ r. ⌜ r ≡ longAt (now (s .entry)) at ⌝ }
+{
+    word_within(s, at) + word_within(s, at + 2) * 65536
+}
+
+// Two bytes, wherever they stand: past the end they count as 0.
 pub fn word_at(s: &[u8], at: usize) -> u32
     ensures { λ r. ⌜ (r ≡ wordAt (now (s .entry)) at) × (r < 65536) ⌝ }
 {
@@ -40,9 +55,10 @@ pub fn word_at(s: &[u8], at: usize) -> u32
     if s.len() - at == 1 {
         return wide(s[at]);
     }
-    wide(s[at]) + wide(s[at + 1]) * 256
+    word_within(s, at)
 }
 
+// Four bytes.
 pub fn long_at(s: &[u8], at: usize) -> u32
     ensures { λ r. ⌜ r ≡ longAt (now (s .entry)) at ⌝ }
 {
@@ -65,7 +81,7 @@ fn next_from(s: &[u8]) -> Next
         a: s[6],
         b: s[7],
         test: s[8],
-        limit: long_at(s, 9),
+        limit: long_within(s, 9),
     }
 }
 
@@ -76,7 +92,7 @@ fn closer_from(s: &[u8]) -> Closer
 {
     let kind = s[0];
     match kind {
-        1 => Closer::Time(Delay(long_at(s, 2)), next_from(s)),
+        1 => Closer::Time(Delay(long_within(s, 2)), next_from(s)),
         2 => Closer::Event(s[1], next_from(s)),
         0 | 3..=255 => Closer::End,
     }
@@ -106,7 +122,7 @@ fn closer_shape_fault(s: &[u8]) -> u8
     match kind {
         0 => model_rules::unless(rest_is_zero(s), 5),
         1 => model_rules::unless(s[1] == 0, 5),
-        2 => model_rules::unless(long_at(s, 2) == 0, 5),
+        2 => model_rules::unless(long_within(s, 2) == 0, 5),
         3..=255 => 5,
     }
 }
@@ -130,7 +146,7 @@ fn decode(s: &[u8]) -> Decoded
 {
     let kind = s[0];
     let a = s[1];
-    let b = long_at(s, 2);
+    let b = long_within(s, 2);
     match kind {
         1 => Decoded(0, Op::Set(a, b)),
         2 => Decoded(0, Op::Add(a, b)),

@@ -8,8 +8,8 @@ use Rattle.reader_segment.proofs.closer_from.Tie as tie
 shared-slice-read-kind : tie.Need-shared-slice-read-kind
 shared-slice-read-kind c = search needs
 
-long-at-requires : tie.Need-long-at-requires
-long-at-requires c κs = search needs
+long-within-requires : tie.Need-long-within-requires
+long-within-requires c κs = search needs
 
 next-from-requires : tie.Need-next-from-requires
 next-from-requires c κs = search needs
@@ -22,7 +22,7 @@ next-from-requires-2 c κs = search needs
 
 returns : tie.Need-returns
 unfolding closerFrom
-returns c = rw (c .before .before .match .keys1, c .before .long-at .ensures, c .next-from .ensures)
+returns c = rw (c .before .before .match .keys1, c .before .long-within .ensures, c .next-from .ensures)
 
 returns-2 : tie.Need-returns-2
 unfolding closerFrom
@@ -41,7 +41,7 @@ closer-from-spec =
     tie.close
     (tie.spec
     shared-slice-read-kind
-    long-at-requires
+    long-within-requires
     next-from-requires
     shared-slice-read-t10
     next-from-requires-2

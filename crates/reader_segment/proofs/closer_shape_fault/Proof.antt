@@ -20,8 +20,8 @@ shared-slice-read-unless c = search needs
 unless-requires-2 : tie.Need-unless-requires-2
 unless-requires-2 c κs = search needs
 
-long-at-requires : tie.Need-long-at-requires
-long-at-requires c κs = search needs
+long-within-requires : tie.Need-long-within-requires
+long-within-requires c κs = search needs
 
 unless-requires-3 : tie.Need-unless-requires-3
 unless-requires-3 c κs = search needs
@@ -36,7 +36,7 @@ returns-2 c = rw (c .before .before .match .keys2) (c .unless2 .ensures)
 
 returns-3 : tie.Need-returns-3
 unfolding closerShapeFault
-returns-3 c = rw (c .before .before .match .keys3, ← c .before .long-at .ensures) (c .unless3 .ensures)
+returns-3 c = rw (c .before .before .match .keys3, ← c .before .long-within .ensures) (c .unless3 .ensures)
 
 returns-4 : tie.Need-returns-4
 unfolding closerShapeFault
@@ -51,7 +51,7 @@ closer-shape-fault-spec =
     unless-requires
     shared-slice-read-unless
     unless-requires-2
-    long-at-requires
+    long-within-requires
     unless-requires-3
     returns
     returns-2

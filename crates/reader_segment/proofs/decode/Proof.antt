@@ -12,34 +12,34 @@ shared-slice-read-kind c = search needs
 shared-slice-read-a : tie.Need-shared-slice-read-a
 shared-slice-read-a c = search needs
 
-long-at-requires : tie.Need-long-at-requires
-long-at-requires c κs = search needs
+long-within-requires : tie.Need-long-within-requires
+long-within-requires c κs = search needs
 
 unless-requires : tie.Need-unless-requires
 unless-requires c κs = search needs
 
 returns : tie.Need-returns
 unfolding decodedFrom opShapeFault opFrom
-returns c = rw (c .match .keys1, c .before .long-at .ensures)
+returns c = rw (c .match .keys1, c .before .long-within .ensures)
 
 returns-2 : tie.Need-returns-2
 unfolding decodedFrom opShapeFault opFrom
-returns-2 c = rw (c .match .keys2, c .before .long-at .ensures)
+returns-2 c = rw (c .match .keys2, c .before .long-within .ensures)
 
 returns-3 : tie.Need-returns-3
 unfolding decodedFrom opShapeFault opFrom
-returns-3 c = rw (c .match .keys3, c .before .long-at .ensures)
+returns-3 c = rw (c .match .keys3, c .before .long-within .ensures)
 
 returns-4 : tie.Need-returns-4
 unfolding decodedFrom opShapeFault opFrom
-returns-4 c = rw (c .match .keys4, c .before .long-at .ensures)
+returns-4 c = rw (c .match .keys4, c .before .long-within .ensures)
 
 returns-5 : tie.Need-returns-5
 unfolding decodedFrom opShapeFault opFrom
-returns-5 c = rw (c .match .keys5, c .before .long-at .ensures)
+returns-5 c = rw (c .match .keys5, c .before .long-within .ensures)
 
 returns-6 : tie.Need-returns-6
-returns-6 c = decodedFrom-notify _ _ _ (c .before .match .keys6) (c .before .before .long-at .ensures) (c .unless .ensures)
+returns-6 c = decodedFrom-notify _ _ _ (c .before .match .keys6) (c .before .before .long-within .ensures) (c .unless .ensures)
 
 returns-7 : tie.Need-returns-7
 unfolding decodedFrom opShapeFault opFrom
@@ -49,4 +49,4 @@ returns-8 : tie.Need-returns-8
 returns-8 c = decodedFrom-other _ (c .match .rest)
 
 pub decode-spec : {M : Type 1} → statement M
-decode-spec = tie.close (tie.spec shared-slice-read-kind shared-slice-read-a long-at-requires unless-requires returns returns-2 returns-3 returns-4 returns-5 returns-6 returns-7 returns-8)
+decode-spec = tie.close (tie.spec shared-slice-read-kind shared-slice-read-a long-within-requires unless-requires returns returns-2 returns-3 returns-4 returns-5 returns-6 returns-7 returns-8)

@@ -12,11 +12,11 @@ shared-slice-read-t5 c = search needs
 shared-slice-read-t7 : tie.Need-shared-slice-read-t7
 shared-slice-read-t7 c = search needs
 
-long-at-requires : tie.Need-long-at-requires
-long-at-requires c κs = search needs
+long-within-requires : tie.Need-long-within-requires
+long-within-requires c κs = search needs
 
 returns : tie.Need-returns
-returns c = rw (c .long-at .ensures)
+returns c = rw (c .long-within .ensures)
 
 pub next-from-spec : {M : Type 1} → statement M
 next-from-spec =
@@ -25,5 +25,5 @@ next-from-spec =
     shared-slice-read-t3
     shared-slice-read-t5
     shared-slice-read-t7
-    long-at-requires
+    long-within-requires
     returns)

@@ -24,26 +24,8 @@ returns-2 c =
     let a = c .before .before .before .before .before .args in
     (c .wide .ensures .0 ∙ wordAt-one (now (a .s)) (a .at) (c .before .before .if2 .taken), omega (arith, c .wide .ensures .1))
 
-shared-slice-read-wide-2 : tie.Need-shared-slice-read-wide-2
-shared-slice-read-wide-2 c = search needs
-
-wide-requires-2 : tie.Need-wide-requires-2
-wide-requires-2 c κs = search needs
-
-add-wide : tie.Need-add-wide
-add-wide c = search needs
-
-shared-slice-read-wide-3 : tie.Need-shared-slice-read-wide-3
-shared-slice-read-wide-3 c = search needs
-
-wide-requires-3 : tie.Need-wide-requires-3
-wide-requires-3 c κs = search needs
-
-mul-result : tie.Need-mul-result
-mul-result c = search needs
-
-add-result : tie.Need-add-result
-add-result c = search needs
+word-within-requires : tie.Need-word-within-requires
+word-within-requires c κs = search needs
 
 returns-3 : tie.Need-returns-3
 returns-3 c = search needs
@@ -57,11 +39,5 @@ word-at-spec =
     shared-slice-read-wide
     wide-requires
     returns-2
-    shared-slice-read-wide-2
-    wide-requires-2
-    add-wide
-    shared-slice-read-wide-3
-    wide-requires-3
-    mul-result
-    add-result
+    word-within-requires
     returns-3)
