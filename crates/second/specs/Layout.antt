@@ -7,11 +7,11 @@ use lib.ListN.{set, replicate}
 use Rattle.second.specs.Desk.{wordAt, withWord}
 
 -- three words, and five, from a place on
-unfoldable pub threeIn : List ℕ → ℕ → ℕ → ℕ → ℕ → List ℕ
-threeIn words i a b c = withWord (withWord (withWord words i 0 a) i 1 b) i 2 c
+abbrev pub threeIn : List ℕ → ℕ → ℕ → ℕ → ℕ → List ℕ
+threeIn words k a b c = set (set (set words k a) (k + 1) b) (k + 2) c
 
-unfoldable pub fiveIn : List ℕ → ℕ → ℕ → ℕ → ℕ → ℕ → ℕ → List ℕ
-fiveIn words i a b c d e = withWord (withWord (threeIn words i a b c) i 3 d) i 4 e
+abbrev pub fiveIn : List ℕ → ℕ → ℕ → ℕ → ℕ → ℕ → ℕ → List ℕ
+fiveIn words k a b c d e = set (set (threeIn words k a b c) (k + 3) d) (k + 4) e
 
 -- an answer: number, segment, time, delta
 abbrev pub replyIn : List ℕ → ℕ → ℕ → ℕ → ℕ → List ℕ
@@ -19,7 +19,7 @@ replyIn words a b c d = set (set (set (set words 611 a) 612 b) 613 c) 614 d
 
 -- the record of thread k in one word x
 unfoldable pub recordIn : List ℕ → ℕ → ℕ → List ℕ
-recordIn words k x = fiveIn words (k % 32 * 5) (x / 4 % 256) (x % 4) (x / 1024 % 256) (x / 262144 / 1024) (x / 262144 % 1024)
+recordIn words k x = fiveIn words (k % 32 * 5 % 635) (x / 4 % 256) (x % 4) (x / 1024 % 256) (x / 262144 / 1024) (x / 262144 % 1024)
 
 unfoldable pub recordsTo : List ℕ → List ℕ → ℕ → List ℕ
 recordsTo desk out zero = out
@@ -27,7 +27,7 @@ recordsTo desk out (suc k) = recordIn (recordsTo desk out k) k (wordAt desk 224 
 
 -- notification i of the log in one word w
 unfoldable pub pairIn : List ℕ → ℕ → ℕ → List ℕ
-pairIn words i w = threeIn words (227 + 3 * (i % 128)) (w / 2199023255552) (w % 2199023255552 / 1024) (w % 2199023255552 % 1024)
+pairIn words i w = threeIn words ((227 + 3 * (i % 128)) % 637) (w / 2199023255552) (w % 2199023255552 / 1024) (w % 2199023255552 % 1024)
 
 unfoldable pub pairsTo : List ℕ → List ℕ → ℕ → List ℕ
 pairsTo desk out zero = out

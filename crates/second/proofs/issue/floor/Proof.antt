@@ -31,13 +31,15 @@ loop-less c = omega arith
 
 loop-again : tie.Need-loop-again Inv-loop μ-loop
 unfolding floorTo
-loop-again c = (omega arith, rw add-one (cc))
+loop-again c =
+    let l = c .before .before .before .loop in
+    (omega arith, rw (add-one, ← l .inv .1, ← c .before .at .ensures) (c .sooner .ensures))
 
 returns : tie.Need-returns Inv-loop μ-loop
 returns c =
     let l = c .before .loop in
     let end : l .k ≡ 32 = omega arith in
-    cc
+    rw end at (l .inv .1)
 
 pub floor-spec : {M : Type 1} → statement M
 floor-spec =

@@ -21,7 +21,7 @@ put-three-requires c κs = tt
 
 returns : tie.Need-returns
 unfolding pairIn
-returns c = cc
+returns c = rw (← c .before .event-of .ensures, ← c .before .before .before .key-of .ensures) (c .put-three .ensures)
 
 pub put-pair-spec : {M : Type 1} → statement M
 put-pair-spec =

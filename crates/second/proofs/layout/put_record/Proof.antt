@@ -21,7 +21,9 @@ put-five-requires c κs = tt
 
 returns : tie.Need-returns
 unfolding recordIn
-returns c = cc
+returns c =
+    let k = c .before .before in
+    rw (← k .before .before .segment-of .ensures .0, ← k .before .event-of .ensures, ← k .key-of .ensures .0) (c .put-five .ensures)
 
 pub put-record-spec : {M : Type 1} → statement M
 put-record-spec =

@@ -20,7 +20,10 @@ copy-requires-2 c κs = tt
 
 returns : tie.Need-returns
 unfolding wordsOf
-returns c = cc
+returns c =
+    let p = c .before .before .before .before in
+    let n = p .before .before in
+    rw (← n .before .put-records .ensures, ← n .at .ensures, ← p .put-pairs .ensures, ← c .before .before .copy .ensures) (c .copy2 .ensures)
 
 pub words-of-spec : {M : Type 1} → statement M
 words-of-spec =
