@@ -9,7 +9,7 @@ use native.Mathlib.Numerals.{add-one}
 use lib.ListN.{length, getD, take, drop, set, replicate, length-replicate, drop-of-length-le}
 use lib.Seq.{sets, sets-eq, set-out, take-suc, length-take-le}
 use Rattle.base.specs.Index.{tabulate}
-use Rattle.base.proofs.IndexLaws.{tabulate-length}
+use Rattle.base.proofs.IndexLaws.{tabulate-length, tabulate-more}
 
 module _ {A : Type 0} where
   pub sets-past : (l : List A) (i : ℕ) (xs : List A) → length l ≤ i → sets l i xs ≡ l
@@ -34,13 +34,6 @@ module _ {A : Type 0} where
       rw (add-one, take-suc xs i d h) (sets-more (take i xs) (getD xs i d ∷ []) l out s (s + i) e n)
 
   -- one store for each index: f i goes to place i
-  pub tabulate-more : (n i : ℕ) (f : ℕ → A) → tabulate (suc n) i f ≡ tabulate n i f ++ (f (i + n) ∷ [])
-  unfolding tabulate
-  tabulate-more zero i f = rw (add-zero i) refl
-  tabulate-more (suc n) i f =
-      let e : i + suc n ≡ i + 1 + n = omega arith in
-      rw e (ap (λ (r : List A). f i ∷ r) (tabulate-more n (i + 1) f))
-
   pub tabulate-none : (l : List A) (f : ℕ → A) → l ≡ sets l 0 (tabulate 0 0 f)
   unfolding tabulate
   tabulate-none l f = refl

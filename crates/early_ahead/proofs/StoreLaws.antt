@@ -2,7 +2,7 @@
 --     places-..     no store, one more, one pass after the other, the same in other words
 use Prim.Native.Nat.{ℕ, _+_, _*_, _/_, _%_, _≤_, _<_, _-_}
 use mathlib.Core.Path.{_≡_, refl, ap, sym, _∙_}
-use mathlib.Core.Bool.{Bool, true, false, cond, _&&_, _||_, and-false, or-false, or-assoc}
+use mathlib.Core.Bool.{Bool, true, false, cond, _&&_, _||_, and-false, or-false}
 use mathlib.Core.List.{List, [], _∷_, _++_}
 use native.Mathlib.Omega.{arith}
 use native.Mathlib.Decide.{decLt, ℕ-discrete}
@@ -23,6 +23,7 @@ use Rattle.model.specs.Values.{segmentAt, bodyOf}
 use Rattle.model.specs.Statement.{notifiedBy, notifiedByOp}
 use Rattle.model.specs.Footprint.{has}
 use Rattle.model_effect.proofs.StatementLaws.{notifiedBy-none, notifiedBy-more}
+use Rattle.model_effect.proofs.FootprintLaws.{has-append}
 use Rattle.model_rules.proofs.FaultLaws.{segmentAt-past}
 use Rattle.tables.specs.Word.{allOnes}
 use Rattle.early_limits.specs.Limit.{limitOfWord, lesser, lesserBelow, atMost}
@@ -122,11 +123,6 @@ module _ (ws : List ℕ) (n s e : ℕ) (xs : List ℕ) where
       (λ k b z. columnLowered-other r k (getD xs k 0) z))
 
 -- the events of the statements
-
-has-append : (es fs : List ℕ) (q : ℕ) → has (es ++ fs) q ≡ (has es q || has fs q)
-unfolding has
-has-append [] fs q = refl
-has-append (x ∷ es) fs q = rw (has-append es fs q) (sym (or-assoc (eqb x q) (has es q) (has fs q)))
 
 has-op : (o : Op) (q : ℕ) → q < 32 → has (notifiedByOp o []) q ≡ eqb (eventOf o) q
 unfolding has eventOf

@@ -16,11 +16,6 @@ use Rattle.base.specs.Index.{tabulate}
 use Rattle.base.proofs.IndexLaws.{tabulate-length, tabulate-at}
 
 module _ {A : Type 0} where
-  pub tabulate-same : (n i : ℕ) (f g : ℕ → A) → ((j : ℕ) → j < i + n → f j ≡ g j) → tabulate n i f ≡ tabulate n i g
-  unfolding tabulate
-  tabulate-same zero i f g h = refl
-  tabulate-same (suc n) i f g h = ap₂ _∷_ (h i (omega arith)) (tabulate-same n (i + 1) f g (λ j l. h j (omega arith)))
-
   -- the first k of f, and d past them
   abbrev pub filledTo : (ℕ → A) → A → ℕ → ℕ → A
   filledTo f d k i = cond (ltb i k) (f i) d

@@ -9,6 +9,7 @@ use native.Mathlib.Omega.{arith}
 use native.Mathlib.Decide.{decLt}
 use lib.Dec.{ltb}
 use borrow.Author.Tests.{le-ltb}
+use Rattle.base.proofs.IndexLaws.{tabulate-same}
 use Rattle.clock.specs.declared.Cycle.{Cycle}
 use Rattle.clock.specs.declared.Bound.{Bound}
 use Rattle.clock.specs.declared.Bound.the-variants.{Never, At}
@@ -33,7 +34,6 @@ use Rattle.early_limits.proofs.RoundLaws.{limitsOf}
 use Rattle.early_limits.proofs.AheadLaws.{forecast-heard}
 use Rattle.early_limits.proofs.DeliverLaws.{lookedAt-fit}
 use Rattle.early_deliver.specs.Awake.{boundLimit, firstLimitOf, firstLimit, firstLimits, aheadOf, soonerAt, soonerOn}
-use Rattle.early_deliver.proofs.FillLaws.{tabulate-same}
 
 boundLimit-is : (b : Bound) → Limited b → boundLimit b ≡ limitOf b
 unfolding limitOf

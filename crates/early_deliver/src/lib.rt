@@ -33,12 +33,6 @@ pub struct Outlook {
     pub heard: bool,
 }
 
-fn wide(x: u8) -> usize
-    ensures { λ r. ⌜ r ≡ x ⌝ }
-{
-    x as usize
-}
-
 // The number of threads, 32 where it is above that.
 fn few(t: u8) -> u8
     ensures { λ r. ⌜ (r ≡ atMost 32 t) × (r ≤ 32) ⌝ }
@@ -63,7 +57,7 @@ fn crew_of(threads: Threads, t: u8) -> Crew
     requires { ⌜ t ≤ 32 ⌝ }
     ensures { λ r. ⌜ r ≡ crewOf t (threads .at) ⌝ }
 {
-    let n = wide(t);
+    let n = buffers::wide(t);
     let mut segments = [0u8; 32];
     let mut events = [255u8; 32];
     let mut k = 0;
@@ -112,7 +106,7 @@ fn first_limits(site: Site, threads: Threads, t: u8) -> Limits
     requires { ⌜ t ≤ 32 ⌝ }
     ensures { λ r. ⌜ r .at ≡ firstLimits t (logOf site) (threads .at) ⌝ }
 {
-    let n = wide(t);
+    let n = buffers::wide(t);
     let mut at = [NEVER; 32];
     let mut k = 0;
     while k < n {
@@ -196,7 +190,7 @@ fn sweep(reach: &[u64], site: Site, o: Outlook, t: u8) -> Outlook
     ensures seen { λ r. ⌜ r ≡ outlookOf (now (reach .entry)) t (logOf site) (sweptBy (soonerOn (now (reach .entry)) t (logOf site)) (logOf site) (o .threads .at) t) (r .heard) ⌝ }
     ensures still { λ r. ⌜ (r .heard ≡ false → r .threads .at ≡ o .threads .at) ⌝ }
 {
-    let n = wide(t);
+    let n = buffers::wide(t);
     let threads = o.threads;
     let crew = o.crew;
     let limits = o.limits;
@@ -219,7 +213,7 @@ fn settle_below(reach: &[u64], site: Site, threads: Threads, t: u8) -> Threads
     requires { ⌜ t ≤ 32 ⌝ }
     ensures { λ r. ⌜ r .at ≡ settledBy (soonerOn (now (reach .entry)) t (logOf site)) (logOf site) t (threads .at) ⌝ }
 {
-    let n = wide(t);
+    let n = buffers::wide(t);
     let mut o = outlook_with(reach, site, threads, t, false);
     let mut i = 0;
     while i < n {
@@ -236,7 +230,7 @@ fn settle_below(reach: &[u64], site: Site, threads: Threads, t: u8) -> Threads
 pub fn floor_of(threads: Threads, t: u8) -> Bound
     ensures { λ r. ⌜ r ≡ floorBelow (atMost 32 t) (threads .at) ⌝ }
 {
-    let n = wide(few(t));
+    let n = buffers::wide(few(t));
     let mut least = Bound::Never;
     let mut k = 0;
     while k < n {

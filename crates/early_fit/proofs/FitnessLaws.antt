@@ -2,7 +2,7 @@
 use Prim.Native.Nat.{ℕ, _<_, _≤_, _*_, _/_}
 use mathlib.Core.Path.{_≡_, refl, ap, sym, _∙_}
 use mathlib.Core.Logic.{inl, inr}
-use mathlib.Core.Bool.{Bool, true, false, not, _&&_, _||_}
+use mathlib.Core.Bool.{Bool, true, false, not, _&&_, _||_, and-true, or-true}
 use mathlib.Core.List.{List}
 use native.Mathlib.Nat.{mul-le-mul, le-of-lt}
 use native.Mathlib.Omega.{arith}
@@ -36,14 +36,6 @@ module _ (limit : ℕ) (c : Cycle) where
   pub isFitCycle-above : limit ≤ c .time .0 → false ≡ isFitCycle limit c
   unfolding isFitCycle
   isFitCycle-above h = rw (le-ltb (c .time .0) limit h) refl
-
-and-true : (a : Bool) → (a && true) ≡ a
-and-true true = refl
-and-true false = refl
-
-or-true : (a : Bool) → (a || true) ≡ true
-or-true true = refl
-or-true false = refl
 
 -- what is asked of a state
 abbrev pub isFitState : Model → State → Bool

@@ -21,12 +21,6 @@ ghost use Rattle.early.specs.Fit.{isFitCycle, isFitWait, isFitThread, isFitPair
 // Document 01: "all ones apart".
 const NEVER: u64 = 18446744073709551615;
 
-fn wide(x: u8) -> usize
-    ensures { λ r. ⌜ r ≡ x ⌝ }
-{
-    x as usize
-}
-
 // A time below the limit, and no "delta above 1,023".
 fn is_fit_cycle(c: Cycle, limit: u64) -> bool
     ensures { λ r. ⌜ r ≡ isFitCycle limit c ⌝ }
@@ -81,7 +75,7 @@ fn is_unfit_threads(threads: Threads, t: u8, n: u8, e: u8) -> bool
     requires { ⌜ t ≤ 32 ⌝ }
     ensures { λ r. ⌜ ((m : Model) → m .t ≡ t → m .n ≡ n → m .e ≡ e → r ≡ isUnfitThreads m (threads .at)) ⌝ }
 {
-    let count = wide(t);
+    let count = buffers::wide(t);
     let mut k = 0;
     while k < count {
         let x = threads.at[k];
@@ -97,7 +91,7 @@ fn is_unfit_threads(threads: Threads, t: u8, n: u8, e: u8) -> bool
 fn is_unfit_log(site: Site, e: u8) -> bool
     ensures { λ r. ⌜ ((m : Model) → m .e ≡ e → r ≡ isUnfitLog m site) ⌝ }
 {
-    let count = wide(site.count);
+    let count = buffers::wide(site.count);
     if 128 < count {
         return true;
     }
@@ -145,7 +139,7 @@ fn is_unfit_state(site: Site, threads: Threads, t: u8, n: u8, e: u8) -> bool
 fn is_unfit_table(words: &[u64], n: u8) -> bool
     ensures { λ r. ⌜ ((m : Model) → m .n ≡ n → r ≡ isUnfitWords m (now (words .entry))) ⌝ }
 {
-    let row = wide(n);
+    let row = buffers::wide(n);
     let count = row * row;
     if words.len() < count {
         return true;

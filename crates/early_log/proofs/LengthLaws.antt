@@ -1,4 +1,4 @@
--- The number of places of a log and of a list of events, as owning their records tells it; what a count above it takes.
+-- The number of places of a log, as owning its record tells it; what a count above it takes.
 use Prim.Native.Nat.{ℕ, _≤_, min}
 use mathlib.Core.Path.{_≡_, refl, sym, _∙_}
 use mathlib.Core.List.{List}
@@ -9,18 +9,12 @@ use denote.Laws.{Is}
 use denote.Struct.Laws as LL
 use lib.ListN.{length, take, length-map}
 use lib.Seq.{take-all}
-use Rattle.model.specs.declared.Events.{Events}
-use Rattle.model.proofs.Events as events
-use Rattle.model.proofs.Events.Laws as events′
 use Rattle.early.specs.declared.Site.{Site}
 use Rattle.early.proofs.Site as site
 use Rattle.early.proofs.Site.Laws as site′
 
 pub log-length : (s : Site) (vs : List Val) → Is site.the-row s vs → length (s .log) ≡ 128
 log-length s vs g = sym (length-map (s .log) _) ∙ LL.owed site.the-type site′.the-laws s vs g .1 .0 .1 .0 .1
-
-pub events-length : (x : Events) (vs : List Val) → Is events.the-row x vs → length (x .at) ≡ 32
-events-length x vs g = sym (length-map (x .at) _) ∙ LL.owed events.the-type events′.the-laws x vs g .1 .0 .1 .0 .1
 
 -- a count above the places takes them all
 pub take-within : {A : Type 0} (xs : List A) (n p : ℕ) → length xs ≡ p → take (min n p) xs ≡ take n xs

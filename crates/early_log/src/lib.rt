@@ -13,17 +13,11 @@ ghost use Rattle.model.specs.Footprint.{has};
 ghost use Rattle.early.specs.Log.{pairOf, logOf, siteOf, holds, placesWith, isHeard, leastHeard, isDropped, dropBefore};
 ghost use Rattle.early_log.specs.Noted.{noPair, notedOf};
 
-fn wide(x: u8) -> usize
-    ensures { λ r. ⌜ r ≡ x ⌝ }
-{
-    x as usize
-}
-
 // A count, or the number of places where it is above that.
 fn within(count: u8, places: usize) -> usize
     ensures { λ r. ⌜ r ≡ min count places ⌝ }
 {
-    let n = wide(count);
+    let n = buffers::wide(count);
     if n < places {
         return n;
     }
@@ -94,7 +88,7 @@ pub fn note(site: Site, c: Cycle, events: Events) -> Site
     let mut j = 0;
     while j < n {
         let e = events.at[j];
-        let k = wide(count);
+        let k = buffers::wide(count);
         j += 1;
         if is_held(log, k, e, c) {
             continue;
@@ -203,7 +197,7 @@ pub fn drop_before(site: Site, floor: Bound) -> Site
         let x = site.log[i];
         i += 1;
         if !is_dropped(floor, x) {
-            let p = wide(count);
+            let p = buffers::wide(count);
             log[p] = x;
             count += 1;
         }

@@ -53,12 +53,6 @@ pub struct Outcome {
     pub threads: Threads,
 }
 
-fn wide(x: u8) -> usize
-    ensures { λ r. ⌜ r ≡ x ⌝ }
-{
-    x as usize
-}
-
 fn refused(number: u8, site: Site, threads: Threads) -> After
     ensures { λ r. ⌜ r ≡ afterOf (refusedWith number site (threads .at)) ⌝ }
 {
@@ -131,7 +125,7 @@ fn decide(
     if t <= k.0 {
         return 10;
     }
-    let i = wide(k.0);
+    let i = buffers::wide(k.0);
     let x = threads.at[i];
     let s = x.state;
     let State::Ready(c) = s else {
@@ -154,7 +148,7 @@ fn finish(reach: &[u64], t: u8, ran: Ran, site: Site, threads: Threads, at: Stam
     requires { ⌜ placesWith (logOf site) (at .cycle) (effectFrom ran .notified) ≤ 128 ⌝ }
     ensures { λ r. ⌜ r ≡ afterOf (grantOn (now (reach .entry)) t site (threads .at) (at .thread .0) (at .cycle) (effectFrom ran)) ⌝ }
 {
-    let i = wide(at.thread.0);
+    let i = buffers::wide(at.thread.0);
     let c = at.cycle;
     let x = threads.at[i];
     let s = x.segment;
@@ -191,7 +185,7 @@ fn run_grant(reach: &[u64], t: u8, g: Segment, site: Site, threads: Threads, k: 
     requires { ⌜ placesWith (logOf site) (cycleOf (threadAt (threads .at) (k .0) .state)) (notifiedBy (bodyOf g)) ≤ 128 ⌝ }
     ensures { λ r. ⌜ r ≡ afterOf (runOn (now (reach .entry)) t g site (threads .at) (k .0)) ⌝ }
 {
-    let i = wide(k.0);
+    let i = buffers::wide(k.0);
     let x = threads.at[i];
     let s = x.segment;
     let state = x.state;
@@ -237,9 +231,9 @@ fn segment_of(threads: Threads, t: u8, k: u8) -> usize
     if t <= k {
         return 0;
     }
-    let i = wide(k);
+    let i = buffers::wide(k);
     let x = threads.at[i];
-    wide(x.segment)
+    buffers::wide(x.segment)
 }
 
 // The variables and the log, all zero.
@@ -258,28 +252,14 @@ fn fresh_site() -> Site
     }
 }
 
-fn no_threads() -> Threads
-    ensures { λ r. ⌜ r .at ≡ replicate 32 noThread ⌝ }
-{
-    let c = Cycle {
-        time: Time(0),
-        delta: Delta(0),
-    };
-    let x = Thread {
-        segment: 0,
-        state: State::Ended(c),
-    };
-    Threads { at: [x; 32] }
-}
-
 // Document 01: "All threads start ready at (0, 0)".
 fn fresh_threads(m: Model) -> Threads
     requires { ⌜ m .t ≤ 32 ⌝ }
     ensures { λ r. ⌜ r .at ≡ freshThreads m ⌝ }
 {
     let count = m.t;
-    let n = wide(count);
-    let mut ts = no_threads();
+    let n = buffers::wide(count);
+    let mut ts = model_effect::no_threads();
     let mut k = 0;
     while k < n {
         let s = m.starts[k];
@@ -302,7 +282,7 @@ pub fn fresh(m: Model) -> FreshState
 {
     let site = fresh_site();
     if model_rules::model_fault(m) != 0 {
-        let threads = no_threads();
+        let threads = model_effect::no_threads();
         return FreshState {
             number: 11,
             site,

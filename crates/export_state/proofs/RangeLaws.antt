@@ -33,15 +33,6 @@ use Rattle.early.proofs.Site as site
 use Rattle.early.proofs.Site.Laws as site′
 use Rattle.export_state.specs.Numbers.{threadWords, recordOf}
 
-pub variables-length : (v : Variables) (vs : List Val) → Is variables.the-row v vs → length (v .at) ≡ 64
-variables-length v vs g = sym (length-map (v .at) _) ∙ LL.owed variables.the-type variables′.the-laws v vs g .0 .1 .0 .1
-
-pub log-length : (s : Site) (vs : List Val) → Is site.the-row s vs → length (s .log) ≡ 128
-log-length s vs g = sym (length-map (s .log) _) ∙ LL.owed site.the-type site′.the-laws s vs g .1 .0 .1 .0 .1
-
-pub threads-length : (t : Threads) (vs : List Val) → Is threads.the-row t vs → length (t .at) ≡ 32
-threads-length t vs g = sym (length-map (t .at) _) ∙ LL.owed threads.the-type threads′.the-laws t vs g .0 .1 .0 .1
-
 pub record PairRange (x : Notification) : Type 0 where
   pub event : x .event < 2 ^ 8
   pub delta : x .cycle .delta .0 < 2 ^ 32

@@ -8,8 +8,8 @@ use native.Mathlib.Numerals.{add-one}
 use lib.ListN.{length, getD, take, drop, length-append, length-drop, List·getD-append}
 use lib.Seq.{sets, ext-getD, getD-append-add, getD-take, getD-drop, take-add, take-suc, length-take-le}
 use Rattle.base.specs.Index.{tabulate}
-use Rattle.base.proofs.IndexLaws.{tabulate-length, tabulate-at}
-use Rattle.buffers.proofs.StoreLaws.{sets-more, tabulate-more}
+use Rattle.base.proofs.IndexLaws.{tabulate-length, tabulate-at, tabulate-more}
+use Rattle.buffers.proofs.StoreLaws.{sets-more}
 use Rattle.export_state.specs.Numbers.{inTurn}
 
 module _ {A : Type 0} where

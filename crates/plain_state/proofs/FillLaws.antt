@@ -10,7 +10,7 @@ use native.Mathlib.Omega.{arith}
 use lib.ListN.{length, getD, set, replicate}
 use lib.Seq.{getD-set-other, set-at, append-snoc}
 use Rattle.base.specs.Index.{tabulate}
-use Rattle.base.proofs.IndexLaws.{tabulate-length}
+use Rattle.base.proofs.IndexLaws.{tabulate-length, tabulate-more}
 use Rattle.model.specs.declared.Model.{Model}
 use Rattle.model.specs.declared.Thread.{Thread}
 use Rattle.model.specs.declared.State.{State}
@@ -29,13 +29,6 @@ module _ (P : ℕ → ℕ → Type 0) where
 -- what stands from k + 1 on is kept
 pub rest-more : (xs ys : List ℕ) (k x : ℕ) → ((i : ℕ) → k ≤ i → getD xs i 0 ≡ getD ys i 0) → (i : ℕ) → k + 1 ≤ i → getD (set xs k x) i 0 ≡ getD ys i 0
 rest-more xs ys k x f i l = getD-set-other xs k i x 0 (λ q. omega arith) ∙ f i (omega arith)
-
-tabulate-more : {A : Type 0} (n i : ℕ) (f : ℕ → A) → tabulate (suc n) i f ≡ tabulate n i f ++ (f (i + n) ∷ [])
-unfolding tabulate
-tabulate-more zero i f = ap (λ (k : ℕ). f k ∷ []) (omega arith)
-tabulate-more (suc n) i f =
-    let e : i + 1 + n ≡ i + suc n = omega arith in
-    ap (λ (xs : List _). f i ∷ xs) (tabulate-more n (i + 1) f ∙ ap (λ (k : ℕ). tabulate n (i + 1) f ++ (f k ∷ [])) e)
 
 pub threadsTo-none : (ws ss : List ℕ) → replicate 32 noThread ≡ threadsTo ws ss 0
 unfolding threadsTo tabulate

@@ -4,7 +4,7 @@
 --     tells-none, tells-more     no event; the events of one segment more
 use Prim.Native.Nat.{ℕ, zero, suc, _<_}
 use mathlib.Core.Path.{_≡_, refl, ap, sym, _∙_}
-use mathlib.Core.Bool.{Bool, true, false, _||_}
+use mathlib.Core.Bool.{Bool, true, false, _||_, or-assoc, or-false, or-comm}
 use mathlib.Core.List.{List, [], _∷_, _++_}
 use native.Mathlib.Decide.{ℕ-discrete}
 use lib.Dec.{T, eqb}
@@ -12,6 +12,7 @@ use lib.ListN.{length, getD, set, replicate, length-set}
 use lib.Seq.{getD-set-same, getD-set-other}
 use borrow.Author.Tests.{eq-eqb, ne-eqb}
 use Rattle.model.specs.Footprint.{has}
+use Rattle.model_effect.proofs.FootprintLaws.{has-append}
 use Rattle.plain_words.specs.Shared.{marked}
 
 pub marked-append : (fs : List Bool) (es ds : List ℕ) → marked fs (es ++ ds) ≡ marked (marked fs es) ds
@@ -35,25 +36,6 @@ pub marked-length : (fs : List Bool) (es : List ℕ) → length (marked fs es) �
 unfolding marked
 marked-length fs [] = refl
 marked-length fs (e ∷ es) = marked-length (set fs e true) es ∙ length-set fs e true
-
-or-assoc : (a b c : Bool) → (a || b) || c ≡ a || (b || c)
-or-assoc true b c = refl
-or-assoc false b c = refl
-
-or-comm : (a b : Bool) → a || b ≡ b || a
-or-comm true true = refl
-or-comm true false = refl
-or-comm false true = refl
-or-comm false false = refl
-
-or-false : (a : Bool) → a || false ≡ a
-or-false true = refl
-or-false false = refl
-
-pub has-append : (es ds : List ℕ) (e : ℕ) → has (es ++ ds) e ≡ has es e || has ds e
-unfolding has
-has-append [] ds e = refl
-has-append (x ∷ es) ds e = ap (λ (b : Bool). eqb x e || b) (has-append es ds e) ∙ sym (or-assoc (eqb x e) (has es e) (has ds e))
 
 set-mark : (fs : List Bool) (x e : ℕ) → x < length fs → getD (set fs x true) e false ≡ getD fs e false || eqb x e
 set-mark fs x e h = go (ℕ-discrete x e)

@@ -169,17 +169,11 @@ fn execute_word(w: u64, v: &mut [u32; 64], told: &mut [bool; 32], ranges: &mut [
     widen(ranges, 32, first, past);
 }
 
-fn wide(x: u8) -> usize
-    ensures { λ r. ⌜ r ≡ x ⌝ }
-{
-    x as usize
-}
-
 // How segment s closes.
 pub fn end_of(code: &[u64; 2176], s: u8) -> u64
     ensures { λ r. ⌜ r ≡ endBy (now (code .entry)) s ⌝ }
 {
-    let i = wide(s);
+    let i = buffers::wide(s);
     code[34 * (i % 64)]
 }
 
@@ -204,7 +198,7 @@ pub fn execute(
 )
     ensures { λ _. ⌜ shared (now (v .exit)) (now (told .exit)) (now (ranges .exit)) ≡ executeBy (now (code .entry)) s (shared (now (v .entry)) (now (told .entry)) (now (ranges .entry))) ⌝ }
 {
-    let i = wide(s);
+    let i = buffers::wide(s);
     let base = 34 * (i % 64);
     let n = size_of(code[base]);
     let mut j = 0;
@@ -241,7 +235,7 @@ fn next_segment(next: u64, v: &[u32; 64]) -> u8
 pub fn follow(code: &[u64; 2176], s: u8, v: &[u32; 64]) -> u8
     ensures { λ r. ⌜ r ≡ followBy (now (code .entry)) s (now (v .entry)) ⌝ }
 {
-    let i = wide(s);
+    let i = buffers::wide(s);
     let base = 34 * (i % 64);
     if code[base] % 4 == 0 {
         return s;

@@ -11,7 +11,7 @@ use Rattle.model.specs.declared.Model.{Model}
 use Rattle.model.specs.Record.{threadAt}
 use Rattle.early.specs.Fit.{isFitThread}
 use Rattle.early_laws.proofs.FitLaws.{→isUnfitThreads}
-use Rattle.early_fit.proofs.LengthLaws.{threads-length}
+use Rattle.model_effect.proofs.LengthLaws.{threads-length}
 use Rattle.early_fit.proofs.FitnessLaws.{isFitThread-at, isUnfitThreads-here}
 use Rattle.early_fit.proofs.is_unfit_threads.Statement.{statement}
 use Rattle.early_fit.proofs.is_unfit_threads.Tie as tie

@@ -6,7 +6,7 @@ use native.Mathlib.Omega.{arith}
 use lib.ListN.{take}
 use borrow.Author.Needs.{needs}
 use Rattle.model.specs.Footprint.{has}
-use Rattle.early_log.proofs.LengthLaws.{events-length}
+use Rattle.model_effect.proofs.LengthLaws.{events-length}
 use Rattle.early_log.proofs.NotedLaws.{has-none, has-more, has-here}
 use Rattle.early_log.proofs.is_listed.Statement.{statement}
 use Rattle.early_log.proofs.is_listed.Tie as tie

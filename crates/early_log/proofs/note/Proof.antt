@@ -5,7 +5,8 @@ use native.Mathlib.Omega.{arith}
 use lib.ListN.{take}
 use borrow.Author.Needs.{needs}
 use Rattle.early.specs.Log.{withPairs}
-use Rattle.early_log.proofs.LengthLaws.{log-length, events-length, take-within}
+use Rattle.model_effect.proofs.LengthLaws.{events-length}
+use Rattle.early_log.proofs.LengthLaws.{log-length, take-within}
 use Rattle.early_log.proofs.HeldLaws.{logOf-length, withPairs-none, withPairs-more}
 use Rattle.early_log.proofs.NotedLaws.{Holding, cleared-log, cleared-variables, cleared-start, holding-few, holding-length, holding-held, holding-new, holding-full, holding-noted}
 use Rattle.early_log.proofs.note.Statement.{statement}

@@ -8,7 +8,8 @@ use lib.Seq.{length-take-le}
 use borrow.Author.Needs.{needs}
 use Rattle.base.proofs.BoolLaws.{true→T}
 use Rattle.early.specs.Log.{placesWith}
-use Rattle.early_log.proofs.LengthLaws.{log-length, events-length, take-within}
+use Rattle.model_effect.proofs.LengthLaws.{events-length}
+use Rattle.early_log.proofs.LengthLaws.{log-length, take-within}
 use Rattle.early_log.proofs.HeldLaws.{logOf-first}
 use Rattle.early_log.proofs.NotedLaws.{placesWith-none, placesWith-held, placesWith-new}
 use Rattle.early_log.proofs.places_with.Statement.{statement}

@@ -20,7 +20,7 @@ no-threads-requires : tie.Need-no-threads-requires Inv-loop μ-loop
 no-threads-requires c κs = search needs
 
 loop-holds : tie.Need-loop-holds Inv-loop μ-loop
-loop-holds c = (omega arith, started-none (c .before .before .args .t1) _ (c .no-threads .ensures))
+loop-holds c = (omega arith, started-none (c .before .before .args .t1) _ (ap (λ (x : Threads). x .at) (c .no-threads .ensures)))
 
 element-copy-out-s : tie.Need-element-copy-out-s Inv-loop μ-loop
 element-copy-out-s c = omega arith

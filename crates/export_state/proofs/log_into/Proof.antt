@@ -7,7 +7,7 @@ use borrow.Author.Needs.{needs}
 use Rattle.buffers.proofs.WriteLaws.{placedIn-short}
 use Rattle.export_state.specs.Numbers.{logWords}
 use Rattle.export_state.proofs.IntoLaws.{logWords-length, log-stored}
-use Rattle.export_state.proofs.RangeLaws.{log-length}
+use Rattle.early_log.proofs.LengthLaws.{log-length}
 use Rattle.export_state.proofs.log_into.Statement.{statement}
 use Rattle.export_state.proofs.log_into.Tie as tie
 

@@ -9,7 +9,7 @@ use Rattle.buffers.proofs.WriteLaws.{placedIn-short}
 use Rattle.export_state.specs.Numbers.{threadWords, inTurn, recordWords}
 use Rattle.export_state.proofs.TurnLaws.{inTurn-none, inTurn-stored}
 use Rattle.export_state.proofs.IntoLaws.{threadWords-length, recordWords-length, all-stored}
-use Rattle.export_state.proofs.RangeLaws.{threads-length}
+use Rattle.model_effect.proofs.LengthLaws.{threads-length}
 use Rattle.export_state.proofs.threads_into.Statement.{statement}
 use Rattle.export_state.proofs.threads_into.Tie as tie
 

@@ -9,7 +9,7 @@ use borrow.Author.Needs.{needs}
 use Rattle.buffers.proofs.StoreLaws.{take-stored}
 use Rattle.buffers.proofs.WriteLaws.{placedIn-short}
 use Rattle.export_state.proofs.IntoLaws.{all-stored}
-use Rattle.export_state.proofs.RangeLaws.{variables-length}
+use Rattle.model_effect.proofs.LengthLaws.{variables-length}
 use Rattle.export_state.proofs.variables_into.Statement.{statement}
 use Rattle.export_state.proofs.variables_into.Tie as tie
 
