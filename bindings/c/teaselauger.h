@@ -1,8 +1,18 @@
 /* Teaselauger for C: a model file's number, tables and sheet, and requests one at a time or as a list.
  *
  * Every call answers for every argument. A number of refusal is 1 to 16 (docs/REFUSALS.md lists them, docs/RULES.md says exactly
- * when each applies); 0 says that there is none. Of several that apply the first is answered, in the order given beside the call.
- * On a refusal every buffer holds what it held.
+ * when each applies); 0 says that there is none. Of several that apply the first is answered, in the order given beside the call
+ * after the word ORDER. On a refusal every buffer holds what it held.
+ *
+ * +-----------------------------------------------------------------------------------------------------------------------------+
+ * | WORDS AND A STATE ARE USED AS GIVEN. A request does NOT know which file they were made from: of words and state it tests    |
+ * | ranges alone (11). Words or a state of ANOTHER MODEL that are in range get AN ANSWER FOR THAT MIXTURE, NOT AN ERROR; so do  |
+ * | words or a state that the caller has written to. To keep file, words and state together is THE CALLER'S PART.               |
+ * |                                                                                                                             |
+ * | Demand 3 (docs/RULES.md, 8: every order ends alike) speaks ONLY of words that teaselauger_load made of THE SAME FILE and of |
+ * | a state that BEGAN WITH teaselauger_fresh OF THE SAME FILE and that NOTHING BUT teaselauger_request, with that file and     |
+ * | those words, has changed. teaselauger_replay makes words and state itself.                                                  |
+ * +-----------------------------------------------------------------------------------------------------------------------------+
  *
  * The caller keeps every buffer. A pointer is never null and points to as many elements as the count beside it says; no two
  * buffers that a call is given overlap. Words past those that a call speaks of are neither read nor written.
@@ -39,37 +49,41 @@ extern "C" {
  * at which it is ready, ended or overrun, or in which its wait began. */
 enum { TEASELAUGER_ENDED, TEASELAUGER_OVERRUN, TEASELAUGER_READY, TEASELAUGER_WAITING };
 
-/* The reader's number of a model file: 0, or 1 to 9. */
+/* The reader's number of a model file: 0, or 1 to 9.
+ * ORDER: as docs/RULES.md, 7, has it for a file. */
 uint8_t teaselauger_read(const uint8_t *file, size_t file_count);
 
-/* The distance table of a model file, in the first N x N words: 0; or the reader's number, then 16 for fewer than N x N words. */
+/* The distance table of a model file, in the first N x N words: 0 where it is there.
+ * ORDER: the reader's number; 16 for fewer than N x N words. */
 uint8_t teaselauger_load(const uint8_t *file, size_t file_count, uint64_t *words, size_t words_count);
 
 /* The sheet of the plain run with a budget, or the line `refused NUMBER`, as the program plainrun prints it: how many bytes of out
- * it takes. If out is too short it is not written, and the answer is 0. */
+ * it takes. If out is too short it is not written, and the answer is 0. It is never a number of refusal. */
 size_t teaselauger_sheet(const uint8_t *file, size_t file_count, uint64_t budget, uint8_t *out, size_t out_count);
 
-/* The fresh state of a model file, in 64 variables, 385 words of log and 160 words of records: 0; or the reader's number, then 11
- * for a buffer that is too short. */
-uint8_t teaselauger_fresh(const uint8_t *file, size_t file_count, uint32_t *variables, size_t variables_count, uint64_t *log, size_t log_count,
-                          uint64_t *records, size_t records_count);
+/* The fresh state of a model file, in 64 variables, 385 words of log and 160 words of records: 0 where it is there.
+ * ORDER: the reader's number; 11 for a buffer that is too short. */
+uint8_t teaselauger_fresh(const uint8_t *file, size_t file_count, uint32_t *variables, size_t variables_count, uint64_t *log,
+                          size_t log_count, uint64_t *records, size_t records_count);
 
 /* One request by a thread, on the state in variables, log and records, with the file's own conflict marks and the words that
- * teaselauger_load made of the same file. 0 where it is granted: answer has segment, time and delta (3 words), and the buffers the
- * state after it. Else, in this order: the reader's number; 11 for a buffer that is too short, or for a number that no state has (a
- * state above 3, an event beside a state that does not wait, a segment, event or count above 255, a delta above 4,294,967,295, in
- * any place of the log and in any record); then the request's own 11, 10, 12, 13, 14, 15. */
+ * teaselauger_load made of the same file. WORDS AND STATE ARE USED AS GIVEN (see above). 0 where it is granted: answer has segment,
+ * time and delta (3 words), and the buffers the state after it.
+ * ORDER: the reader's number; 11 for a buffer that is too short, or for a number that no state has (a state above 3, an event
+ * beside a state that does not wait, a segment, event or count above 255, a delta above 4,294,967,295, in any place of the log and
+ * in any record); the request's own 11 (fewer than N x N words among them), 10, 12, 13, 14, 15. */
 uint8_t teaselauger_request(const uint8_t *file, size_t file_count, const uint64_t *words, size_t words_count, uint32_t *variables,
-                            size_t variables_count, uint64_t *log, size_t log_count, uint64_t *records, size_t records_count, uint8_t thread,
-                            uint64_t *answer, size_t answer_count);
+                            size_t variables_count, uint64_t *log, size_t log_count, uint64_t *records, size_t records_count,
+                            uint8_t thread, uint64_t *answer, size_t answer_count);
 
 /* A list of requests from the fresh state on. 0 where the list was made: answers has 4 words for each request (its number, 0 where it
  * was granted, then segment, time and delta, 0 where it was refused), words the distance table, and the other buffers the state after
- * the list. Else, in this order: 11 for a buffer of the state that is too short, or for fewer than 4 words of answers for each
- * request; the reader's number; 16 for fewer than N x N words. */
-uint8_t teaselauger_replay(const uint8_t *file, size_t file_count, uint64_t *words, size_t words_count, const uint8_t *threads, size_t threads_count,
-                           uint64_t *answers, size_t answers_count, uint32_t *variables, size_t variables_count, uint64_t *log, size_t log_count,
-                           uint64_t *records, size_t records_count);
+ * the list.
+ * ORDER: 11 for a buffer of the state that is too short, or for fewer than 4 words of answers for each request; the reader's number;
+ * 16 for fewer than N x N words. */
+uint8_t teaselauger_replay(const uint8_t *file, size_t file_count, uint64_t *words, size_t words_count, const uint8_t *threads,
+                           size_t threads_count, uint64_t *answers, size_t answers_count, uint32_t *variables,
+                           size_t variables_count, uint64_t *log, size_t log_count, uint64_t *records, size_t records_count);
 
 #ifdef __cplusplus
 }
