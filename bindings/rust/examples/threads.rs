@@ -14,5 +14,5 @@ fn main() {
             thread += 1;
         }
     }
-    println!("granted {granted}, variable 0 is {}", state.variables[0]);
+    println!("granted {granted}, variable 0 is {}", state.variables()[0]);
 }

@@ -1,117 +1,304 @@
 //! Safe wrappers of the Teaselauger scheduler library. `docs/REFUSALS.md` has the numbers of refusal, `docs/RULES.md` every rule.
+//!
+//! The library itself uses words and a state as it is given them, of whatever model they are. Here a [`Site`] owns a file's bytes and
+//! the words made of them, a [`State`] knows its site and can be read but not written to, and a request with a state of another site
+//! is [`RequestError::OtherSite`]. So every answer is one that demand 3 (`docs/RULES.md`, 8) speaks of.
+//!
+//! Every buffer is an array of the length that the library asks, so that a buffer that is too short (11 or 16) cannot be handed in.
 //! The library holds no state: any thread may call it, on a stack of 256 KB or more.
+//!
+//! ```
+//! let site = teaselauger::Site::new(&std::fs::read("../../models/m.model")?)?;
+//! let mut state = site.fresh();
+//! let grant = site.request(&mut state, 1)?;
+//! assert_eq!((grant.segment, grant.time, grant.delta), (2, 0, 0));
+//! # Ok::<(), Box<dyn std::error::Error>>(())
+//! ```
+#![deny(unsafe_code)]
+#![warn(missing_docs)]
 
-mod c {
-    extern "C" {
-        pub fn teaselauger_read(file: *const u8, n: usize) -> u8;
-        pub fn teaselauger_load(file: *const u8, n: usize, words: *mut u64, w: usize) -> u8;
-        pub fn teaselauger_sheet(file: *const u8, n: usize, budget: u64, out: *mut u8, o: usize) -> usize;
-        pub fn teaselauger_fresh(file: *const u8, n: usize, variables: *mut u32, v: usize, log: *mut u64, l: usize, records: *mut u64, r: usize) -> u8;
-        pub fn teaselauger_request(
-            file: *const u8, n: usize, words: *const u64, w: usize, variables: *mut u32, v: usize, log: *mut u64, l: usize, records: *mut u64, r: usize, thread: u8, answer: *mut u64, a: usize,
-        ) -> u8;
-        pub fn teaselauger_replay(
-            file: *const u8, n: usize, words: *mut u64, w: usize, threads: *const u8, t: usize, answers: *mut u64, a: usize, variables: *mut u32, v: usize, log: *mut u64, l: usize, records: *mut u64, r: usize,
-        ) -> u8;
-    }
-}
+#[allow(unsafe_code)]
+mod calls;
+#[cfg(test)]
+mod tests;
+
+use calls::{Kept, Words, ANSWER, LOG, RECORDS, SHEET, VARIABLES};
+use std::{error, fmt, sync::Arc};
 
 /// A number of refusal, 1 to 16.
+///
+/// ```
+/// assert_eq!(teaselauger::Refused(14).to_string(), "refused 14");
+/// ```
 #[derive(Clone, Copy, Debug, PartialEq, Eq)]
 pub struct Refused(pub u8);
 
-fn checked(number: u8) -> Result<(), Refused> {
-    if number == 0 { Ok(()) } else { Err(Refused(number)) }
+impl fmt::Display for Refused {
+    fn fmt(&self, f: &mut fmt::Formatter) -> fmt::Result {
+        write!(f, "refused {}", self.0)
+    }
 }
 
+impl error::Error for Refused {}
+
+fn checked(number: u8) -> Result<(), Refused> {
+    if number == 0 {
+        Ok(())
+    } else {
+        Err(Refused(number))
+    }
+}
+
+/// Why a request was not granted. The state is as it was.
+///
+/// ```
+/// use teaselauger::{RequestError, Refused, Site};
+/// let site = Site::new(&std::fs::read("../../models/m.model")?)?;
+/// assert_eq!(site.request(&mut site.fresh(), 2), Err(RequestError::Refused(Refused(10))));
+/// # Ok::<(), Box<dyn std::error::Error>>(())
+/// ```
+#[derive(Clone, Copy, Debug, PartialEq, Eq)]
+pub enum RequestError {
+    /// The library refused it, with this number.
+    Refused(Refused),
+    /// The state belongs to a site of other bytes; the library was not called.
+    OtherSite,
+}
+
+impl From<Refused> for RequestError {
+    fn from(refused: Refused) -> RequestError {
+        RequestError::Refused(refused)
+    }
+}
+
+impl fmt::Display for RequestError {
+    fn fmt(&self, f: &mut fmt::Formatter) -> fmt::Result {
+        match self {
+            RequestError::Refused(refused) => refused.fmt(f),
+            RequestError::OtherSite => f.write_str("the state belongs to another site"),
+        }
+    }
+}
+
+impl error::Error for RequestError {}
+
 /// A grant: the segment that ran, and its cycle.
+///
+/// ```
+/// let site = teaselauger::Site::new(&std::fs::read("../../models/m.model")?)?;
+/// assert_eq!(site.request(&mut site.fresh(), 0)?, teaselauger::Grant { segment: 0, time: 0, delta: 0 });
+/// # Ok::<(), Box<dyn std::error::Error>>(())
+/// ```
 #[derive(Clone, Copy, Debug, PartialEq, Eq)]
 pub struct Grant {
+    /// The segment that ran.
     pub segment: u8,
+    /// The time of its cycle.
     pub time: u64,
+    /// The delta of its cycle.
     pub delta: u32,
 }
 
+// The library writes a segment and a delta that are in range.
 fn grant(segment: u64, time: u64, delta: u64) -> Grant {
     Grant { segment: segment as u8, time, delta: delta as u32 }
 }
 
-/// The state of a site and its thread records, as numbers.
-#[derive(Clone, Debug, PartialEq, Eq)]
-pub struct State {
-    pub variables: [u32; 64],
-    /// The count, then 128 places of event, time, delta.
-    pub log: Box<[u64; 385]>,
-    /// For each of 32 threads: segment, state (0 ended, 1 overrun, 2 ready, 3 waiting), event, time, delta.
-    pub records: Box<[u64; 160]>,
-}
-
-impl State {
-    fn zero() -> State {
-        State { variables: [0; 64], log: Box::new([0; 385]), records: Box::new([0; 160]) }
-    }
-}
-
-/// A model file that was accepted, with its distance table.
-pub struct Site {
-    file: Vec<u8>,
-    words: Vec<u64>,
-}
-
 /// Whether a model file keeps the rules.
+///
+/// ```
+/// assert_eq!(teaselauger::read(&[]), Err(teaselauger::Refused(1)));
+/// ```
 pub fn read(file: &[u8]) -> Result<(), Refused> {
-    checked(unsafe { c::teaselauger_read(file.as_ptr(), file.len()) })
+    checked(calls::read(file))
 }
 
 /// The sheet of a file's plain run with a budget, or the line of its refusal.
+///
+/// ```
+/// let file = std::fs::read("../../models/case01.model")?;
+/// assert_eq!(teaselauger::sheet(&file, 1_000_000), "t 0 0 ended 0 0\nn 1\n");
+/// assert_eq!(teaselauger::sheet(&[], 1_000_000), "refused 1\n");
+/// # Ok::<(), std::io::Error>(())
+/// ```
 pub fn sheet(file: &[u8], budget: u64) -> String {
-    let mut out = vec![0; 8192];
-    let n = unsafe { c::teaselauger_sheet(file.as_ptr(), file.len(), budget, out.as_mut_ptr(), out.len()) };
-    out.truncate(n);
-    String::from_utf8(out).expect("a sheet is ASCII")
+    let mut out = [0; SHEET];
+    let n = calls::sheet(file, budget, &mut out);
+    out[..n].iter().map(|&byte| char::from(byte)).collect()
 }
 
-/// A file's distance table in a lent buffer.
-pub fn load(file: &[u8], words: &mut [u64]) -> Result<(), Refused> {
-    checked(unsafe { c::teaselauger_load(file.as_ptr(), file.len(), words.as_mut_ptr(), words.len()) })
+struct Opened {
+    file: Box<[u8]>,
+    words: Box<Words>,
+}
+
+/// A model file that was accepted, with its distance table. A clone is the same site and costs nothing.
+///
+/// Sites of equal bytes are equal, also where they were opened apart, and a state of the one is a state of the other: the library
+/// keeps nothing between calls and its words follow from the bytes, so that both give the same answers. Whoever opens a file
+/// once for each thread, or again later, expects to go on with the state at hand; to tell the openings apart would refuse that
+/// and rule out no wrong answer.
+///
+/// ```
+/// use teaselauger::Site;
+/// let file = std::fs::read("../../models/m.model")?;
+/// let (site, again) = (Site::new(&file)?, Site::new(&file)?);
+/// assert!(site == again && again.request(&mut site.fresh(), 0).is_ok());
+/// # Ok::<(), Box<dyn std::error::Error>>(())
+/// ```
+#[derive(Clone)]
+pub struct Site(Arc<Opened>);
+
+impl PartialEq for Site {
+    fn eq(&self, other: &Site) -> bool {
+        Arc::ptr_eq(&self.0, &other.0) || self.0.file == other.0.file
+    }
+}
+
+impl Eq for Site {}
+
+impl fmt::Debug for Site {
+    fn fmt(&self, f: &mut fmt::Formatter) -> fmt::Result {
+        write!(f, "Site({} bytes)", self.0.file.len())
+    }
 }
 
 impl Site {
+    /// Reads a model file and makes its tables.
+    ///
+    /// ```
+    /// let refused = teaselauger::Site::new(&std::fs::read("../../models/refused7.model")?);
+    /// assert_eq!(refused, Err(teaselauger::Refused(7)));
+    /// # Ok::<(), std::io::Error>(())
+    /// ```
     pub fn new(file: &[u8]) -> Result<Site, Refused> {
-        let mut words = vec![0; 4096];
-        load(file, &mut words)?;
-        Ok(Site { file: file.to_vec(), words })
+        let mut words = calls::no_words();
+        checked(calls::load(file, &mut words))?;
+        Ok(Site(Arc::new(Opened { file: file.into(), words })))
     }
 
-    pub fn fresh(&self) -> State {
-        let mut s = State::zero();
-        let number = unsafe {
-            c::teaselauger_fresh(self.file.as_ptr(), self.file.len(), s.variables.as_mut_ptr(), 64, s.log.as_mut_ptr(), 385, s.records.as_mut_ptr(), 160)
-        };
+    // Of an accepted file, in buffers of full length, the library refuses neither a fresh state nor a list.
+    fn state(&self, number: u8, kept: Box<Kept>) -> State {
         assert_eq!(number, 0, "an accepted file has a fresh state");
-        s
+        State { site: self.clone(), kept }
     }
 
-    /// One request by a thread; a refused one leaves the state as it was.
-    pub fn request(&self, s: &mut State, thread: u8) -> Result<Grant, Refused> {
-        let mut a = [0u64; 3];
-        checked(unsafe {
-            c::teaselauger_request(
-                self.file.as_ptr(), self.file.len(), self.words.as_ptr(), self.words.len(), s.variables.as_mut_ptr(), 64, s.log.as_mut_ptr(), 385, s.records.as_mut_ptr(), 160, thread, a.as_mut_ptr(), 3,
-            )
-        })?;
-        Ok(grant(a[0], a[1], a[2]))
+    /// The fresh state: every thread ready at (0, 0), every variable 0, nothing logged.
+    ///
+    /// ```
+    /// let site = teaselauger::Site::new(&std::fs::read("../../models/m.model")?)?;
+    /// assert_eq!(site.fresh().variables(), &[0; 64]);
+    /// # Ok::<(), Box<dyn std::error::Error>>(())
+    /// ```
+    pub fn fresh(&self) -> State {
+        let mut kept = Box::new(Kept::zero());
+        self.state(calls::fresh(&self.0.file, &mut kept), kept)
+    }
+
+    /// One request by a thread, on a state of this site. If it is not granted the state is as it was.
+    ///
+    /// ```
+    /// use teaselauger::{RequestError, Site};
+    /// let open = |path| Ok::<_, Box<dyn std::error::Error>>(Site::new(&std::fs::read(path)?)?);
+    /// let (site, other) = (open("../../models/case06.model")?, open("../../models/case07.model")?);
+    /// let mut state = site.fresh();
+    /// assert!(site.request(&mut state, 0).is_ok());
+    /// assert_eq!(other.request(&mut state, 1), Err(RequestError::OtherSite));
+    /// # Ok::<(), Box<dyn std::error::Error>>(())
+    /// ```
+    pub fn request(&self, state: &mut State, thread: u8) -> Result<Grant, RequestError> {
+        if state.site != *self {
+            return Err(RequestError::OtherSite);
+        }
+        let mut answer = [0; ANSWER];
+        checked(calls::request(&self.0.file, &self.0.words, &mut state.kept, thread, &mut answer))?;
+        let [segment, time, delta] = answer;
+        Ok(grant(segment, time, delta))
+    }
+
+    /// A list of requests from the fresh state on: each answer, and the state after the list.
+    ///
+    /// ```
+    /// let site = teaselauger::Site::new(&std::fs::read("../../models/m.model")?)?;
+    /// let (answers, state) = site.replay(&[0, 0]);
+    /// assert_eq!(answers[1], Err(teaselauger::Refused(14)));
+    /// assert_eq!(state.variables()[0], 1);
+    /// # Ok::<(), Box<dyn std::error::Error>>(())
+    /// ```
+    pub fn replay(&self, threads: &[u8]) -> (Vec<Result<Grant, Refused>>, State) {
+        let (mut words, mut kept) = (calls::no_words(), Box::new(Kept::zero()));
+        let (number, answers) = calls::replay(&self.0.file, &mut words, threads, &mut kept);
+        let answered = |a: &[u64]| checked(a[0] as u8).map(|()| grant(a[1], a[2], a[3]));
+        (answers.chunks(4).map(answered).collect(), self.state(number, kept))
     }
 }
 
-/// A list of requests from the fresh state: each answer, and the state after the list.
-pub fn replay(file: &[u8], threads: &[u8]) -> Result<(Vec<Result<Grant, Refused>>, State), Refused> {
-    let (mut words, mut answers, mut s) = (vec![0; 4096], vec![0; 4 * threads.len()], State::zero());
-    checked(unsafe {
-        c::teaselauger_replay(
-            file.as_ptr(), file.len(), words.as_mut_ptr(), words.len(), threads.as_ptr(), threads.len(), answers.as_mut_ptr(), answers.len(), s.variables.as_mut_ptr(), 64, s.log.as_mut_ptr(), 385, s.records.as_mut_ptr(), 160,
-        )
-    })?;
-    let answers = answers.chunks(4).map(|a| if a[0] == 0 { Ok(grant(a[1], a[2], a[3])) } else { Err(Refused(a[0] as u8)) }).collect();
-    Ok((answers, s))
+/// The state of a site and its thread records, as numbers. It begins with [`Site::fresh`] or [`Site::replay`], and [`Site::request`]
+/// alone changes it. To keep a run beyond the program, keep the list of the threads that were asked, and replay it.
+///
+/// ```
+/// let site = teaselauger::Site::new(&std::fs::read("../../models/m.model")?)?;
+/// let (mut state, replayed) = (site.fresh(), site.replay(&[1]).1);
+/// site.request(&mut state, 1)?;
+/// assert_eq!(state, replayed);
+/// # Ok::<(), Box<dyn std::error::Error>>(())
+/// ```
+///
+/// There is no other way to make one or to write to it:
+///
+/// ```compile_fail,E0594
+/// # let site = teaselauger::Site::new(&std::fs::read("../../models/m.model")?)?;
+/// site.fresh().variables()[0] = 1;
+/// # Ok::<(), Box<dyn std::error::Error>>(())
+/// ```
+#[derive(Clone, Debug, PartialEq, Eq)]
+pub struct State {
+    site: Site,
+    kept: Box<Kept>,
+}
+
+impl State {
+    /// The site that the state belongs to.
+    ///
+    /// ```
+    /// let site = teaselauger::Site::new(&std::fs::read("../../models/m.model")?)?;
+    /// assert_eq!(site.fresh().site(), &site);
+    /// # Ok::<(), Box<dyn std::error::Error>>(())
+    /// ```
+    pub fn site(&self) -> &Site {
+        &self.site
+    }
+
+    /// The variables; those that the model does not have are 0.
+    ///
+    /// ```
+    /// let site = teaselauger::Site::new(&std::fs::read("../../models/m.model")?)?;
+    /// assert_eq!(site.replay(&[0]).1.variables()[..3], [1, 0, 0]);
+    /// # Ok::<(), Box<dyn std::error::Error>>(())
+    /// ```
+    pub fn variables(&self) -> &[u32; VARIABLES] {
+        &self.kept.variables
+    }
+
+    /// The log: the count, then 128 places of event, time, delta.
+    ///
+    /// ```
+    /// let site = teaselauger::Site::new(&std::fs::read("../../models/m.model")?)?;
+    /// assert_eq!(site.replay(&[0]).1.log()[..4], [1, 0, 0, 0]);
+    /// # Ok::<(), Box<dyn std::error::Error>>(())
+    /// ```
+    pub fn log(&self) -> &[u64; LOG] {
+        &self.kept.log
+    }
+
+    /// For each of 32 threads: segment, state (0 ended, 1 overrun, 2 ready, 3 waiting), event (0 unless waiting), time, delta.
+    ///
+    /// ```
+    /// let site = teaselauger::Site::new(&std::fs::read("../../models/m.model")?)?;
+    /// assert_eq!(site.replay(&[0]).1.records()[..10], [0, 2, 0, 10, 0, 2, 2, 0, 0, 0]);
+    /// # Ok::<(), Box<dyn std::error::Error>>(())
+    /// ```
+    pub fn records(&self) -> &[u64; RECORDS] {
+        &self.kept.records
+    }
 }

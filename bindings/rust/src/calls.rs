@@ -1,0 +1,101 @@
+//! The library's calls. This file has all unsafe code of the crate: each pointer goes with the length of the slice or array that it is
+//! taken from, and no two that are written to overlap, as they come from exclusive borrows.
+
+const WORDS: usize = 4096;
+pub const VARIABLES: usize = 64;
+pub const LOG: usize = 385;
+pub const RECORDS: usize = 160;
+pub const ANSWER: usize = 3;
+pub const SHEET: usize = 8192;
+
+/// The distance table of the largest model has as many words.
+pub type Words = [u64; WORDS];
+
+/// Made on the heap, as a caller may have little stack.
+pub fn no_words() -> Box<Words> {
+    vec![0; WORDS].into_boxed_slice().try_into().expect("as many words as were made")
+}
+
+/// The buffers of a state, each as long as the library asks.
+#[derive(Clone, Debug, PartialEq, Eq)]
+pub struct Kept {
+    pub variables: [u32; VARIABLES],
+    pub log: [u64; LOG],
+    pub records: [u64; RECORDS],
+}
+
+impl Kept {
+    pub fn zero() -> Kept {
+        Kept { variables: [0; VARIABLES], log: [0; LOG], records: [0; RECORDS] }
+    }
+}
+
+// Pointer, then count, as bindings/c/teaselauger.h has them.
+#[rustfmt::skip]
+mod c {
+    extern "C" {
+        pub fn teaselauger_read(file: *const u8, n: usize) -> u8;
+        pub fn teaselauger_load(file: *const u8, n: usize, words: *mut u64, w: usize) -> u8;
+        pub fn teaselauger_sheet(file: *const u8, n: usize, budget: u64, out: *mut u8, o: usize) -> usize;
+        pub fn teaselauger_fresh(
+            file: *const u8, n: usize, variables: *mut u32, v: usize, log: *mut u64, l: usize, records: *mut u64, r: usize,
+        ) -> u8;
+        pub fn teaselauger_request(
+            file: *const u8, n: usize, words: *const u64, w: usize, variables: *mut u32, v: usize, log: *mut u64, l: usize,
+            records: *mut u64, r: usize, thread: u8, answer: *mut u64, a: usize,
+        ) -> u8;
+        pub fn teaselauger_replay(
+            file: *const u8, n: usize, words: *mut u64, w: usize, threads: *const u8, t: usize, answers: *mut u64, a: usize,
+            variables: *mut u32, v: usize, log: *mut u64, l: usize, records: *mut u64, r: usize,
+        ) -> u8;
+    }
+}
+
+pub fn read(file: &[u8]) -> u8 {
+    unsafe { c::teaselauger_read(file.as_ptr(), file.len()) }
+}
+
+pub fn load(file: &[u8], words: &mut Words) -> u8 {
+    unsafe { c::teaselauger_load(file.as_ptr(), file.len(), words.as_mut_ptr(), words.len()) }
+}
+
+pub fn sheet(file: &[u8], budget: u64, out: &mut [u8; SHEET]) -> usize {
+    unsafe { c::teaselauger_sheet(file.as_ptr(), file.len(), budget, out.as_mut_ptr(), out.len()) }
+}
+
+#[rustfmt::skip]
+pub fn fresh(file: &[u8], kept: &mut Kept) -> u8 {
+    let Kept { variables, log, records } = kept;
+    unsafe {
+        c::teaselauger_fresh(
+            file.as_ptr(), file.len(), variables.as_mut_ptr(), variables.len(), log.as_mut_ptr(), log.len(),
+            records.as_mut_ptr(), records.len(),
+        )
+    }
+}
+
+#[rustfmt::skip]
+pub fn request(file: &[u8], words: &Words, kept: &mut Kept, thread: u8, answer: &mut [u64; ANSWER]) -> u8 {
+    let Kept { variables, log, records } = kept;
+    unsafe {
+        c::teaselauger_request(
+            file.as_ptr(), file.len(), words.as_ptr(), words.len(), variables.as_mut_ptr(), variables.len(),
+            log.as_mut_ptr(), log.len(), records.as_mut_ptr(), records.len(), thread, answer.as_mut_ptr(), answer.len(),
+        )
+    }
+}
+
+/// With the answers, four words for each thread that is asked.
+#[rustfmt::skip]
+pub fn replay(file: &[u8], words: &mut Words, threads: &[u8], kept: &mut Kept) -> (u8, Vec<u64>) {
+    let Kept { variables, log, records } = kept;
+    let mut answers = vec![0; 4 * threads.len()];
+    let number = unsafe {
+        c::teaselauger_replay(
+            file.as_ptr(), file.len(), words.as_mut_ptr(), words.len(), threads.as_ptr(), threads.len(),
+            answers.as_mut_ptr(), answers.len(), variables.as_mut_ptr(), variables.len(), log.as_mut_ptr(), log.len(),
+            records.as_mut_ptr(), records.len(),
+        )
+    };
+    (number, answers)
+}

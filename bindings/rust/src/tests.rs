@@ -1,0 +1,193 @@
+use super::*;
+
+fn file(name: &str) -> Vec<u8> {
+    std::fs::read(format!("{}/../../models/{name}.model", env!("CARGO_MANIFEST_DIR"))).expect("a model file")
+}
+
+fn site(name: &str) -> Site {
+    Site::new(&file(name)).expect("an accepted file")
+}
+
+fn refused(number: u8) -> Result<Grant, RequestError> {
+    Err(RequestError::Refused(Refused(number)))
+}
+
+fn granted(segment: u8, time: u64, delta: u32) -> Result<Grant, RequestError> {
+    Ok(Grant { segment, time, delta })
+}
+
+/// Issues threads, lowest number first, until none is granted; the threads that were.
+fn issue(site: &Site, state: &mut State) -> Vec<u8> {
+    let mut threads = Vec::new();
+    while let Some(k) = (0..32).find(|&k| site.request(state, k).is_ok()) {
+        threads.push(k);
+    }
+    threads
+}
+
+#[test]
+fn fresh_is_the_start() {
+    let m = site("m");
+    let state = m.fresh();
+    assert_eq!(state.variables(), &[0; 64]);
+    assert_eq!(state.log(), &[0; 385]);
+    assert_eq!(state.records()[..10], [0, 2, 0, 0, 0, 2, 2, 0, 0, 0]);
+    assert!(state.records()[10..].iter().all(|&word| word == 0));
+    assert_eq!(state, m.fresh());
+}
+
+#[test]
+fn request_grants_or_leaves_the_state() {
+    let m = site("m");
+    let mut state = m.fresh();
+    assert_eq!(m.request(&mut state, 0), granted(0, 0, 0));
+    let before = state.clone();
+    assert_eq!(m.request(&mut state, 0), refused(14));
+    assert_eq!(m.request(&mut state, 2), refused(10));
+    assert_eq!(m.request(&mut state, 255), refused(10));
+    assert_eq!(state, before);
+    assert_eq!(m.request(&mut state, 1), granted(2, 0, 0));
+    assert_eq!(m.request(&mut state, 1), granted(3, 0, 1));
+}
+
+#[test]
+fn requests_end_as_the_plain_run() {
+    let m = site("m");
+    let mut state = m.fresh();
+    assert_eq!(issue(&m, &mut state).len(), 254);
+    assert_eq!(state.variables()[..3], [126; 3]);
+    assert_eq!(state.records()[..10], [1, 0, 0, 1260, 0, 3, 3, 0, 1250, 1]);
+    assert_eq!([m.request(&mut state, 0), m.request(&mut state, 1)], [refused(12), refused(12)]);
+
+    let sooner = site("case02");
+    let mut state = sooner.fresh();
+    issue(&sooner, &mut state);
+    assert_eq!(sooner.request(&mut state, 0), refused(13));
+}
+
+#[test]
+fn replay_is_the_requests_in_turn() {
+    for name in ["m", "case06", "case07", "case08", "calls"] {
+        let (site, threads) = (site(name), [1, 0, 0, 3, 1, 0, 2, 1, 0, 0, 1, 40]);
+        let (answers, replayed) = site.replay(&threads);
+        let mut state = site.fresh();
+        let asked: Vec<_> = threads.iter().map(|&k| site.request(&mut state, k)).collect();
+        assert_eq!(answers.into_iter().map(|a| a.map_err(RequestError::from)).collect::<Vec<_>>(), asked);
+        assert_eq!(replayed, state);
+        assert_eq!(site.replay(&[]), (vec![], site.fresh()));
+    }
+}
+
+#[test]
+fn a_state_goes_on_after_a_replay() {
+    let m = site("m");
+    let (_, mut state) = m.replay(&[0, 1]);
+    let rest = issue(&m, &mut state);
+    let whole: Vec<u8> = [0, 1].into_iter().chain(rest).collect();
+    assert_eq!(m.replay(&whole).1, state);
+}
+
+#[test]
+fn refused_files_have_no_site() {
+    let mut longer = file("m");
+    longer.push(0);
+    let shorter = file("m")[..115].to_vec();
+    for (bytes, number) in [(vec![], 1), (shorter, 1), (vec![4, 0, 4, 0], 2), (file("refused7"), 7), (longer, 9)] {
+        assert_eq!(Site::new(&bytes), Err(Refused(number)));
+        assert_eq!(read(&bytes), Err(Refused(number)));
+        assert_eq!(sheet(&bytes, 1_000_000), format!("refused {number}\n"));
+    }
+    assert_eq!(read(&file("m")), Ok(()));
+}
+
+#[test]
+fn a_state_of_another_site_is_an_error() {
+    let (one, other) = (site("case06"), site("case07"));
+    assert_ne!(one, other);
+    for mut state in [one.fresh(), one.replay(&[0]).1, one.replay(&[0, 0, 1, 1]).1] {
+        let before = state.clone();
+        // Every number of the state is in range for the other model: the library itself answers for the mixture.
+        assert_ne!(calls::request(&other.0.file, &other.0.words, &mut state.kept.clone(), 1, &mut [0; ANSWER]), 11);
+        for thread in 0..=255 {
+            assert_eq!(other.request(&mut state, thread), Err(RequestError::OtherSite));
+        }
+        assert_eq!(state, before);
+        assert_eq!(state.site(), &one);
+    }
+    // The same numbers are not the same state.
+    assert_eq!(site("case02").fresh().records(), site("case03").fresh().records());
+    assert_ne!(site("case02").fresh(), site("case03").fresh());
+}
+
+#[test]
+fn sites_of_equal_bytes_are_the_same() {
+    let (one, again) = (site("m"), site("m"));
+    let mut state = one.fresh();
+    assert_eq!(state, again.fresh());
+    for k in [0, 1, 1, 0] {
+        let (mut a, mut b) = (state.clone(), state.clone());
+        assert_eq!(one.request(&mut a, k), again.request(&mut b, k));
+        assert_eq!(a, b);
+        state = b;
+    }
+    assert_eq!(one.clone(), again);
+    assert_eq!(issue(&one, &mut state), issue(&again, &mut again.replay(&[0, 1, 1, 0]).1));
+}
+
+/// 64 segments of 32 statements, 32 threads, 64 variables, 32 events: the largest model.
+fn largest() -> Vec<u8> {
+    let mut bytes = vec![10, 0, 1, 0];
+    bytes.extend(1_000_000_000u32.to_le_bytes());
+    bytes.extend([64, 32]);
+    for s in 0..64 {
+        bytes.extend([209, 0, 2, 0, 1, 0]);
+        bytes.extend(1_000_000_000u32.to_le_bytes());
+        bytes.extend([(s + 1) % 64, (s + 1) % 64, 255, 0, 0, 0, 0]);
+        for i in 0..32 {
+            bytes.extend([1, s / 32 * 32 + i, 255, 255, 255, 255]);
+        }
+    }
+    for k in 0..32 {
+        bytes.extend([5, 0, 3, 0, 2 * k + 1]);
+    }
+    bytes.extend([4, 0, 4, 0]);
+    bytes
+}
+
+#[test]
+fn no_buffer_is_too_short() {
+    let bytes = largest();
+    assert_eq!(bytes.len(), 13_550);
+    let site = Site::new(&bytes).expect("16 is for a short table");
+    let mut state = site.fresh();
+    for k in 0..32 {
+        assert_eq!(site.request(&mut state, k), granted(2 * k + 1, 0, 0));
+        assert_eq!(site.request(&mut state, k), refused(13));
+    }
+    let threads: Vec<u8> = (0..10_000u32).map(|i| (i % 256) as u8).collect();
+    let (answers, replayed) = site.replay(&threads);
+    assert_eq!(answers.len(), threads.len());
+    assert!(answers.iter().all(|a| !matches!(a, Err(Refused(11 | 16)))));
+    assert_eq!(replayed, state);
+    let text = sheet(&bytes, 1_000_000);
+    assert_eq!((text.lines().count(), text.lines().last()), (64 + 32 + 1, Some("n 32")));
+}
+
+#[test]
+fn any_thread_may_call_on_256_kb_of_stack() {
+    let work = || {
+        let site = Site::new(&largest()).expect("an accepted file");
+        let mut state = site.fresh();
+        (issue(&site, &mut state), site.replay(&[0; 100]).1, sheet(&largest(), 100), state)
+    };
+    let small = || std::thread::Builder::new().stack_size(256 * 1024).spawn(work).expect("a thread");
+    let (one, other) = (small(), small());
+    assert_eq!(one.join().expect("enough stack"), other.join().expect("enough stack"));
+}
+
+#[test]
+fn errors_say_what_happened() {
+    assert_eq!(RequestError::from(Refused(15)).to_string(), "refused 15");
+    assert_eq!(RequestError::OtherSite.to_string(), "the state belongs to another site");
+    assert_eq!(format!("{:?}", site("m")), "Site(116 bytes)");
+}
