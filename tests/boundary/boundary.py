@@ -1,20 +1,60 @@
 #!/usr/bin/env python3
-"""The library's calls against the programs' output, on generated files, long, short and damaged.
+"""The library's calls against the programs' output, the header and docs/RULES.md, on generated files, long, short and damaged.
 
   boundary.py [FILES] [SEED]     needs target/bin/plainrun, target/bin/replayrun and target/staticlib/libexports.a
 
-Of each file: the sheet and the line of a refusal (teaselauger_sheet, teaselauger_read), the distance table with a buffer of N x N words and
-with one word less (teaselauger_load), and a list of requests, as a list (teaselauger_replay) and one at a time (teaselauger_fresh,
-teaselauger_request), against what replayrun prints. Words past each buffer's end, and every buffer on a refusal, must hold what they held.
+Of each file: the sheet and the line of a refusal (teaselauger_sheet, teaselauger_read), the distance table (teaselauger_load), and a
+list of requests, as a list (teaselauger_replay) and one at a time (teaselauger_fresh, teaselauger_request), against what replayrun prints.
+
+Of each call on it: every buffer exactly long enough, longer, one element short and empty, and every two one element short, with the number
+that the header's ORDER has for them. Of a request also: numbers that no state has, numbers that just fit the model and that just do
+not, and numbers that are not judged. A refused call leaves every buffer as it was; no call writes past a buffer's end, nor past what it
+speaks of, nor to what it only reads.
 """
-import ctypes, os, random, subprocess, sys, tempfile
+import ctypes, itertools, os, random, subprocess, sys, tempfile
+from array import array
 
 HERE = os.path.dirname(os.path.abspath(__file__))
 ROOT = os.path.join(HERE, "../..")
 sys.path.insert(0, os.path.join(HERE, "../judge"))
 import generator
 
+BUDGET = 1000000
 STATES = ["ended", "overrun", "ready", "wait"]
+NEVER = 2**64 - 1
+
+# teaselauger.h: the parameters of each call, which of them are only read (the file always),
+# and the elements of those that are not uint64_t
+PARAMETERS = {
+    "read": ["file"],
+    "load": ["file", "words"],
+    "sheet": ["file", "budget", "out"],
+    "fresh": ["file", "variables", "log", "records"],
+    "request": ["file", "words", "variables", "log", "records", "thread", "answer"],
+    "replay": ["file", "words", "threads", "answers", "variables", "log", "records"],
+}
+ONLY_READ = {"request": ["file", "words"], "replay": ["file", "threads"]}
+SCALARS = {"budget": ctypes.c_uint64, "thread": ctypes.c_uint8}
+ELEMENTS = {"file": "B", "variables": "I", "threads": "B", "out": "B"}
+
+# teaselauger.h: after the word ORDER, which buffers are looked at for their length, and the number of one that is too short
+FILE = "file"
+STATE = ("variables", "log", "records")
+ORDER = {
+    "load": [FILE, (("words",), 16)],
+    "fresh": [FILE, (STATE, 11)],
+    "request": [FILE, (STATE + ("answer", "words"), 11)],
+    "replay": [(STATE + ("answers",), 11), FILE, (("words",), 16)],
+}
+
+
+def filled(p, value, size):
+    """A buffer for the parameter p."""
+    return array(ELEMENTS.get(p, "Q"), [value]) * size
+
+
+# what the buffers hold before a call that writes to them
+UNUSED = {p: filled(p, 9, size) for p, size in [("words", 4096), ("variables", 64), ("log", 385), ("records", 160), ("answer", 3)]}
 
 
 def library():
@@ -22,30 +62,59 @@ def library():
     archive = os.path.join(ROOT, "target/staticlib/libexports.a")
     subprocess.run(["cc", "-shared", "-o", out, "-Wl,--whole-archive", archive, "-Wl,--no-whole-archive"], check=True)
     lib = ctypes.CDLL(out)
-    lib.teaselauger_sheet.restype = ctypes.c_size_t
-    for name in ["read", "load", "fresh", "request", "replay"]:
-        getattr(lib, "teaselauger_" + name).restype = ctypes.c_uint8
+    for name in PARAMETERS:
+        getattr(lib, "teaselauger_" + name).restype = ctypes.c_size_t if name == "sheet" else ctypes.c_uint8
     return lib
 
 
-def lent(kind, values, past=8):
-    """A buffer with marked words past its end."""
-    return (kind * (len(values) + past))(*values, *[0xA5] * past), len(values)
+class Lent:
+    """A buffer in the caller's memory, with marked bytes past the end that the call is told."""
+    PAST = b"\xa5" * 64
+
+    def __init__(self, values):
+        self.code, self.size = values.typecode, len(values)
+        held = values.tobytes()
+        self.end, self.memory = len(held), ctypes.create_string_buffer(held + self.PAST, len(held + self.PAST))
+
+    def arguments(self):
+        return [self.memory, ctypes.c_size_t(self.size)]
+
+    def values(self):
+        assert self.memory.raw[self.end:] == self.PAST, "written past the end"
+        return array(self.code, self.memory.raw[:self.end])
 
 
-def held(buffer, n):
-    return list(buffer[:n]), all(x == 0xA5 for x in buffer[n:])
+class Calls:
+    """The calls on one file. Each gives its number and what its buffers hold after it."""
 
-
-class Call:
     def __init__(self, lib, file):
-        self.lib, self.file, self.n = lib, (ctypes.c_uint8 * max(1, len(file)))(*file), ctypes.c_size_t(len(file))
+        self.lib, self.file = lib, array("B", file)
 
-    def call(self, name, *rest):
-        flat = []
-        for x in rest:
-            flat += [x[0], ctypes.c_size_t(x[1])] if isinstance(x, tuple) else [x]
-        return getattr(self.lib, name)(self.file, self.n, *flat)
+    def call(self, name, given):
+        arguments, lent, given = [], {}, {"file": self.file, **given}
+        for p in PARAMETERS[name]:
+            if p in SCALARS:
+                arguments.append(SCALARS[p](given[p]))
+            else:
+                lent[p] = Lent(given[p])
+                arguments += lent[p].arguments()
+        number = getattr(self.lib, "teaselauger_" + name)(*arguments)
+        after = {p: x.values() for p, x in lent.items()}
+        assert all(after[p] == given[p] for p in ONLY_READ.get(name, ["file"])), "%s: what is only read is written to" % name
+        del after["file"]
+        return number, after
+
+    def refused(self, name, number, given, what):
+        """The call must answer the number and leave every buffer as it was."""
+        answered, after = self.call(name, given)
+        assert answered == number, "%s, %s: %d, must be %d" % (name, what, answered, number)
+        assert all(after[p] == given[p] for p in after), "%s, %s: refused, and a buffer is written to" % (name, what)
+
+    def made(self, name, given, what=""):
+        """The call must answer 0."""
+        number, after = self.call(name, given)
+        assert number == 0, "%s, %s: %d" % (name, what, number)
+        return after
 
 
 def program(name, file, *args):
@@ -79,73 +148,219 @@ def state_lines(v, t, variables, log, records):
     return out + ["l %d %d %d" % tuple(log[3 * i + 1:3 * i + 4]) for i in range(log[0])]
 
 
+def answer_lines(threads, answers):
+    for k, (number, segment, time, delta) in zip(threads, zip(*[iter(answers)] * 4)):
+        yield "r %d refused %d" % (k, number) if number else "r %d granted %d %d %d" % (k, segment, time, delta)
+
+
+def number_of(name, file_number, short):
+    """The first number of the header's ORDER, with these buffers too short."""
+    for test in ORDER[name]:
+        number = file_number if test is FILE else test[1] if short & set(test[0]) else 0
+        if number:
+            return number
+    return 0
+
+
+def check_sheet(c, sheet):
+    """The sheet in buffers of 8,192 bytes and exactly long enough; 0, and nothing written, in shorter ones."""
+    text = array("B", sheet)
+    for size in {8192, len(text)}:
+        number, after = c.call("sheet", {"budget": BUDGET, "out": filled("out", 7, size)})
+        assert number == len(text) and after["out"] == text + filled("out", 7, size - len(text)), "sheet, %d bytes" % size
+    for size in {len(text) - 1, 0}:
+        c.refused("sheet", 0, {"budget": BUDGET, "out": filled("out", 7, size)}, "%d bytes" % size)
+
+
+def check_lengths(c, name, file_number, exact):
+    """Of buffers exactly long enough each one element short, each empty, and every two an element short. How many calls."""
+    sized = [p for test in ORDER[name] if test is not FILE for p in test[0] if len(exact[p])]
+    less = [(p, len(exact[p]) - 1) for p in sized]
+    choices = [()] * (file_number != 0) + [(x,) for x in less + [(p, 0) for p in sized]] + list(itertools.combinations(less, 2))
+    for chosen in choices:
+        given = {**exact, **{p: exact[p][:size] for p, size in chosen}}
+        number = number_of(name, file_number, {p for p, _ in chosen})
+        c.refused(name, number, given, ", ".join("%s of %d" % x for x in chosen) or "a refused file")
+    return len(choices)
+
+
+def check_refused(c, number, threads):
+    """Every call on a refused file. How many calls."""
+    exact = {**UNUSED, "threads": threads, "thread": 0, "answers": filled("answers", 9, 4 * len(threads))}
+    c.refused("read", number, {}, "a refused file")
+    return 1 + sum(check_lengths(c, name, number, exact) for name in ORDER)
+
+
+def check_longer(c, name, exact, after):
+    """With longer buffers a call makes the same, and leaves what lies past it."""
+    past = {p: filled(p, 3, 0 if p == "threads" else 5) for p in after}
+    longer = c.made(name, {**exact, **{p: exact[p] + past[p] for p in after}}, "longer buffers")
+    for p in after:
+        assert longer[p] == after[p] + past[p], "%s: longer %s" % (name, p)
+
+
+def check_replay(c, file, t, threads):
+    """A list against replayrun, and the words against load: the buffers, exactly long enough, before and after."""
+    exact = {**UNUSED, "words": filled("words", 9, segments(file) ** 2), "threads": threads}
+    exact["answers"] = filled("answers", 9, 4 * len(threads))
+    after = c.made("replay", exact, "exact buffers")
+    lines = [*answer_lines(threads, after["answers"]), *state_lines(file[8], t, *[after[p] for p in STATE])]
+    assert "\n".join(lines + [""]).encode() == program("replayrun", file, *map(str, threads)), "replay"
+    check_longer(c, "replay", exact, after)
+    words = c.made("load", exact, "exact words")
+    assert words["words"] == after["words"], "load"
+    check_longer(c, "load", exact, words)
+    return exact, after
+
+
+def check_fresh(c, exact):
+    """The fresh state, which a list of no requests leaves too."""
+    after = c.made("fresh", exact, "exact buffers")
+    check_longer(c, "fresh", exact, after)
+    nothing = c.made("replay", {**exact, "threads": filled("threads", 0, 0), "answers": filled("answers", 0, 0)}, "no requests")
+    assert all(nothing[p] == after[p] for p in STATE), "a list of no requests"
+    return after
+
+
+def check_requests(c, words, fresh, threads, after):
+    """The list's requests one at a time: the answers and the state of the list. The states on the way, and the numbers."""
+    state, states, numbers = fresh, [], []
+    for i, k in enumerate(threads):
+        states.append(state)
+        given = {**UNUSED, "words": words, **state, "thread": k}
+        number, *grant = after["answers"][4 * i:4 * i + 4]
+        if number:
+            c.refused("request", number, given, "request %d" % i)
+        else:
+            made = c.made("request", given, "request %d" % i)
+            assert list(made["answer"]) == grant, "request %d" % i
+            state = {p: made[p] for p in STATE}
+            check_longer(c, "request", given, made)
+        numbers.append(number)
+    assert all(state[p] == after[p] for p in STATE), "state after requests"
+    return states, numbers
+
+
+def no_states(r, state):
+    """Numbers that no state has, in any place of the log and in any record."""
+    i, k = r.randrange(128), r.randrange(32)
+    waits = state["records"][5 * k + 1] == 3
+    for p, at, least in [
+        ("log", 0, 2**8), ("log", 3 * i + 1, 2**8), ("log", 3 * i + 3, 2**32), ("records", 5 * k, 2**8), ("records", 5 * k + 1, 4),
+        ("records", 5 * k + 2, 2**8 if waits else 1), ("records", 5 * k + 4, 2**32),
+    ]:
+        for value in {least, r.randrange(least, 2**64), NEVER}:
+            yield p, at, value
+
+
+def edges(r, file, n, t, state):
+    """The least numbers that do not fit the model (docs/RULES.md, 7): in a record below T, in the log below its count, in the words."""
+    k, count = r.randrange(t), state["log"][0]
+    yield from [("records", 5 * k, n), ("records", 5 * k + 3, 2 * 10**9), ("records", 5 * k + 4, 1024)]
+    if state["records"][5 * k + 1] == 3:
+        yield "records", 5 * k + 2, file[9]
+    if count:
+        i = r.randrange(count)
+        yield from [("log", 3 * i + 1, file[9]), ("log", 3 * i + 2, 10**9), ("log", 3 * i + 3, 1024)]
+    if file[9]:
+        yield "log", 0, 129
+    yield "words", r.randrange(n * n), 10**9 * 1024
+
+
+def unjudged(r, n, t, state):
+    """Numbers of a state that lie past T, past the count and past N x N, and so are not judged."""
+    count = state["log"][0]
+    if t < 32:
+        k = r.randrange(t, 32)
+        yield from [("records", 5 * k, 255), ("records", 5 * k + 3, NEVER), ("records", 5 * k + 4, 2**32 - 1)]
+    if count < 128:
+        i = r.randrange(count, 128)
+        yield from [("log", 3 * i + 1, 255), ("log", 3 * i + 2, NEVER), ("log", 3 * i + 3, 2**32 - 1)]
+    if n * n < 4096:
+        yield "words", n * n, NEVER - 1
+
+
+def changed(given, p, at, value):
+    values = given[p][:]
+    values[at] = value
+    return {**given, p: values}
+
+
+def check_out_of_range(c, r, file, t, given):
+    """What is refused with 11 whatever the thread; just below it a number is used as given. How many calls."""
+    least = [*edges(r, file, segments(file), t, given)]
+    wrong = [*no_states(r, given), *least, ("log", 0, 255), ("words", r.randrange(segments(file) ** 2), NEVER - 1)]
+    for p, at, value in wrong:
+        for k in [given["thread"], 255]:
+            c.refused("request", 11, {**changed(given, p, at, value), "thread": k}, "%s %d is %d" % (p, at, value))
+    for p, at, value in least:
+        number, _ = c.call("request", changed(given, p, at, value - 1))
+        assert number != 11, "request, %s %d is %d: 11" % (p, at, value - 1)
+        c.refused("request", 10, {**changed(given, p, at, value - 1), "thread": t}, "%s %d is %d, thread T" % (p, at, value - 1))
+    return 2 * len(wrong) + 2 * len(least)
+
+
+def check_unjudged(c, r, file, t, given):
+    """What lies past the model's own changes no answer, and stays; a grant alone sets places past the log's count. How many calls."""
+    given = {**given, "words": given["words"] + filled("words", 0, 1)}
+    (number, after), trials = c.call("request", given), [*unjudged(r, segments(file), t, given)]
+    for p, at, value in trials:
+        answered, left = c.call("request", changed(given, p, at, value))
+        expected = after if p == "log" and number == 0 else changed(after, p, at, value)
+        assert answered == number, "request, %s %d is %d: %d, must be %d" % (p, at, value, answered, number)
+        assert left == expected, "request, %s %d is %d: not left as it was" % (p, at, value)
+    return 1 + len(trials)
+
+
+def check_short(c, r, file, t, exact, given):
+    """Short buffers and refused calls on an accepted file, the requests on a given state. How many calls."""
+    calls = check_out_of_range(c, r, file, t, given) + check_unjudged(c, r, file, t, given)
+    for name in ORDER:
+        calls += check_lengths(c, name, 0, given if name == "request" else exact)
+    return calls + check_refused(Calls(c.lib, file[:-1]), 1, exact["threads"])
+
+
 def check(lib, r, file):
-    c = Call(lib, file)
-    sheet = program("plainrun", file)
-    out = lent(ctypes.c_uint8, [0] * 8192)
-    size = c.call("teaselauger_sheet", ctypes.c_uint64(1000000), out)
-    assert bytes(out[0][:size]) == sheet and held(*out)[1], "sheet"
-    short = lent(ctypes.c_uint8, [7] * (len(sheet) - 1))
-    assert c.call("teaselauger_sheet", ctypes.c_uint64(1000000), short) == 0 and held(*short) == ([7] * (len(sheet) - 1), True), "short sheet"
+    """The file's number, its requests' numbers, and how many calls were refused as they must."""
+    c, sheet = Calls(lib, file), program("plainrun", file)
+    check_sheet(c, sheet)
     refused = int(sheet.split()[1]) if sheet.startswith(b"refused") else 0
-    assert c.call("teaselauger_read") == refused, "read"
-
-    u32, u64 = ctypes.c_uint32, ctypes.c_uint64
+    assert c.call("read", {})[0] == refused, "read"
     t = sheet.count(b"\nt ") + sheet.startswith(b"t ")
-    names = [r.randrange(t + 2) for _ in range(r.randrange(1, 100))]
-    ks = lent(ctypes.c_uint8, names)
-    def buffers():
-        return [lent(u32, [9] * 64), lent(u64, [9] * 385), lent(u64, [9] * 160)]
-    words, answers, state = lent(u64, [5] * 4096), lent(u64, [5] * (4 * len(names))), buffers()
-    number = c.call("teaselauger_replay", words, ks, answers, *state)
-    assert number == refused, "replay number"
+    threads = array("B", [r.randrange(t + 2) for _ in range(r.randrange(1, 100))])
     if refused:
-        assert all(held(*x) == ([w] * x[1], True) for x, w in zip([words, answers, *state], [5, 5, 9, 9, 9])), "replay wrote"
-        assert c.call("teaselauger_load", words) == refused and held(*words) == ([5] * 4096, True), "load"
-        assert c.call("teaselauger_fresh", *state) == refused, "fresh"
-        return refused, 0
-    v = file[8]
-    table, size = held(*words)[0], segments(file) ** 2
-    assert table[size:] == [5] * (4096 - size), "words past N x N"
-    exact, less = lent(u64, [5] * size), lent(u64, [5] * (size - 1))
-    assert c.call("teaselauger_load", exact) == 0 and held(*exact) == (table[:size], True), "exact load"
-    assert c.call("teaselauger_load", less) == 16 and held(*less) == ([5] * (size - 1), True), "short load"
+        return refused, [], check_refused(c, refused, threads)
+    exact, after = check_replay(c, file, t, threads)
+    states, numbers = check_requests(c, after["words"], check_fresh(c, exact), threads, after)
+    i = r.randrange(len(states))
+    given = {**UNUSED, "words": after["words"], **states[i], "thread": threads[i]}
+    return 0, numbers, check_short(c, r, file, t, exact, given)
 
-    a = held(*answers)[0]
-    lines = []
-    for i, k in enumerate(names):
-        number, s, time, delta = a[4 * i:4 * i + 4]
-        lines.append("r %d refused %d" % (k, number) if number else "r %d granted %d %d %d" % (k, s, time, delta))
-    text = "\n".join(lines + state_lines(v, t, *[held(*x)[0] for x in state])) + "\n"
-    assert text.encode() == program("replayrun", file, *map(str, names)), "replay"
-    assert all(held(*x)[1] for x in [words, answers, *state]), "past the end"
 
-    step = buffers()
-    assert c.call("teaselauger_fresh", *step) == 0, "fresh"
-    for i, k in enumerate(names):
-        answer = lent(u64, [6] * 3)
-        number = c.call("teaselauger_request", words, *step, ctypes.c_uint8(k), answer)
-        assert number == a[4 * i] and held(*answer)[0] == ([6] * 3 if number else a[4 * i + 1:4 * i + 4]), "request %d" % i
-    assert [held(*x) for x in step] == [held(*x) for x in state], "state after requests"
-    return 0, sum(1 for i in range(len(names)) if a[4 * i] == 0)
+def counted(numbers):
+    return ", ".join("%d: %d" % (n, numbers.count(n)) for n in sorted(set(numbers)))
 
 
 def main(files, seed):
-    lib, counts, granted = library(), {}, 0
+    lib, numbers, requests = library(), [], []
+    calls = check_refused(Calls(lib, b""), 1, array("B", [0, 1]))
     for i in range(files):
         r = random.Random("%d %d" % (seed, i))
         file = generator.file_of(generator.model_of(seed + i))
         if i % 2:
             file = damaged(r, file)
         try:
-            number, n = check(lib, r, file)
+            number, asked, refused = check(lib, r, file)
         except AssertionError as e:
             print("file %d: %s" % (i, e))
             open("/tmp/boundary_%d" % i, "wb").write(file)
             return 1
-        counts[number] = counts.get(number, 0) + 1
-        granted += n
-    print("%d files, by number: %s; %d requests granted; no difference" % (files, dict(sorted(counts.items())), granted))
+        numbers.append(number)
+        requests += asked
+        calls += refused
+    print("%d files, by number: %s" % (files, counted(numbers)))
+    print("%d requests, by number: %s" % (len(requests), counted(requests)))
+    print("%d calls with short buffers, refused files or numbers out of range; no difference" % calls)
     return 0
 
 
