@@ -110,7 +110,7 @@ class Calls:
         assert answered == number, "%s, %s: %d, must be %d" % (name, what, answered, number)
         assert all(after[p] == given[p] for p in after), "%s, %s: refused, and a buffer is written to" % (name, what)
 
-    def made(self, name, given, what=""):
+    def made(self, name, given, what):
         """The call must answer 0."""
         number, after = self.call(name, given)
         assert number == 0, "%s, %s: %d" % (name, what, number)
@@ -321,7 +321,7 @@ def check_short(c, r, file, t, exact, given):
 
 
 def check(lib, r, file):
-    """The file's number, its requests' numbers, and how many calls were refused as they must."""
+    """The file's number, its requests' numbers, and how many calls were made with short buffers, a cut file and other numbers."""
     c, sheet = Calls(lib, file), program("plainrun", file)
     check_sheet(c, sheet)
     refused = int(sheet.split()[1]) if sheet.startswith(b"refused") else 0
@@ -360,7 +360,7 @@ def main(files, seed):
         calls += refused
     print("%d files, by number: %s" % (files, counted(numbers)))
     print("%d requests, by number: %s" % (len(requests), counted(requests)))
-    print("%d calls with short buffers, refused files or numbers out of range; no difference" % calls)
+    print("%d calls with short buffers, refused files and numbers at the edge of their range; no difference" % calls)
     return 0
 
 
