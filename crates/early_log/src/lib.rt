@@ -128,7 +128,7 @@ pub fn places_with(site: Site, c: Cycle, events: Events) -> usize
     let log = site.log;
     let used = within(site.count, 128);
     let n = within(events.n, 32);
-    let mut count = used;
+    let mut total = used;
     let mut j = 0;
     while j < n {
         let e = events.at[j];
@@ -140,9 +140,9 @@ pub fn places_with(site: Site, c: Cycle, events: Events) -> usize
         if is_held(log, used, e, c) {
             continue;
         }
-        count += 1;
+        total += 1;
     }
-    count
+    total
 }
 
 // Whether event e is heard of it since a cycle.

@@ -16,10 +16,10 @@ use Rattle.early_log.proofs.places_with.Statement.{statement}
 use Rattle.early_log.proofs.places_with.Tie as tie
 
 abbrev Inv-loop : tie.InvT-loop
-Inv-loop c events log used n count₀ j₀ count j = (j ≤ n) × (count ≤ used + j) × (count ≡ placesWith (take used log) c (take j (events .at)))
+Inv-loop c events log used n total₀ j₀ total j = (j ≤ n) × (total ≤ used + j) × (total ≡ placesWith (take used log) c (take j (events .at)))
 
 abbrev μ-loop : tie.MeasureT-loop
-μ-loop c events log used n count₀ j₀ count j = n - j
+μ-loop c events log used n total₀ j₀ total j = n - j
 
 within-requires : tie.Need-within-requires Inv-loop μ-loop
 within-requires c κs = search needs
@@ -72,8 +72,8 @@ loop-again-2 c =
     let size = events-length (x .t3) _ (start .good .1 .1 .0) in
     (omega arith, omega arith, l .inv .2 ∙ placesWith-held _ (x .c) (x .t3 .at) (l .j) (omega arith) (inr (true→T _ (sym (c .before .is-held .ensures) ∙ c .if2 .taken))))
 
-add-count : tie.Need-add-count Inv-loop μ-loop
-add-count c = search needs
+add-total : tie.Need-add-total Inv-loop μ-loop
+add-total c = search needs
 
 loop-less-3 : tie.Need-loop-less-3 Inv-loop μ-loop
 loop-less-3 c = search needs
@@ -112,7 +112,7 @@ places-with-spec =
     is-held-requires
     loop-less-2
     loop-again-2
-    add-count
+    add-total
     loop-less-3
     loop-again-3
     returns)
