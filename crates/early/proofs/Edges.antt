@@ -265,7 +265,7 @@ pub lookItems-edges :
 unfolding computed sayers withStarts segmentOf
 lookItems-edges = (refl, refl, refl, refl)
 
--- "again and again until none hears anything": thread 0 waits for (9, 0), while thread 1 may notify event 1 at (3, 1,027) yet. Thread 1, looked at
+-- "again and again until none hears anything": thread 0 waits for (9, 0), while thread 1 may notify event 1 at (3, 1,027). Thread 1, looked at
 -- later, hears (3, 1,023), overruns and notifies no more; so that thread 0 hears in the next sweep.
 abbrev twoSweeps : List Thread
 twoSweeps = waitingIn 1 1 1 0 ∷ waitingIn 0 0 1 0 ∷ []

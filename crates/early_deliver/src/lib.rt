@@ -242,7 +242,7 @@ pub fn floor_of(threads: Threads, t: u8) -> Bound
     least
 }
 
-// The records with their crew and their earliest limits; nobody has heard yet.
+// The records with their crew and their earliest limits; nobody has heard.
 pub fn outlook_of(reach: &[u64], site: Site, threads: Threads, t: u8) -> Outlook
     ensures { λ r. ⌜ r ≡ outlookOf (now (reach .entry)) (atMost 32 t) (logOf site) (threads .at) false ⌝ }
 {

@@ -1,4 +1,4 @@
-// Document 01, "Model file" as values; thread records of "Early issue". Types and definitions; the functions are machine's.
+// Document 01, "Model file" as values; thread records of "Early issue". Types and definitions; the functions are those of `model_effect` and `model_rules`.
 use clock::Cycle;
 use clock::Delay;
 use clock::Time;

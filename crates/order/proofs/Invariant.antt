@@ -1,6 +1,6 @@
 -- An early state is a cut of the plain run: each thread's record is the one it has at a place of its own, and the places
 -- that its thread has passed are done. The variables are those of the done places, the log holds what they notified, and
--- what was dropped from it nobody can hear any more.
+-- what was dropped from it nobody can hear.
 -- Assumes nothing.
 use Prim.Native.Nat.{ℕ, _≤_, _<_}
 use mathlib.Core.Path.{_≡_}

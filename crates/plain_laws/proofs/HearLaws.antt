@@ -1,4 +1,4 @@
--- A waiting thread in the plain run: its wait has begun by now, and what it could hear is not yet past.
+-- A waiting thread in the plain run: its wait has begun, and what it could hear is still to come.
 -- For if a cycle in which its event was notified closes after the wait began, it hears there and waits no more.
 --     begun     the wait began now or before
 --     unheard     a notification of its event came before the wait began, or is still to be heard

@@ -5,7 +5,7 @@ use native.Mathlib.Omega.{arith}
 use lib.Dec.{T}
 use Rattle.clock.specs.declared.Cycle.{Cycle}
 use Rattle.model.specs.declared.Model.{Model}
-use Rattle.model.specs.Limits.{isBeforeHorizon}
+use Rattle.model.specs.Limits.{largestTime, isBeforeHorizon}
 use Rattle.model.specs.Rules.{modelFault}
 use Rattle.model_rules.proofs.RuleLaws.{modelFault-horizon}
 use Rattle.plain_laws.proofs.RecordLaws.{horizon→<, <→horizon}
@@ -21,5 +21,5 @@ module _ (m : Model) (c : Cycle) where
 pub limit-some : (m : Model) → modelFault m ≡ 0 → 0 < limitOf m
 limit-some m fit = omega (arith, modelFault-horizon m fit .0)
 
-pub limit-small : (m : Model) → modelFault m ≡ 0 → limitOf m ≤ 1024 * 1000000000
+pub limit-small : (m : Model) → modelFault m ≡ 0 → limitOf m ≤ 1024 * largestTime
 limit-small m fit = omega (arith, modelFault-horizon m fit .1)

@@ -43,7 +43,7 @@ pub record IsDue (t : ℕ) (ws : List ℕ) (now from to : ℕ) : Type 0 where
   pub due : (k : ℕ) → k < t → getD ws k 0 ≡ now → Between from to k
   pub late : (k : ℕ) → k < t → Late (getD ws k 0) → Between from to k
 
--- where a cycle begins: nothing is notified yet, and the range of each event holds the threads that wait for it
+-- where a cycle begins: nothing is notified, and the range of each event holds the threads that wait for it
 pub record Begins (t : ℕ) (ws : List ℕ) (fs : List Bool) (rs : List ℕ) (now from to : ℕ) : Type 0 where
   pub threads : IsDue t ws now from to
   pub size : length rs ≡ 66

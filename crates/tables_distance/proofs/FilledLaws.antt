@@ -83,7 +83,7 @@ module _ (m : Model) (ws : List ℕ) (room : m .n * m .n ≤ length ws) where
       go ih (no e) =
           storeTo-other _ (k * m .n) vs 0 (m .n) (r * m .n + s) (other-row (m .n) r k s e b) ∙ ih (omega arith)
 
--- one round: rows not yet reached, and places past the table
+-- one round: rows that are still to come, and places past the table
 
 module _ (n k : ℕ) (ws : List ℕ) where
   roundTo-later : (i r s : ℕ) → i ≤ r → s < n → getD (roundTo n k ws i) (r * n + s) 0 ≡ getD ws (r * n + s) 0
