@@ -42,11 +42,9 @@ module _ (m : Model) where
   started-all ts k e h f = f ∙ rw e (fill-all (λ i. started (startAt m i)) noThread (m .t) h)
 
   module _ (site : Site) (ts : Threads) (e : site ≡ freshSite) where
-    pub fresh-refused : (modelFault m ≡ 0 → ⊥) → ts .at ≡ replicate 32 noThread → record { number = 11; site = site; threads = ts } ≡ freshOf m
+    pub fresh-refused : (modelFault m ≡ 0 → ⊥) → ts ≡ record { at = replicate 32 noThread } → record { number = 11; site = site; threads = ts } ≡ freshOf m
     unfolding freshOf
-    fresh-refused h f =
-        let g : ts ≡ record { at = replicate 32 noThread } = ap (λ (xs : List Thread). record { at = xs }) f in
-        rw (ne-eqb (modelFault m) 0 h, e, g) refl
+    fresh-refused h g = rw (ne-eqb (modelFault m) 0 h, e, g) refl
 
     pub fresh-accepted : modelFault m ≡ 0 → ts .at ≡ freshThreads m → record { number = 0; site = site; threads = ts } ≡ freshOf m
     unfolding freshOf

@@ -299,7 +299,7 @@ pub fn fresh(m: Model) -> FreshState
 
 // A request: 11, then 10, 12, 13, 14, 15.
 // Document 01 leaves free, and the definition fixes: the order in which threads are looked at (lowest first; any order leaves the
-// same, `settled-any` of bounds); marks that are not symmetric (the row of the asking thread's segment is read, `requestOf-row`);
+// same, `settled-any` of early_laws); marks that are not symmetric (the row of the asking thread's segment is read, `requestOf-row`);
 // equal pairs handed in (they stay and count as they stand, `siteAfter-front`); places past the log's count (kept on a refusal, not
 // read, 0 after a grant, `requestOf-held`); records past the threads (kept, `threadsAfter-past`).
 pub fn request(

@@ -1,8 +1,9 @@
 -- `early_request::fresh_threads` meets its contract. The invariant: the first k records are started.
 use Prim.Native.Nat.{_≤_, _-_}
-use mathlib.Core.Path.{_≡_}
+use mathlib.Core.Path.{_≡_, ap}
 use native.Mathlib.Omega.{arith}
 use borrow.Author.Needs.{needs}
+use Rattle.model.specs.declared.Threads.{Threads}
 use Rattle.early_request.proofs.FreshLaws.{startedTo, started-none, started-more, started-all}
 use Rattle.early_request.proofs.fresh_threads.Statement.{statement}
 use Rattle.early_request.proofs.fresh_threads.Tie as tie
