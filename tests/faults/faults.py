@@ -3,9 +3,8 @@
 
     faults.py [WORD]      only the faults whose name has WORD
 
-Nothing is proved: the tests are run by `rt try`. `runs` and `lists` are the two parts of `versus`, on its first 60 generated models; `test_files` has
-all its files and runs. First all three run without a fault. A fault is caught by a part of `versus` if it
-writes a line `difference:`, by `test_files` if it writes anything else than its file `stdout`.
+Nothing is proved: the tests are run by `rt try`, `versus` on its first 60 generated models, `test_files` on all its files and runs. First both
+run without a fault. A fault is caught by `versus` if it writes a line `difference:`, by `test_files` if it writes anything else than its file `stdout`.
 A text that is not in its file exactly once is gone: the table below is then to be brought up to date. The exit status is 0 if every fault was
 planted and caught by each test named beside it.
 """
@@ -19,11 +18,9 @@ import tempfile
 ROOT = pathlib.Path(__file__).resolve().parents[2]
 MAIN = "versus/src/main.rt"
 MODELS = (MAIN, "const MODELS: u64 = 2400;", "const MODELS: u64 = 60;")
-PARTS = "    all_stored();\n    all_drawn();\n    all_orders();\n"
-RUNS_FIRST = (MAIN, PARTS, "    all_drawn();\n    all_orders();\n    all_stored();\n")
-LISTS_FIRST = (MAIN, PARTS, "    all_orders();\n    all_drawn();\n    all_stored();\n")
+DRAWN_FIRST = (MAIN, "    all_stored();\n    all_drawn();\n", "    all_drawn();\n    all_stored();\n")
 SEED = 24000
-PLAIN, EARLY = ["runs"], ["lists", "test_files"]
+PLAIN, EARLY = ["versus"], ["versus", "test_files"]
 
 # tests, name, file under crates/, old text, new text
 FAULTS = [
@@ -36,7 +33,7 @@ FAULTS = [
     (EARLY, "the first notification logged, not the least", "early_log/src/lib.rt", "best = clock::least_of(Bound::At(c), best);", "best = Bound::At(c);"),
     (EARLY, "a notification in the cycle of the wait is lost", "early_log/src/lib.rt", "return !clock::is_before(c, since);", "return clock::is_before(since, c);"),
     (EARLY, "a forecast equal to the logged cycle", "early_deliver/src/lib.rt", "xs, t, e) < early_ahead::limit_of(c) {", "xs, t, e) <= early_ahead::limit_of(c) {"),
-    (EARLY, "96 counted in", "early_request/src/lib.rt", "return 96 < count;", "return 96 <= count;"),
+    (EARLY, "96 counted in", "early_request/src/lib.rt", "    if n <= 96 {", "    if n < 96 {"),
     (EARLY, "notifications at the floor dropped", "early_log/src/lib.rt", "    clock::is_before(c, f)\n", "    !clock::is_before(f, c)\n"),
     (EARLY, "equal cycles are no hazard", "early_ahead/src/lib.rt", "        return j < i;\n", "        return false;\n"),
 ]
@@ -60,9 +57,9 @@ def tried(copy, test):
     return subprocess.run(["rt", "try", test], cwd=copy, capture_output=True, text=True, errors="replace")
 
 
-def by_versus(copy, part_first):
-    """The first difference that this part of versus writes, or None. Its `stdout` is empty here, so that `rt try` shows what it writes first."""
-    path, text = planted(copy, *part_first)
+def by_versus(copy):
+    """The first difference on generated models that versus writes, or None. Its `stdout` is empty here, so that `rt try` shows what it writes first."""
+    path, text = planted(copy, *DRAWN_FIRST)
     ran = tried(copy, "versus")
     path.write_text(text)
     said = ran.stdout + ran.stderr
@@ -84,7 +81,7 @@ def by_test_files(copy):
     return next((line for line in reversed(before.splitlines()) if line[:1].isupper()), "its first file")
 
 
-TESTS = {"runs": lambda copy: by_versus(copy, RUNS_FIRST), "lists": lambda copy: by_versus(copy, LISTS_FIRST), "test_files": by_test_files}
+TESTS = {"versus": by_versus, "test_files": by_test_files}
 
 
 def hold(copy, tests, name, change):
