@@ -25,12 +25,14 @@ use Rattle.model.proofs.Thread as thread
 use Rattle.model.proofs.State as state
 use Rattle.model.proofs.Threads as threads
 use Rattle.model.proofs.Threads.Laws as threads′
+use Rattle.model_effect.proofs.LengthLaws.{threads-length}
 use Rattle.early.specs.declared.Notification.{Notification}
 use Rattle.early.specs.declared.Site.{Site}
 use Rattle.early.specs.Log.{pairOf}
 use Rattle.early.proofs.Notification as notification
 use Rattle.early.proofs.Site as site
 use Rattle.early.proofs.Site.Laws as site′
+use Rattle.early_log.proofs.LengthLaws.{log-length}
 use Rattle.export_state.specs.Numbers.{threadWords, recordOf}
 
 pub record PairRange (x : Notification) : Type 0 where
