@@ -17,3 +17,5 @@ pub mod NumberLaws
 pub mod GrantLaws
 pub mod RequestLaws
 pub mod FreeLaws
+pub mod AgreeLaws
+pub mod AlikeLaws

@@ -1,5 +1,3 @@
-pub mod PlaceLaws
-pub mod RequestLaws
 mod MovedLaws
 mod LendLaws
 mod WalkLaws

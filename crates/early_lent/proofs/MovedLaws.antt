@@ -24,12 +24,12 @@ use Rattle.early.specs.declared.Site.{Site}
 use Rattle.early.specs.declared.After.{After}
 use Rattle.early.specs.declared.Answer.the-variants.{Refused}
 use Rattle.early.specs.Request.{Requested, refusedWith, requestOf}
+use Rattle.early_laws.proofs.AgreeLaws.{Agree}
+use Rattle.early_laws.proofs.AlikeLaws.{AlikeAfter, requestOf-alike, requestOf-past, requestOf-length, requestOf-short, requestOf-faulty}
 use Rattle.early_request.specs.After.{afterOf}
 use Rattle.early_lent.specs.declared.Done.{Done}
 use Rattle.early_lent.specs.Answered.{askedOf}
 use Rattle.early_lent.specs.Moved.{takenAt, loaded, stored, noThreads, smallerOf, movedOf, requestLent, doneOf}
-use Rattle.early_lent.proofs.PlaceLaws.{Agree}
-use Rattle.early_lent.proofs.RequestLaws.{AlikeAfter, requestOf-alike, requestOf-past, requestOf-length, requestOf-short, requestOf-faulty}
 
 smallerOf-lt : (a b : ℕ) → a < b → smallerOf a b ≡ a
 smallerOf-lt a b h = rw (lt-ltb a b h) refl

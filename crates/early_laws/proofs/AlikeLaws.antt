@@ -32,11 +32,11 @@ use Rattle.early.specs.Deliver.{forecastSooner, lookedBy, afterHearing, heardNo
 use Rattle.early.specs.Fit.{isUnfitThreads, isUnfitLog, isUnfitWords, isUnfitState, isUnfit}
 use Rattle.early.specs.Grant.{effectAt, logAfter, closedThreads, threadsAfter, siteAfter}
 use Rattle.early.specs.Request.{numberIn, Requested, refusedWith, grantedTo, answeredBy, requestFit, requestOf}
 use Rattle.early_laws.proofs.SettleLaws.{settledBy-both, settled-past}
 use Rattle.early_laws.proofs.GrantLaws.{closedThreads-other, threadsAfter-length}
 use Rattle.early_laws.proofs.NumberLaws.{numberFor→passed, numberFor-same}
 use Rattle.early_laws.proofs.RequestLaws as asked
-use Rattle.early_lent.proofs.PlaceLaws.{Agree, isUnfitThreads-same, floorOf-same, heardNow-same, hazard-same, effectAt-same, logAfter-same}
+use Rattle.early_laws.proofs.AgreeLaws.{Agree, isUnfitThreads-same, floorOf-same, heardNow-same, hazard-same, effectAt-same, logAfter-same}
 
 -- the same record set in both
 set-agree : (m : Model) (ts us : List Thread) (k : ℕ) (t u : Thread) → t ≡ u → Agree m ts us → Agree m (set ts k t) (set us k u)
