@@ -34,9 +34,7 @@ use Rattle.early.specs.Fit.{isFitPair, isUnfitThreads, isUnfitLog, isUnfitWords
 use Rattle.early.specs.Grant.{effectAt, logAfter, closedThreads, threadsAfter, siteAfter}
 use Rattle.early.specs.Answer.{numberOf}
 use Rattle.early.specs.Request.{numberIn, Requested, refusedWith, grantedTo, answeredBy, requestFit, requestOf}
-use Rattle.plain_laws.proofs.RecordLaws.{threadAt-other}
 use Rattle.early_laws.proofs.LogLaws.{logOf-siteOf}
-use Rattle.early_laws.proofs.SettleLaws.{settled-past}
 
 -- marks that are not symmetric: those in the row of the asking thread's segment are read, and no others
 module _ (m : Model) (ws : List ℕ) (ts : List Thread) (k : ℕ) (marks others : List (List Bool))
@@ -114,14 +112,6 @@ module _ (m : Model) (marks : List (List Bool)) (ws : List ℕ) (ts : List Threa
       whole : (b : Bool) → Alike (cond b (refusedWith unfit site ts) (answeredBy n site ts (grantedTo m ws site ts k c))) (cond b (refusedWith unfit other ts) (answeredBy n other ts (grantedTo m ws other ts k c)))
       whole true = refused-alike unfit (λ e. omega arith)
       whole false = decided (ℕ-discrete n accepted)
-
--- records past the threads stay as they are
-pub threadsAfter-past : (m : Model) (ws : List ℕ) (site : Site) (ts : List Thread) (k : ℕ) (c : Cycle) (j : ℕ) → k < m .t → m .t ≤ j
-    → threadAt (threadsAfter m ws site ts k c) j ≡ threadAt ts j
-unfolding threadsAfter closedThreads
-threadsAfter-past m ws site ts k c j h past =
-    settled-past m ws (logAfter m site ts k c) (closedThreads m site ts k c) j past
-    ∙ threadAt-other ts k j (effectAt m site ts k c .thread) (λ e. omega arith)
 
 -- pairs that are handed in, equal ones too, keep their order and their number, but for those before the floor; the new ones stand behind them
 withPair-front : (l : List Notification) (x : Notification) → (more : List Notification) × (withPair l x ≡ l ++ more)

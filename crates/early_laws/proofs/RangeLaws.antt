@@ -6,7 +6,6 @@ use mathlib.Core.Logic.{_⊎_, inl, inr}
 use mathlib.Core.Bool.{not}
 use mathlib.Core.List.{List}
 use native.Mathlib.Omega.{arith}
-use native.Mathlib.Nat.{suc-mul, mul-le-mul-right}
 use lib.Dec.{T, eqb, T-not}
 use lib.ListN.{getD}
 use Rattle.base.proofs.BoolLaws.{cond-case, eq→eqb}
@@ -24,6 +23,7 @@ use Rattle.model.specs.Limits.{cutTime, recordTime}
 use Rattle.model.specs.Record as view
 use Rattle.model.specs.Record.{threadAt, cycleOf, View, viewOf}
 use Rattle.tables.specs.Word.{allOnes, boundOf, distanceIn}
+use Rattle.tables_laws.proofs.WordLaws.{place-below}
 use Rattle.plain_laws.proofs.RecordLaws.{ready-cycle}
 use Rattle.early.specs.declared.Notification.{Notification}
 use Rattle.early.specs.Log.{pairOf, leastHeard}
@@ -98,7 +98,7 @@ module _ (m : Model) (ws : List ℕ) (l : List Notification) (ts : List Thread)
     within-distance r s p q =
         within-word
         (getD ws (r * m .n + s) 0)
-        (fit-words (r * m .n + s) (omega (arith, suc-mul r (m .n), mul-le-mul-right (m .n) p)))
+        (fit-words (r * m .n + s) (place-below (m .n) r s p q))
 
     pub within-heard : (e : ℕ) (since : Cycle) → Within cutTime lastDelta (leastHeard l e since)
     within-heard e since = go (leastHeard l e since) refl

@@ -3,7 +3,7 @@
 --     settledBy-both, settledBy-same     by two tests: what holds of both; the same, where the tests agree
 --     settled-carries, settled-length, settled-segment, settled-kept, settled-past     of the records and of what was heard so far
 use Prim.Native.Nat.{ℕ, zero, suc, _+_, _<_, _≤_, _-_}
-use mathlib.Core.Path.{_≡_, refl, ap, sym, _∙_, subst, fun-ext}
+use mathlib.Core.Path.{_≡_, refl, ap, sym, _∙_, subst₂, fun-ext}
 use mathlib.Core.Bool.{Bool, cond}
 use mathlib.Core.List.{List, [], _++_, append-assoc, append-nil}
 use native.Mathlib.Omega.{arith}
@@ -47,31 +47,36 @@ module _ (sooner : Sooner) (l : List Notification) (ts : List Thread) where
   sweepsBy-still t (suc n) h = rw h (sweepsBy-still t n h)
 
 -- What holds of two lists of records and of nothing heard, and is kept by a look at both, each by its own test, holds after the sweeps of both.
-module _ (p q : Sooner) (l : List Notification) (t : ℕ) (R : List Thread → List Thread → (ℕ → List Item) → Type 0)
-    (each : (us vs : List Thread) (is : ℕ → List Item) (k : ℕ) → k < t → R us vs is → R (lookedBy p l us k) (lookedBy q l vs k) (λ j. is j ++ lookItemsBy p l us k j))
+module _ (p q : Sooner) (l : List Notification) (t : ℕ) (R : List Thread → List Thread → (ℕ → List Item) → (ℕ → List Item) → Type 0)
+    (each : (us vs : List Thread) (is js : ℕ → List Item) (k : ℕ) → k < t → R us vs is js
+    → R (lookedBy p l us k) (lookedBy q l vs k) (λ j. is j ++ lookItemsBy p l us k j) (λ j. js j ++ lookItemsBy q l vs k j))
   where
-    swept-both : (us vs : List Thread) (is : ℕ → List Item) (n : ℕ) → n ≤ t → R us vs is → R (sweptBy p l us n) (sweptBy q l vs n) (λ j. is j ++ sweptItemsBy p l us n j)
+    swept-both : (us vs : List Thread) (is js : ℕ → List Item) (n : ℕ) → n ≤ t → R us vs is js
+        → R (sweptBy p l us n) (sweptBy q l vs n) (λ j. is j ++ sweptItemsBy p l us n j) (λ j. js j ++ sweptItemsBy q l vs n j)
     unfolding sweptBy sweptItemsBy
-    swept-both us vs is zero h r = subst (R us vs) (fun-ext (λ j. sym (append-nil (is j)))) r
-    swept-both us vs is (suc n) h r =
-        subst
+    swept-both us vs is js zero h r = subst₂ (R us vs) (fun-ext (λ j. sym (append-nil (is j)))) (fun-ext (λ j. sym (append-nil (js j)))) r
+    swept-both us vs is js (suc n) h r =
+        subst₂
         (R (lookedBy p l (sweptBy p l us n) n) (lookedBy q l (sweptBy q l vs n) n))
         (fun-ext (λ j. append-assoc (is j) (sweptItemsBy p l us n j) (lookItemsBy p l (sweptBy p l us n) n j)))
-        (each (sweptBy p l us n) (sweptBy q l vs n) (λ j. is j ++ sweptItemsBy p l us n j) n h (swept-both us vs is n (omega arith) r))
+        (fun-ext (λ j. append-assoc (js j) (sweptItemsBy q l vs n j) (lookItemsBy q l (sweptBy q l vs n) n j)))
+        (each (sweptBy p l us n) (sweptBy q l vs n) (λ j. is j ++ sweptItemsBy p l us n j) (λ j. js j ++ sweptItemsBy q l vs n j) n h (swept-both us vs is js n (omega arith) r))
 
-    sweeps-both : (n : ℕ) (us vs : List Thread) (is : ℕ → List Item) → R us vs is → R (sweepsBy p l t n us) (sweepsBy q l t n vs) (λ j. is j ++ sweepItemsBy p l t n us j)
+    sweeps-both : (n : ℕ) (us vs : List Thread) (is js : ℕ → List Item) → R us vs is js
+        → R (sweepsBy p l t n us) (sweepsBy q l t n vs) (λ j. is j ++ sweepItemsBy p l t n us j) (λ j. js j ++ sweepItemsBy q l t n vs j)
     unfolding sweepsBy sweepItemsBy
-    sweeps-both zero us vs is r = subst (R us vs) (fun-ext (λ j. sym (append-nil (is j)))) r
-    sweeps-both (suc n) us vs is r =
+    sweeps-both zero us vs is js r = subst₂ (R us vs) (fun-ext (λ j. sym (append-nil (is j)))) (fun-ext (λ j. sym (append-nil (js j)))) r
+    sweeps-both (suc n) us vs is js r =
         let us₁ = sweptBy p l us t in
         let vs₁ = sweptBy q l vs t in
-        subst
+        subst₂
         (R (sweepsBy p l t n us₁) (sweepsBy q l t n vs₁))
         (fun-ext (λ j. append-assoc (is j) (sweptItemsBy p l us t j) (sweepItemsBy p l t n us₁ j)))
-        (sweeps-both n us₁ vs₁ (λ j. is j ++ sweptItemsBy p l us t j) (swept-both us vs is t (omega arith) r))
+        (fun-ext (λ j. append-assoc (js j) (sweptItemsBy q l vs t j) (sweepItemsBy q l t n vs₁ j)))
+        (sweeps-both n us₁ vs₁ (λ j. is j ++ sweptItemsBy p l us t j) (λ j. js j ++ sweptItemsBy q l vs t j) (swept-both us vs is js t (omega arith) r))
 
-    pub settledBy-both : (us vs : List Thread) → R us vs (λ j. []) → R (settledBy p l t us) (settledBy q l t vs) (settledItemsBy p l t us)
-    settledBy-both us vs r = sweeps-both t us vs (λ j. []) r
+    pub settledBy-both : (us vs : List Thread) → R us vs (λ j. []) (λ j. []) → R (settledBy p l t us) (settledBy q l t vs) (settledItemsBy p l t us) (settledItemsBy q l t vs)
+    settledBy-both us vs r = sweeps-both t us vs (λ j. []) (λ j. []) r
 
 -- Two tests that agree on what threads wait for, wherever the looks lead, settle alike.
 module _ (p q : Sooner) (l : List Notification) (t : ℕ) (Inv : List Thread → Type 0) (kept : (us : List Thread) (k : ℕ) → Inv us → Inv (lookedBy q l us k))
@@ -95,8 +100,8 @@ module _ (p q : Sooner) (l : List Notification) (t : ℕ) (Inv : List Thread →
         q
         l
         t
-        (λ us vs is. (us ≡ vs) × Inv vs)
-        (λ us vs is k h r. (ap (λ (x : List Thread). lookedBy p l x k) (r .0) ∙ looked-same vs k h (r .1), kept vs k (r .1)))
+        (λ us vs is js. (us ≡ vs) × Inv vs)
+        (λ us vs is js k h r. (ap (λ (x : List Thread). lookedBy p l x k) (r .0) ∙ looked-same vs k h (r .1), kept vs k (r .1)))
         ts
         ts
         (refl, inv) .0
@@ -108,7 +113,7 @@ module _ (m : Model) (ws : List ℕ) (l : List Notification) where
       → (ts : List Thread) → P ts (λ j. []) → P (settled m ws l ts) (settledItems m ws l ts)
   settled-carries P each ts h =
       let sooner = forecastSooner m ws l in
-      settledBy-both sooner sooner l (m .t) (λ us vs is. P us is) (λ us vs is. each us is) ts ts h
+      settledBy-both sooner sooner l (m .t) (λ us vs is js. P us is) (λ us vs is js. each us is) ts ts h
 
   -- segments, the number of records, and every record that does not wait are kept
 

@@ -25,7 +25,7 @@ use Rattle.early.specs.declared.After.{After}
 use Rattle.early.specs.declared.Answer.the-variants.{Refused}
 use Rattle.early.specs.Request.{Requested, refusedWith, requestOf}
 use Rattle.early_laws.proofs.AgreeLaws.{Agree}
-use Rattle.early_laws.proofs.AlikeLaws.{AlikeAfter, requestOf-alike, requestOf-past, requestOf-length, requestOf-short, requestOf-faulty}
+use Rattle.early_laws.proofs.AlikeLaws.{AlikeAfter, requestOf-unread, requestOf-unwritten, requestOf-length, requestOf-short, requestOf-faulty}
 use Rattle.early_request.specs.After.{afterOf}
 use Rattle.early_lent.specs.declared.Done.{Done}
 use Rattle.early_lent.specs.Answered.{askedOf}
@@ -139,7 +139,7 @@ module _ (m : Model) (marks : List (List Bool)) (ws : List ℕ) (site : Site) (t
         }
 
     alike : AlikeAfter m (requestOf m marks ws site (before .at) k) (requestOf m marks ws site ts k)
-    alike = requestOf-alike m marks ws site k (before .at) ts agree
+    alike = requestOf-unread m marks ws site k ws (before .at) ts agree refl
 
     asked-right : Right (requestOf m marks ws site (before .at) k)
     unfolding threadAt
@@ -155,7 +155,7 @@ module _ (m : Model) (marks : List (List Bool)) (ws : List ℕ) (site : Site) (t
               (movedOf-le (length ts) (m .t) .0)
               (requestOf-length m marks ws site k ts)
               (λ j h. alike .threads .same j (omega (arith, all)))
-              (λ j h. sym (requestOf-past m marks ws site k ts j (omega (arith, all))));
+              (λ j h. sym (requestOf-unwritten m marks ws site k ts j (omega (arith, all))));
         }
 
   faulty-right : (modelFault m ≡ accepted → ⊥) → Right (requestOf m marks ws site (before .at) k)
