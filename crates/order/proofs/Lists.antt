@@ -17,12 +17,11 @@ use Rattle.model.specs.Limits.{isBeforeHorizon}
 use Rattle.model.specs.Record as view
 use Rattle.model.specs.Record.{threadAt, viewOf}
 use Rattle.model.specs.Footprint.{listedIn, notifiesIn}
-use Rattle.plain.specs.Start.{freshThreads, freshVariables, startOf}
+use Rattle.plain.specs.Start.{freshVariables, startOf}
 use Rattle.plain.specs.Step.{placeAt}
 use Rattle.plain.specs.Wake.{floorOf}
 use Rattle.plain.specs.History.{Item, ran, historyAt}
 use Rattle.plain_laws.proofs.RecordLaws.{readyCycle→ready}
-use Rattle.plain_laws.proofs.StartLaws.{shape}
 use Rattle.early.specs.declared.Notification.{Notification}
 use Rattle.early.specs.declared.Site.{Site}
 use Rattle.early.specs.Log.{logOf, countedPlaces, dropBefore}
@@ -32,6 +31,7 @@ use Rattle.early.specs.Request.{Requested, grantedTo, requestOf, freshSite, req
 use Rattle.early_laws.proofs.OnceLaws.{none, dropBefore-length, withPairs-shorter}
 use Rattle.early_laws.proofs.GrantLaws.{isFull-none, isFull-early, threadsAfter-rest}
 use Rattle.early_laws.proofs.RequestLaws.{Grantable, Asked, refused, granted, requestOf-asked, requestsOf-carries}
+use Rattle.order.specs.Claim.{FreshBelow}
 use Rattle.order.proofs.PlainFacts.{PlainFacts, NextRun}
 use Rattle.order.proofs.KitLaws.{KitLaws}
 use Rattle.order.proofs.Invariant.{IsCut, SomeCut, moved, adding}
@@ -50,14 +50,10 @@ pub reached-same : {m : Model} {site : Site} {ts : List Thread} {h h′ : ℕ �
 reached-same {m} {site} {ts} e r = subst (λ (a : ℕ → List Item). Reached m site ts a) (fun-ext e) r
 
 module _ (m : Model) (pf : PlainFacts m) {marks : List (List Bool)} {ws : List ℕ} (kl : KitLaws m marks ws) where
-  fresh-size : m .t ≤ length (freshThreads m)
-  unfolding placeAt startOf
-  fresh-size = shape m 0 .enough
-
   -- "The fresh state, thread records included, is the plain run's start with an empty log"
-  pub fresh-reached : Reached m freshSite (freshThreads m) (λ j. [])
+  pub fresh-reached : (ts : List Thread) → FreshBelow m ts → Reached m freshSite ts (λ j. [])
   unfolding freshSite placeAt startOf historyAt
-  fresh-reached =
+  fresh-reached ts fresh =
       record {
         variables = freshVariables;
         log = [];
@@ -65,17 +61,17 @@ module _ (m : Model) (pf : PlainFacts m) {marks : List (List Bool)} {ws : List �
         cut = λ k. 0;
         is-cut =
             record {
-              size = fresh-size;
-              records = λ k below. refl;
+              size = fresh .enough;
+              records = fresh .fresh;
               history = λ k below. refl;
               good = good-fresh m pf kl;
-              low-ready = λ k c below r. floor-below m (freshThreads m) k c below r;
+              low-ready = λ k c below r. floor-below m ts k c below r;
               low-logged = λ y i. absurd (List·Memᴰ·not-nil i);
               logged = λ q k e d s. absurd (omega (arith, d .passed));
               notified = λ y i. absurd (List·Memᴰ·not-nil i);
               once = none;
             };
-        roomy = roomy-short (floorOf m (freshThreads m)) [] (omega arith);
+        roomy = roomy-short (floorOf m ts) [] (omega arith);
         short = omega arith;
       }
 

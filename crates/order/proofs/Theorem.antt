@@ -14,7 +14,6 @@ use Rattle.model.specs.declared.Thread.{Thread}
 use Rattle.model.specs.Refusal.{unfit}
 use Rattle.model.specs.Limits.{isBeforeHorizon}
 use Rattle.model.specs.Record.{threadAt}
-use Rattle.plain.specs.Start.{freshThreads}
 use Rattle.plain.specs.Wake.{someReady}
 use Rattle.plain.specs.History.{Item, historyAt}
 use Rattle.early.specs.declared.Site.{Site}
@@ -27,7 +26,7 @@ use Rattle.early.specs.Request.{Requested, grantedTo, requestOf, freshSite, Lis
 use Rattle.early_laws.proofs.LogLaws.{siteOf-count}
 use Rattle.early_laws.proofs.OnceLaws.{Once}
 use Rattle.early_laws.proofs.RequestLaws.{requestOf-refused, requestOf-fit, requestsOf-append}
-use Rattle.order.specs.Claim.{afterListWith, requestNext, AgreesAt, Claim}
+use Rattle.order.specs.Claim.{FreshBelow, afterListWith, requestNext, AgreesAt, Claim}
 use Rattle.order.proofs.PlainFacts.{PlainFacts}
 use Rattle.order.proofs.KitLaws.{Begins, KitLaws}
 use Rattle.order.proofs.Invariant.{Bounded}
@@ -40,13 +39,13 @@ use Rattle.order.proofs.Lists.{fresh-reached, request-reached, list-rea
 use Rattle.order.proofs.SamePlaces.{ranItems, runCount, reached-variables-same, reached-ran-same}
 use Rattle.order.proofs.CarriedOn.{reached-begins, reached-carried}
 
-module _ (m : Model) (pf : PlainFacts m) {marks : List (List Bool)} {ws : List ℕ} (kl : KitLaws m marks ws) where
+module _ (m : Model) (pf : PlainFacts m) {marks : List (List Bool)} {ws : List ℕ} (kl : KitLaws m marks ws) {ts : List Thread} (fresh : FreshBelow m ts) where
   abbrev after : List ℕ → Listed
-  after ks = afterListWith m marks ws ks
+  after ks = afterListWith m marks ws ts ks
 
   -- every list of requests leaves a reached state
   pub after-reached : (ks : List ℕ) → Reached m (after ks .site) (after ks .threads) (after ks .history)
-  after-reached ks = list-reached m pf kl ks freshSite (freshThreads m) (λ j. []) (fresh-reached m pf kl)
+  after-reached ks = list-reached m pf kl ks freshSite ts (λ j. []) (fresh-reached m pf kl ts fresh)
 
   -- where no thread is ready before the horizon, all is as in the plain run carried on until it is done
   pub agrees-at-end : (ks : List ℕ) → someReady m (after ks .threads) ≡ false → AgreesAt m (after ks) (pf .ending .place)
@@ -65,12 +64,12 @@ module _ (m : Model) (pf : PlainFacts m) {marks : List (List Bool)} {ws : List �
 
   -- the least ready stamp before the horizon is always granted
   pub least-granted-next : (ks : List ℕ) (i : ℕ) (c : Cycle) → LeastReady m (after ks .threads) i c → T (isBeforeHorizon m c)
-      → requestNext m marks ws ks i ≡ grantedTo m ws (after ks .site) (after ks .threads) i c
+      → requestNext m marks ws ts ks i ≡ grantedTo m ws (after ks .site) (after ks .threads) i c
   least-granted-next ks i c lr early =
       least-granted m pf kl (after ks .site) (after ks .threads) (after ks .history) (after-reached ks) i c lr early
 
   -- demand 3 for one list
-  pub claim : (ks : List ℕ) → Claim m marks ws ks
+  pub claim : (ks : List ℕ) → Claim m marks ws ts ks
   unfolding grantedTo
   claim ks =
       record {
@@ -88,32 +87,32 @@ module _ (m : Model) (pf : PlainFacts m) {marks : List (List Bool)} {ws : List �
   pub carried-on : (ks : List ℕ) → (more : List ℕ) × (someReady m (after (ks ++ more) .threads) ≡ false)
   carried-on ks =
       let (more, p) = reached-carried m pf kl (after ks .site) (after ks .threads) (after ks .history) (after-reached ks) in
-      (more, ap (someReady m) (requestsOf-append m marks ws ks more freshSite (freshThreads m)) ∙ p)
+      (more, ap (someReady m) (requestsOf-append m marks ws ks more freshSite ts) ∙ p)
 
   -- no request answers 11: every reached state is fit
   pub after-fit : (ks : List ℕ) → isUnfit m ws (after ks .site) (after ks .threads) ≡ false
   after-fit ks = reached-fit m pf kl (after-reached ks)
 
-  pub never-unfit : (ks : List ℕ) (k : ℕ) → requestNext m marks ws ks k .answer ≡ Refused unfit → ⊥
+  pub never-unfit : (ks : List ℕ) (k : ℕ) → requestNext m marks ws ts ks k .answer ≡ Refused unfit → ⊥
   never-unfit ks k e = requestOf-fit m marks ws (after ks .site) (after ks .threads) k (after-fit ks) e
 
   -- nor does any request of a list
-  answers-fit : (ks : List ℕ) (site : Site) (ts : List Thread) (h : ℕ → List Item) → Reached m site ts h
-      → (a : Answer) → List·Memᴰ a (requestsOf m marks ws site ts ks .answers) → a ≡ Refused unfit → ⊥
+  answers-fit : (ks : List ℕ) (site : Site) (us : List Thread) (h : ℕ → List Item) → Reached m site us h
+      → (a : Answer) → List·Memᴰ a (requestsOf m marks ws site us ks .answers) → a ≡ Refused unfit → ⊥
   unfolding requestsOf
-  answers-fit [] site ts h r a i e = List·Memᴰ·not-nil i
-  answers-fit (k ∷ ks) site ts h r a i e = go (List·Memᴰ·cases-cons i) (λ j. answers-fit ks (b .site) (b .threads) (λ j. h j ++ b .items j) (request-reached m pf kl site ts h r k) a j e)
+  answers-fit [] site us h r a i e = List·Memᴰ·not-nil i
+  answers-fit (k ∷ ks) site us h r a i e = go (List·Memᴰ·cases-cons i) (λ j. answers-fit ks (b .site) (b .threads) (λ j. h j ++ b .items j) (request-reached m pf kl site us h r k) a j e)
     where
       b : Requested
-      b = requestOf m marks ws site ts k
+      b = requestOf m marks ws site us k
 
       go : (a ≡ b .answer) ⊎ List·Memᴰ a (requestsOf m marks ws (b .site) (b .threads) ks .answers)
           → (List·Memᴰ a (requestsOf m marks ws (b .site) (b .threads) ks .answers) → ⊥) → ⊥
-      go (inl p) ih = requestOf-fit m marks ws site ts k (reached-fit m pf kl r) (sym p ∙ e)
+      go (inl p) ih = requestOf-fit m marks ws site us k (reached-fit m pf kl r) (sym p ∙ e)
       go (inr j) ih = ih j
 
   pub answers-never-unfit : (ks : List ℕ) (a : Answer) → List·Memᴰ a (after ks .answers) → a ≡ Refused unfit → ⊥
-  answers-never-unfit ks a i e = answers-fit ks freshSite (freshThreads m) (λ j. []) (fresh-reached m pf kl) a i e
+  answers-never-unfit ks a i e = answers-fit ks freshSite ts (λ j. []) (fresh-reached m pf kl ts fresh) a i e
 
   -- the log never holds more than 128 pairs, and no pair twice
   pub log-bounded : (ks : List ℕ) → length (logOf (after ks .site)) ≤ places
@@ -127,22 +126,24 @@ module _ (m : Model) (pf : PlainFacts m) {marks : List (List Bool)} {ws : List �
       rw (ap (λ (s : Site). s .count) (after-reached ks .site-is) ∙ siteOf-count (after-reached ks .variables) (after-reached ks .log))
       (after-reached ks .short)
 
--- two lists, each with tables of its own, after which every thread has run equally often
-module _ (m : Model) (pf : PlainFacts m) {marks marks′ : List (List Bool)} {ws ws′ : List ℕ} (kl : KitLaws m marks ws) (kl′ : KitLaws m marks′ ws′) (ks js : List ℕ)
-    (same : (k : ℕ) → k < m .t → runCount (afterListWith m marks ws ks .history k) ≡ runCount (afterListWith m marks′ ws′ js .history k)) where
+-- two lists, each with tables and records of its own, after which every thread has run equally often
+module _ (m : Model) (pf : PlainFacts m) {marks marks′ : List (List Bool)} {ws ws′ : List ℕ} (kl : KitLaws m marks ws) (kl′ : KitLaws m marks′ ws′)
+    {ts ts′ : List Thread} (fresh : FreshBelow m ts) (fresh′ : FreshBelow m ts′) (ks js : List ℕ)
+    (same : (k : ℕ) → k < m .t → runCount (afterListWith m marks ws ts ks .history k) ≡ runCount (afterListWith m marks′ ws′ ts′ js .history k)) where
   -- leave the same variables
-  pub same-variables : afterListWith m marks ws ks .site .variables .at ≡ afterListWith m marks′ ws′ js .site .variables .at
-  same-variables = reached-variables-same m pf kl (after-reached m pf kl ks) (after-reached m pf kl′ js) same
+  pub same-variables : afterListWith m marks ws ts ks .site .variables .at ≡ afterListWith m marks′ ws′ ts′ js .site .variables .at
+  same-variables = reached-variables-same m pf kl (after-reached m pf kl fresh ks) (after-reached m pf kl′ fresh′ js) same
 
   -- and have run the same
   pub same-runs : (k : ℕ) → k < m .t
-      → ranItems (afterListWith m marks ws ks .history k) ≡ ranItems (afterListWith m marks′ ws′ js .history k)
-  same-runs = reached-ran-same m pf kl (after-reached m pf kl ks) (after-reached m pf kl′ js) same
+      → ranItems (afterListWith m marks ws ts ks .history k) ≡ ranItems (afterListWith m marks′ ws′ ts′ js .history k)
+  same-runs = reached-ran-same m pf kl (after-reached m pf kl fresh ks) (after-reached m pf kl′ fresh′ js) same
 
 -- a refused request changes nothing, whatever the model and its tables
-pub refused-same : (m : Model) (marks : List (List Bool)) (ws ks : List ℕ) (k : ℕ)
-    → (numberOf (requestNext m marks ws ks k .answer) ≡ 0 → ⊥)
-    → (requestNext m marks ws ks k .site ≡ afterListWith m marks ws ks .site)
-    × (requestNext m marks ws ks k .threads ≡ afterListWith m marks ws ks .threads)
-    × ((j : ℕ) → requestNext m marks ws ks k .items j ≡ [])
-refused-same m marks ws ks k other = requestOf-refused m marks ws (afterListWith m marks ws ks .site) (afterListWith m marks ws ks .threads) k other
+pub refused-same : (m : Model) (marks : List (List Bool)) (ws : List ℕ) (ts : List Thread) (ks : List ℕ) (k : ℕ)
+    → (numberOf (requestNext m marks ws ts ks k .answer) ≡ 0 → ⊥)
+    → (requestNext m marks ws ts ks k .site ≡ afterListWith m marks ws ts ks .site)
+    × (requestNext m marks ws ts ks k .threads ≡ afterListWith m marks ws ts ks .threads)
+    × ((j : ℕ) → requestNext m marks ws ts ks k .items j ≡ [])
+refused-same m marks ws ts ks k other =
+    requestOf-refused m marks ws (afterListWith m marks ws ts ks .site) (afterListWith m marks ws ts ks .threads) k other

@@ -1,10 +1,12 @@
 -- Demand 3, as one claim about a whole list of requests.
-use Prim.Native.Nat.{ℕ, _<_}
+use Prim.Native.Nat.{ℕ, _*_, _<_, _≤_}
 use mathlib.Core.Path.{_≡_}
 use mathlib.Core.Bool.{Bool, true, false}
 use mathlib.Core.List.{List}
+use lib.ListN.{length, take}
 use Rattle.clock.specs.declared.Cycle.{Cycle}
 use Rattle.model.specs.declared.Model.{Model}
+use Rattle.model.specs.declared.Thread.{Thread}
 use Rattle.model.specs.Refusal.{accepted}
 use Rattle.model.specs.Record.{threadAt}
 use Rattle.reader.specs.File.{readFile}
@@ -18,18 +20,27 @@ use Rattle.plain.specs.History.{historyAt}
 use Rattle.early.specs.declared.Answer.the-variants.{Granted}
 use Rattle.early.specs.Request.{Requested, requestOf, freshSite, Listed, requestsOf}
 
--- "The first gets the fresh state, each later one the state and thread records that the last one left": with these marks and words
-abbrev pub afterListWith : Model → List (List Bool) → List ℕ → List ℕ → Listed
-afterListWith m marks ws ks = requestsOf m marks ws freshSite (freshThreads m) ks
+-- "The fresh state, thread records included, is the plain run's start": of records that are lent, "at least as many as the threads"
+pub record FreshBelow (m : Model) (ts : List Thread) : Type 0 where
+  pub enough : m .t ≤ length ts
+  pub fresh : (k : ℕ) → k < m .t → threadAt ts k ≡ threadAt (freshThreads m) k
 
--- with the tables that the reader made
+-- "N × N words for N segments": the reader's, with any words past them
+abbrev pub TableBelow : Model → List ℕ → Type 0
+TableBelow m ws = take (m .n * m .n) ws ≡ wordsOf m
+
+-- "The first gets the fresh state, each later one the state and thread records that the last one left": with these marks, words and records
+abbrev pub afterListWith : Model → List (List Bool) → List ℕ → List Thread → List ℕ → Listed
+afterListWith m marks ws ts ks = requestsOf m marks ws freshSite ts ks
+
+-- with the tables that the reader made, on 32 records
 unfoldable pub afterList : Model → List ℕ → Listed
-afterList m ks = afterListWith m (marksOf m) (wordsOf m) ks
+afterList m ks = afterListWith m (marksOf m) (wordsOf m) (freshThreads m) ks
 
 -- the request of thread k, made next
-abbrev pub requestNext : Model → List (List Bool) → List ℕ → List ℕ → ℕ → Requested
-requestNext m marks ws ks k =
-    let a = afterListWith m marks ws ks in
+abbrev pub requestNext : Model → List (List Bool) → List ℕ → List Thread → List ℕ → ℕ → Requested
+requestNext m marks ws ts ks k =
+    let a = afterListWith m marks ws ts ks in
     requestOf m marks ws (a .site) (a .threads) k
 
 -- "every variable, every thread's history and every thread's closing state equal those of the plain run": at step i
@@ -38,15 +49,16 @@ pub record AgreesAt (m : Model) (a : Listed) (i : ℕ) : Type 0 where
   pub history : (k : ℕ) → k < m .t → a .history k ≡ historyAt m k i
   pub closing : (k : ℕ) → k < m .t → threadAt (a .threads) k ≡ threadAt (placeAt m i .threads) k
 
-pub record Claim (m : Model) (marks : List (List Bool)) (ws ks : List ℕ) : Type 0 where
+pub record Claim (m : Model) (marks : List (List Bool)) (ws : List ℕ) (ts : List Thread) (ks : List ℕ) : Type 0 where
   -- "where no thread is ready before the horizon": equal to "the plain run carried on until it is done"
-  pub at-end : someReady m (afterListWith m marks ws ks .threads) ≡ false → (i : ℕ) × (isDone m (placeAt m i) ≡ true) × AgreesAt m (afterListWith m marks ws ks) i
+  pub at-end : someReady m (afterListWith m marks ws ts ks .threads) ≡ false → (i : ℕ) × (isDone m (placeAt m i) ≡ true) × AgreesAt m (afterListWith m marks ws ts ks) i
   -- "where one is ready before it, some thread's request, made next, is granted"
-  pub goes-on : someReady m (afterListWith m marks ws ks .threads) ≡ true → (k : ℕ) × (s : ℕ) × (c : Cycle) × (requestNext m marks ws ks k .answer ≡ Granted s c)
+  pub goes-on : someReady m (afterListWith m marks ws ts ks .threads) ≡ true → (k : ℕ) × (s : ℕ) × (c : Cycle) × (requestNext m marks ws ts ks k .answer ≡ Granted s c)
 
--- "Take any list of requests on an accepted model, for whichever threads and in whatever order, refused ones included.": with the reader's tables
+-- "Take any list of requests on an accepted model, for whichever threads and in whatever order, refused ones included.": with the reader's tables,
+-- on any records of which the first T are fresh
 abbrev pub OrderIndependence : Type 0
 OrderIndependence =
-    (bytes : List ℕ) → readFile bytes .number ≡ accepted → (ks : List ℕ) →
+    (bytes : List ℕ) → readFile bytes .number ≡ accepted →
     let m = readFile bytes .model in
-    Claim m (marksOf m) (wordsOf m) ks
+    (ws : List ℕ) → TableBelow m ws → (ts : List Thread) → FreshBelow m ts → (ks : List ℕ) → Claim m (marksOf m) ws ts ks

@@ -32,7 +32,7 @@ use Rattle.early_request.specs.declared.Outcome.{Outcome}
 use Rattle.early_request.specs.Answers.{answersWords, isShort, leftBy, outcomeOf, answersIn}
 use Rattle.early_request.specs.Fresh.{freshOf}
 use Rattle.order.specs.Claim.{afterList}
-use Rattle.order.proofs.OrderIndependent.{order-independence}
+use Rattle.order.proofs.OrderIndependent.{order-independence-fresh}
 use Rattle.replay.specs.declared.Replayed.{Replayed}
 use Rattle.replay.specs.Replay.{refusedWith, doneOn, replayedOf, wordsAfter, answersAfter, Keeps}
 
@@ -149,7 +149,7 @@ module _ (file words ks answers : List ℕ) where
                   λ y. record {
                     site = ap (λ (x : Outcome). x .site) f ∙ ap (λ (m : Model). afterList m ks .site) (loaded .1);
                     threads = ap (λ (x : Outcome). x .threads .at) f ∙ ap (λ (m : Model). afterList m ks .threads) (loaded .1);
-                    claim = order-independence file file-accepted ks;
+                    claim = order-independence-fresh file file-accepted ks;
                   },
                 ),
               ),

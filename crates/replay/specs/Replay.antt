@@ -12,6 +12,7 @@ use Rattle.model.specs.Record.{noThread}
 use Rattle.tables.specs.Conflict.{marksOf}
 use Rattle.tables.specs.Word.{wordsOf}
 use Rattle.reader_load.specs.Load.{loadOf, loadBuffer}
+use Rattle.plain.specs.Start.{freshThreads}
 use Rattle.early.specs.Request.{freshSite}
 use Rattle.early_request.specs.Answers.{answersWords, grantedIn, isShort}
 use Rattle.order.specs.Claim.{afterList, Claim}
@@ -50,4 +51,4 @@ answersAfter file words ks answers =
 pub record Keeps (m : Model) (ks : List ℕ) (r : Replayed) : Type 0 where
   pub site : r .site ≡ afterList m ks .site
   pub threads : r .threads .at ≡ afterList m ks .threads
-  pub claim : Claim m (marksOf m) (wordsOf m) ks
+  pub claim : Claim m (marksOf m) (wordsOf m) (freshThreads m) ks
