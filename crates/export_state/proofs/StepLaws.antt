@@ -1,6 +1,6 @@
 -- The calls of a caller who keeps a state as numbers, one law for each exit.
 use Prim.Native.Nat.{ℕ, _≤_, _<_}
-use mathlib.Core.Path.{_≡_, refl, sym, _∙_}
+use mathlib.Core.Path.{_≡_, refl, ap, sym, _∙_}
 use mathlib.Core.Bool.{Bool, true, false, _&&_}
 use mathlib.Core.List.{List, []}
 use native.Mathlib.Omega.{arith}
@@ -10,6 +10,7 @@ use borrow.Author.Tests.{le-leb, lt-leb, eq-eqb, ne-eqb}
 use Rattle.base.specs.Index.{orElse}
 use Rattle.base.proofs.IndexLaws.{orElse-none, orElse-some}
 use Rattle.clock.specs.declared.Cycle.{Cycle}
+use Rattle.model.specs.declared.Thread.{Thread}
 use Rattle.model.specs.declared.Threads.{Threads}
 use Rattle.model.specs.Refusal.{unfit}
 use Rattle.model.specs.Rules.{unless}
@@ -30,8 +31,9 @@ use Rattle.early.specs.Request.{requestOf, freshSite}
 use Rattle.early_request.specs.declared.FreshState.{FreshState}
 use Rattle.early_request.specs.After.{afterOf}
 use Rattle.early_request.specs.Fresh.{freshOf}
+use Rattle.order.specs.Claim.{afterList}
 use Rattle.replay.specs.declared.Replayed.{Replayed}
-use Rattle.replay.specs.Replay.{replayedOf, wordsAfter, answersAfter}
+use Rattle.replay.specs.Replay.{replayedOf, wordsAfter, answersAfter, Keeps}
 use Rattle.export_state.specs.Numbers.{logWords, recordWords, siteFrom, threadsFrom, areHeld}
 use Rattle.export_state.specs.Step.{Kept, keeps, hasRoom, holding, freshNumber, freshKept, askedNumber, requestBy, requestNumber, keptBy, requestKept, requestAnswer, replayNumber, replayKept, replayWords, replayAnswers, Freshens, Requests, Replays}
 
@@ -165,7 +167,7 @@ module _ (file words ks answers : List ℕ) (b : Kept) (room : Bool) (p : room �
   unfolding replayWords replayAnswers
   replay-short e =
       let n = replayNumber-short e in
-      record { number = sym n; state = replayKept-refused 11 n (λ z. omega arith); tabled = rw (← p, e) refl; answered = rw (← p, e) refl }
+      record { number = sym n; state = replayKept-refused 11 n (λ z. omega arith); tabled = rw (← p, e) refl; answered = rw (← p, e) refl; listed = λ z. absurd (omega arith) }
 
   module _ (on : room ≡ true) (d : Replayed) (q : d ≡ replayedOf file words ks answers) (ts zs : List ℕ) (x : ts ≡ wordsAfter file words ks answers) (y : zs ≡ answersAfter file words ks answers) where
     pub replay-refused :
@@ -174,13 +176,21 @@ module _ (file words ks answers : List ℕ) (b : Kept) (room : Bool) (p : room �
     replay-refused h =
         let n : replayNumber file words ks answers b ≡ d .number = rw q (replayNumber-room on) in
         let w = replay-buffers ts zs on x y in
-        record { number = sym n; state = replayKept-refused (d .number) n h; tabled = w .0; answered = w .1 }
+        record { number = sym n; state = replayKept-refused (d .number) n h; tabled = w .0; answered = w .1; listed = λ z. absurd (h z) }
 
     pub replay-done :
-        d .number ≡ 0 → (kept : Kept) → kept ≡ holding (d .site) (d .threads) b →
+        d .number ≡ 0 → Keeps (readFile file .model) ks d → (kept : Kept) → kept ≡ holding (d .site) (d .threads) b →
         Replays file words ks answers b 0 kept ts zs
     unfolding replayKept
-    replay-done h kept k =
+    replay-done h list kept k =
         let n : replayNumber file words ks answers b ≡ 0 = replayNumber-room on ∙ (rw (← q) h) in
         let w = replay-buffers ts zs on x y in
-        record { number = sym n; state = rw (n, k, q) refl; tabled = w .0; answered = w .1 }
+        let m = readFile file .model in
+        let held : d .threads ≡ record { at = afterList m ks .threads } = ap (λ (us : List Thread). record { at = us }) (list .threads) in
+        record {
+          number = sym n;
+          state = rw (n, k, q) refl;
+          tabled = w .0;
+          answered = w .1;
+          listed = λ z. record { state = k ∙ rw (list .site, held) refl; claim = list .claim };
+        }

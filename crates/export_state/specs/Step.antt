@@ -6,10 +6,13 @@ use mathlib.Core.List.{List}
 use lib.Dec.{leb, eqb}
 use lib.ListN.{length}
 use Rattle.base.specs.Index.{orElse}
+use Rattle.model.specs.declared.Model.{Model}
 use Rattle.model.specs.declared.Threads.{Threads}
 use Rattle.model.specs.Refusal.{accepted, unfit}
 use Rattle.model.specs.Rules.{unless}
 use Rattle.reader.specs.File.{readFile}
+use Rattle.tables.specs.Conflict.{marksOf}
+use Rattle.tables.specs.Word.{wordsOf}
 use Rattle.tables.specs.Outcome.{conflictMarks}
 use Rattle.plain.specs.Start.{freshThreads}
 use Rattle.buffers.specs.Write.{placedIn}
@@ -18,6 +21,7 @@ use Rattle.early.specs.declared.Answer.{Answer}
 use Rattle.early.specs.declared.Answer.the-variants.{Granted, Refused}
 use Rattle.early.specs.Answer.{numberOf, valuesOf}
 use Rattle.early.specs.Request.{Requested, requestOf, freshSite}
+use Rattle.order.specs.Claim.{afterList, Claim}
 use Rattle.replay.specs.Replay.{replayedOf, wordsAfter, answersAfter}
 use Rattle.export_state.specs.Numbers.{logWords, recordWords, siteFrom, threadsFrom, areHeld}
 
@@ -102,9 +106,15 @@ pub record Requests (file words : List ℕ) (b : Kept) (k : ℕ) (answer : List 
   pub state : kept ≡ requestKept file words b k answer
   pub answered : written ≡ requestAnswer file words b k answer
 
--- a list of requests
+-- Demand 3, of a list that was made: the buffers hold the state and the records of the whole list, of which the claim speaks
+pub record HoldsList (m : Model) (ks : List ℕ) (b kept : Kept) : Type 0 where
+  pub state : kept ≡ holding (afterList m ks .site) (record { at = afterList m ks .threads }) b
+  pub claim : Claim m (marksOf m) (wordsOf m) (freshThreads m) ks
+
+-- a list of requests, of which the claim is said where it was made
 pub record Replays (file words ks answers : List ℕ) (b : Kept) (r : ℕ) (kept : Kept) (tables written : List ℕ) : Type 0 where
   pub number : r ≡ replayNumber file words ks answers b
   pub state : kept ≡ replayKept file words ks answers b
   pub tabled : tables ≡ replayWords file words ks answers b
   pub answered : written ≡ replayAnswers file words ks answers b
+  pub listed : r ≡ accepted → HoldsList (readFile file .model) ks b kept

@@ -69,7 +69,8 @@ returns-3 : tie.Need-returns-3
 returns-3 c =
     let d = c .before .before .before .before .before .before .before .before .before .before .before .before .before .before .before .before in
     let x = d .before .before .before .before .before .before .before .before .before .before .before .before .before .before .before .args in
-    replay-done (x .file .now) (x .words .now) (x .threads .now) (x .answers .now) (keeps (x .variables .now) (x .log .now) (x .records .now)) _ (d .before .before .before .before .has-room .ensures) (not-false _ (d .before .before .before .if1 .left)) _ (d .replay .ensures .0) _ _ (d .replay .ensures .1 .0) (d .replay .ensures .1 .1 .0) (c .before .before .before .before .before .before .before .before .before .before .if2 .left) _ (c .before .before .before .before .before .before .put-state .ensures)
+    let z = c .before .before .before .before .before .before .before .before .before .before .if2 .left in
+    replay-done (x .file .now) (x .words .now) (x .threads .now) (x .answers .now) (keeps (x .variables .now) (x .log .now) (x .records .now)) _ (d .before .before .before .before .has-room .ensures) (not-false _ (d .before .before .before .if1 .left)) _ (d .replay .ensures .0) _ _ (d .replay .ensures .1 .0) (d .replay .ensures .1 .1 .0) z (d .replay .ensures .1 .1 .1 z) _ (c .before .before .before .before .before .before .put-state .ensures)
 
 pub replay-into-spec : {M : Type 1} → statement M
 replay-into-spec =
