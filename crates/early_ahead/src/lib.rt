@@ -107,23 +107,13 @@ fn is_sooner_limit(b: u64, j: usize, c: u64, i: usize) -> bool
     b < c
 }
 
-// A word of the table; 0 past its end.
-fn word_at(words: &[u64], k: usize) -> u64
-    ensures { λ r. ⌜ r ≡ getD (now (words .entry)) k 0 ⌝ }
-{
-    if k < words.len() {
-        return words[k];
-    }
-    0
-}
-
 // The limit from segment r to segment s.
 fn way(words: &[u64], count: u8, r: usize, s: usize) -> u64
     requires { ⌜ (r ≤ 255) × (s ≤ 255) ⌝ }
     ensures { λ w. ⌜ w ≡ limitOfWord (getD (now (words .entry)) (r * count + s) 0) ⌝ }
 {
     let n = wide(count);
-    limit_of_word(word_at(words, r * n + s))
+    limit_of_word(buffers::word_at(words, r * n + s))
 }
 
 // All places never.

@@ -5,7 +5,6 @@
 --     effectOf-local     where the variables used agree, the effects are alike
 --     writesIn→usesIn     what is written is used
 --     effectIn-begins, effectOf-begins     what is notified is a beginning of what is listed, whatever the variables
---     has-append     an event of a list is one of a longer list
 use Prim.Native.Nat.{ℕ, _<_}
 use mathlib.Core.Path.{_≡_, refl, sym, _∙_}
 use mathlib.Core.Logic.{_⊎_, inl, inr}
@@ -191,15 +190,6 @@ module _ (g : Segment) (s : ℕ) (c : Cycle) where
         same-notified = refl;
         same-thread = closedAt-agree s (g .closer) c _ _ (λ i h. after .same i (testsOf→usesOf g i h));
       }
-
-pub has-append : (es fs : List ℕ) (e : ℕ) → T (has es e) → T (has (es ++ fs) e)
-unfolding has
-has-append [] fs e t = absurd t
-has-append (d ∷ es) fs e t = go (or→either (eqb d e) (has es e) t) (has-append es fs e)
-  where
-    go : T (eqb d e) ⊎ T (has es e) → (T (has es e) → T (has (es ++ fs) e)) → T (eqb d e || has (es ++ fs) e)
-    go (inl s) ih = either→or (eqb d e) (has (es ++ fs) e) (inl s)
-    go (inr s) ih = either→or (eqb d e) (has (es ++ fs) e) (inr (ih s))
 
 -- thread k in segment s of a model
 module _ (m : Model) (k s : ℕ) where

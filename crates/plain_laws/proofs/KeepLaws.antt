@@ -3,6 +3,7 @@
 --     modelFault-keeps     the record Keeps, from the rules
 use Prim.Native.Nat.{ℕ, _+_, _<_, _≤_}
 use mathlib.Core.Path.{_≡_, refl, ap, sym, _∙_}
+use mathlib.Core.Logic.{inl}
 use mathlib.Core.List.{List}
 use native.Mathlib.Omega.{arith}
 use lib.Dec.{T}
@@ -22,9 +23,9 @@ use Rattle.model.specs.Effect.{closedAt, effectOf}
 use Rattle.model.specs.Footprint.{has, notifiesIn}
 use Rattle.model.specs.Rules.{modelFault}
 use Rattle.model_effect.proofs.EffectLaws.{delayOf, closedAt-cycle}
-use Rattle.model_effect.proofs.FrameLaws.{has-append, effectOf-begins, effectOf-length}
+use Rattle.model_effect.proofs.FrameLaws.{effectOf-begins, effectOf-length}
 use Rattle.model_rules.proofs.RuleLaws.{closerFault-delay, closerFault-event, closedAt-segment, modelFault-horizon, modelFault-counts, segmentFor-closer, segmentFor-next, modelFault-first, modelFault-notifies}
-use Rattle.plain_laws.proofs.RecordLaws.{stateAfter-not-waits, stateAfter-delta, effectOf-thread}
+use Rattle.plain_laws.proofs.RecordLaws.{append-has, stateAfter-not-waits, stateAfter-delta, effectOf-thread}
 use Rattle.plain_laws.proofs.RangeLaws.{Keeps}
 
 closedAt-waits-on : (s : ℕ) (g : Closer) (c d : Cycle) (v : List ℕ) (e : ℕ) → viewOf (closedAt s g c v .state) ≡ view.waits e d → (x : Next) × (g ≡ Event e x)
@@ -56,7 +57,7 @@ module _ (m : Model) (k s : ℕ) (c : Cycle) (v : List ℕ) where
   unfolding notifiesIn
   effectOf-notifies e t =
       let (rest, p) = effectOf-begins m k s c v in
-      rw p (has-append (effectOf m k s c v .notified) rest e t)
+      rw p (append-has (effectOf m k s c v .notified) rest e (inl t))
 
 -- every model that keeps the file rules
 pub modelFault-keeps : (m : Model) → modelFault m ≡ 0 → Keeps m

@@ -37,6 +37,7 @@ use Rattle.model.specs.Record.{awaits, noThread, threadAt, cycleOf, stateAfter,
 use Rattle.model.specs.Values.{segmentFor}
 use Rattle.model.specs.Effect.{closedAt, effectIn, effectOf}
 use Rattle.model.specs.Footprint.{has}
+use Rattle.model_effect.proofs.FootprintLaws as events
 
 pub thread-path : {a b : Thread} → a .segment ≡ b .segment → a .state ≡ b .state → a ≡ b
 thread-path p q = λ i. record { segment = p i; state = q i }
@@ -188,28 +189,10 @@ module _ (m : Model) where
   before-readyCycle v c e t = rw e t
 
 pub has-append : (a b : List ℕ) (e : ℕ) → T (has (a ++ b) e) → T (has a e) ⊎ T (has b e)
-unfolding has
-has-append [] b e t = inr t
-has-append (x ∷ a) b e t = go (has-append a b e) (or→either (eqb x e) (has (a ++ b) e) t)
-  where
-    go : (T (has (a ++ b) e) → T (has a e) ⊎ T (has b e)) → T (eqb x e) ⊎ T (has (a ++ b) e) → T (eqb x e || has a e) ⊎ T (has b e)
-    go ih (inl s) = inl (either→or (eqb x e) (has a e) (inl s))
-    go ih (inr s) = pass (ih s)
-      where
-        pass : T (has a e) ⊎ T (has b e) → T (eqb x e || has a e) ⊎ T (has b e)
-        pass (inl u) = inl (either→or (eqb x e) (has a e) (inr u))
-        pass (inr u) = inr u
+has-append a b e t = or→either (has a e) (has b e) (subst T (events.has-append a b e) t)
 
 pub append-has : (a b : List ℕ) (e : ℕ) → T (has a e) ⊎ T (has b e) → T (has (a ++ b) e)
-unfolding has
-append-has [] b e (inl t) = absurd t
-append-has [] b e (inr t) = t
-append-has (x ∷ a) b e (inl t) = go (append-has a b e) (or→either (eqb x e) (has a e) t)
-  where
-    go : (T (has a e) ⊎ T (has b e) → T (has (a ++ b) e)) → T (eqb x e) ⊎ T (has a e) → T (eqb x e || has (a ++ b) e)
-    go ih (inl s) = either→or (eqb x e) (has (a ++ b) e) (inl s)
-    go ih (inr s) = either→or (eqb x e) (has (a ++ b) e) (inr (ih (inl s)))
-append-has (x ∷ a) b e (inr t) = either→or (eqb x e) (has (a ++ b) e) (inr (append-has a b e (inr t)))
+append-has a b e h = subst T (sym (events.has-append a b e)) (either→or (has a e) (has b e) h)
 
 pub has-none : (e : ℕ) → T (has [] e) → ⊥
 unfolding has

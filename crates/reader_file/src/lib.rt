@@ -25,18 +25,6 @@ struct Counts {
     bound: u32,
 }
 
-fn wide(x: u8) -> u32
-    ensures { λ r. ⌜ (r ≡ x) × (r < 256) ⌝ }
-{
-    x as u32
-}
-
-fn place(x: u8) -> usize
-    ensures { λ r. ⌜ r ≡ x ⌝ }
-{
-    x as usize
-}
-
 fn size_of(x: u32) -> usize
     ensures { λ r. ⌜ r ≡ x ⌝ }
 {
@@ -206,7 +194,7 @@ fn counts_after(kind: u32, c: Counts, r: &[u8]) -> Counts
             e: c.e,
             n: c.n,
             t: c.t + 1,
-            bound: most_of(c.bound, wide(r[4]) + 1),
+            bound: most_of(c.bound, reader_segment::wide(r[4]) + 1),
         },
         _ => c,
     }
@@ -217,7 +205,7 @@ fn end_fault(left: usize, c: Counts) -> u8
     ensures { λ r. ⌜ r ≡ endFault left c ⌝ }
 {
     let extra = model_rules::unless(left == 0, 9);
-    let target = model_rules::unless(c.bound <= wide(c.n), 8);
+    let target = model_rules::unless(c.bound <= reader_segment::wide(c.n), 8);
     if extra != 0 {
         return extra;
     }
@@ -285,11 +273,11 @@ fn model_from(bytes: &[u8]) -> Model
         let kind = reader_segment::word_at(b, 2);
         let r = &b[..size];
         if kind == 2 {
-            let i = place(n);
+            let i = buffers::wide(n);
             segments[i] = reader_segment::segment_from(r);
             n = n + 1;
         } else {
-            let k = place(t);
+            let k = buffers::wide(t);
             starts[k] = Start { first: r[4] };
             t = t + 1;
         }

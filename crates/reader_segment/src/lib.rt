@@ -17,7 +17,8 @@ ghost use Rattle.reader_segment.specs.Parts.{decodedFrom, statementsByte
 // A statement's 6, or 0, and its operation.
 struct Decoded(u8, Op);
 
-fn wide(x: u8) -> u32
+// A byte as a longer word.
+pub fn wide(x: u8) -> u32
     ensures { λ r. ⌜ (r ≡ x) × (r < 256) ⌝ }
 {
     x as u32

@@ -127,29 +127,29 @@ word-at-requires-2 c κs = search needs
 slice-aggregate-r : tie.Need-slice-aggregate-r Inv-loop μ-loop
 slice-aggregate-r c = sym (opened-length (opened (c .before)))
 
-place-requires : tie.Need-place-requires Inv-loop μ-loop
-place-requires c κs = search needs
+wide-requires : tie.Need-wide-requires Inv-loop μ-loop
+wide-requires c κs = search needs
 
 segment-from-requires : tie.Need-segment-from-requires Inv-loop μ-loop
 segment-from-requires c κs = search needs
 
 mul-segments : tie.Need-mul-segments Inv-loop μ-loop
-mul-segments c = omega (arith, c .before .place .ensures, segments-left (c .before .before .before .before) (c .before .before .if1 .taken))
+mul-segments c = omega (arith, c .before .wide .ensures, segments-left (c .before .before .before .before) (c .before .before .if1 .taken))
 
 array-set-from-segments : tie.Need-array-set-from-segments Inv-loop μ-loop
-array-set-from-segments c = omega (arith, c .before .place .ensures, segments-left (c .before .before .before .before) (c .before .before .if1 .taken))
+array-set-from-segments c = omega (arith, c .before .wide .ensures, segments-left (c .before .before .before .before) (c .before .before .if1 .taken))
 
 add-n : tie.Need-add-n Inv-loop μ-loop
 add-n c = omega (arith, segments-left (c .before .before .before .before) (c .before .before .if1 .taken))
 
-place-requires-2 : tie.Need-place-requires-2 Inv-loop μ-loop
-place-requires-2 c κs = search needs
+wide-requires-2 : tie.Need-wide-requires-2 Inv-loop μ-loop
+wide-requires-2 c κs = search needs
 
 shared-slice-read-t35 : tie.Need-shared-slice-read-t35 Inv-loop μ-loop
 shared-slice-read-t35 c = omega (arith, opened-thread (opened (c .before .before .before .before)) (thread (c .before .before)))
 
 array-set-from-starts : tie.Need-array-set-from-starts Inv-loop μ-loop
-array-set-from-starts c = omega (arith, c .before .place2 .ensures, threads-left (c .before .before .before .before) (thread (c .before .before)))
+array-set-from-starts c = omega (arith, c .before .wide2 .ensures, threads-left (c .before .before .before .before) (thread (c .before .before)))
 
 add-t : tie.Need-add-t Inv-loop μ-loop
 add-t c = omega (arith, threads-left (c .before .before .before .before) (thread (c .before .before)))
@@ -186,12 +186,12 @@ model-from-spec =
     size-of-requires
     word-at-requires-2
     slice-aggregate-r
-    place-requires
+    wide-requires
     segment-from-requires
     mul-segments
     array-set-from-segments
     add-n
-    place-requires-2
+    wide-requires-2
     shared-slice-read-t35
     array-set-from-starts
     add-t
