@@ -3,15 +3,15 @@
 --     Agree     two lists of records, at least T each, that agree on the first T
 --     SameFrom     words of two tables that say the same distances from where the threads stand
 --     earliestOf-same, forecastOf-same, hazard-same, floorOf-same, heardNow-same, effectAt-same, logAfter-same, isUnfitThreads-same
-use Prim.Native.Nat.{ℕ, zero, suc, _+_, _<_, _≤_}
+use Prim.Native.Nat.{ℕ, zero, suc, _<_, _≤_}
 use mathlib.Core.Path.{_≡_, refl, ap, ap₂, _∙_}
 use mathlib.Core.Bool.{Bool, cond, not, _&&_}
-use mathlib.Core.List.{List, _∷_}
+use mathlib.Core.List.{List}
 use native.Mathlib.Omega.{arith}
 use lib.Dec.{eqb}
 use lib.ListN.{length, getD}
 use borrow.Author.Tests.{le-ltb}
-use Rattle.base.specs.Index.{tabulate}
+use Rattle.base.proofs.IndexLaws.{anyBelow-same, tabulate-same}
 use Rattle.clock.specs.declared.Cycle.{Cycle}
 use Rattle.clock.specs.declared.Bound.{Bound}
 use Rattle.clock.specs.declared.Bound.the-variants.{Never}
@@ -33,13 +33,6 @@ use Rattle.early.specs.Hazard.{threadsConflict, isSooner, threatens, hazard}
 use Rattle.early.specs.Deliver.{forecastSooner, heardBy, heardNow}
 use Rattle.early.specs.Fit.{isFitThread, isUnfitThreads}
 use Rattle.early.specs.Grant.{effectAt, logAfter}
-use Rattle.base.proofs.IndexLaws.{anyBelow-same}
-
--- lists filled by functions that agree
-tabulate-same : {A : Type 0} (n i : ℕ) (f g : ℕ → A) → ((j : ℕ) → j < i + n → f j ≡ g j) → tabulate n i f ≡ tabulate n i g
-unfolding tabulate
-tabulate-same zero i f g h = refl
-tabulate-same (suc n) i f g h = ap₂ _∷_ (h i (omega arith)) (tabulate-same n (i + 1) f g (λ j l. h j (omega arith)))
 
 -- the first T records of two lists
 pub record Agree (m : Model) (ts us : List Thread) : Type 0 where

@@ -1,6 +1,6 @@
 -- What document 01 leaves free of a request, and what holds of it: which marks are read, what lies past the counts, equal pairs that are handed in. That threads are
 -- looked at in any order is `settled-any` of AnyOrderLaws.
-use Prim.Native.Nat.{ℕ, _<_, _≤_}
+use Prim.Native.Nat.{ℕ, _<_}
 use mathlib.Core.Path.{_≡_, refl, ap, sym, fun-ext, _∙_}
 use mathlib.Core.Bool.{Bool, true, false, cond, not, _&&_, _||_}
 use mathlib.Core.List.{List, [], _∷_, _++_, append-assoc, append-nil}
@@ -14,7 +14,7 @@ use Rattle.base.specs.Index.{anyBelow}
 use Rattle.base.proofs.IndexLaws.{anyBelow-same}
 use Rattle.clock.specs.declared.Cycle.{Cycle}
 use Rattle.clock.specs.declared.Bound.{Bound}
-use Rattle.clock.specs.declared.Bound.the-variants.{Never, At}
+use Rattle.clock.specs.declared.Bound.the-variants.{Never}
 use Rattle.clock.specs.Cycle.{cycleAt, stampAt}
 use Rattle.clock.specs.Advance.{_⊕_}
 use Rattle.model.specs.declared.Model.{Model}
@@ -31,7 +31,7 @@ use Rattle.early.specs.Log.{places, pairOf, logOf, holds, withPair, withPairs, 
 use Rattle.early.specs.Earliest.{earliestOf}
 use Rattle.early.specs.Hazard.{threadsConflict, isSooner, threatens, hazard}
 use Rattle.early.specs.Fit.{isFitPair, isUnfitThreads, isUnfitLog, isUnfitWords, isUnfit, isUnfitState}
-use Rattle.early.specs.Grant.{effectAt, logAfter, closedThreads, threadsAfter, siteAfter}
+use Rattle.early.specs.Grant.{effectAt, logAfter, threadsAfter, siteAfter}
 use Rattle.early.specs.Answer.{numberOf}
 use Rattle.early.specs.Request.{numberIn, Requested, refusedWith, grantedTo, answeredBy, requestFit, requestOf}
 use Rattle.early_laws.proofs.LogLaws.{logOf-siteOf}

@@ -1,5 +1,6 @@
 -- Demand 3, of every model that keeps the file rules, with marks that hold the needed ones and words that begin with its
--- distances, on records of which the first T are fresh: the plain run's facts and the kit's laws hold of it, and the argument applies. So of every accepted file.
+-- distances, on records of which the first T are fresh: the plain run's facts and the kit's laws hold of it, and the argument
+-- applies. So of every accepted file.
 -- Assumes nothing.
 use Prim.Native.Nat.{ℕ, _*_}
 use mathlib.Core.Path.{_≡_, refl, ap, sym, _∙_}
