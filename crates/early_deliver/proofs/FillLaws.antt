@@ -1,7 +1,6 @@
 -- Arrays of 32 places that a loop fills from the front, one store a turn.
 --     fill-none, fill-more     the places below k are filled, the rest is as it was
 --     fill-all     the filled places, and then the rest
---     tabulate-same     two fillings that agree below a count
 use Prim.Native.Nat.{ℕ, zero, suc, _+_, _<_, _≤_, _-_}
 use mathlib.Core.Path.{_≡_, refl, ap, ap₂, sym, _∙_}
 use mathlib.Core.Bool.{cond}
