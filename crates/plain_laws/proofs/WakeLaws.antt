@@ -1,6 +1,6 @@
 -- The end of a cycle: who hears and who sleeps on, the floor, and whether some thread is ready before the horizon.
 --     Wakes, wakes     a state at a cycle's end: it hears, or is left as it is
---     woken-at, woken-length, woken-none, woken-ready     the records after the wakes
+--     woken-at, woken-length, woken-none     the records after the wakes
 --     floorOf-≼, floorOf-attained     the floor is the least ready cycle, and some thread's
 --     someReady-some, someReady-found     whether some thread is ready before the horizon
 use Prim.Native.Nat.{ℕ, _<_}

@@ -1,5 +1,5 @@
 -- The loop of `cycles`: its locals are a place of the plain run, from which the rest of the run is still to come.
---     countOf-room, countOf-later     steps are counted by cycle and turn; there are never more than the last step
+--     countOf     steps are counted by cycle and turn; there are never more than the last step
 --     Stands, stands-step     the run from a place, with enough steps left, is the whole run
 --     Loop     the locals stand for a place, the marks for the events notified
 --     loop-start, loop-passed, loop-ran, loop-begun     before the loop, and after each turn
