@@ -14,31 +14,13 @@ Inv-loop out₀ at word to₀ i₀ out to i = (i ≤ length word) × Puts out₀
 abbrev μ-loop : tie.MeasureT-loop
 μ-loop out₀ at word to₀ i₀ out to i = length word - i
 
-least-requires : tie.Need-least-requires Inv-loop μ-loop
-least-requires c κs = search needs
-
 loop-holds : tie.Need-loop-holds Inv-loop μ-loop
 loop-holds c = (omega arith, puts-none _ _ _ (c .least .ensures))
-
-shared-slice-read-put-byte : tie.Need-shared-slice-read-put-byte Inv-loop μ-loop
-shared-slice-read-put-byte c = omega arith
-
-put-byte-requires : tie.Need-put-byte-requires Inv-loop μ-loop
-put-byte-requires c κs = omega arith
-
-add-i : tie.Need-add-i Inv-loop μ-loop
-add-i c = omega arith
-
-loop-less : tie.Need-loop-less Inv-loop μ-loop
-loop-less c = omega arith
 
 loop-again : tie.Need-loop-again Inv-loop μ-loop
 loop-again c =
     let l = c .before .before .before .before .before .before in
     (omega arith, puts-more (l .before .before .before .before .args .word .now) (l .loop .i) (omega arith) (l .loop .inv .1) (c .before .before .put-byte .ensures))
-
-same-length : tie.Need-same-length Inv-loop μ-loop
-same-length c = search needs
 
 returns : tie.Need-returns Inv-loop μ-loop
 returns c = puts-all (c .before .before .before .before .before .args .word .now) (c .before .loop .i) (omega arith) (c .before .loop .inv .1)
@@ -46,15 +28,5 @@ returns c = puts-all (c .before .before .before .before .before .args .word .now
 pub put-word-spec : {M : Type 1} → statement M
 put-word-spec =
     tie.close
-    (tie.spec
-    Inv-loop
-    μ-loop
-    least-requires
-    loop-holds
-    shared-slice-read-put-byte
-    put-byte-requires
-    add-i
-    loop-less
-    loop-again
-    same-length
-    returns)
+    (tie.spec Inv-loop μ-loop (λ c κs. search needs) loop-holds (λ c. omega arith) (λ c κs. omega arith)
+    (λ c. omega arith) (λ c. omega arith) loop-again (λ c. search needs) returns)

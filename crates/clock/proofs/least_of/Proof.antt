@@ -5,9 +5,6 @@ use Rattle.clock.proofs.LeastLaws.{least-before, least-other}
 use Rattle.clock.proofs.least_of.Statement.{statement}
 use Rattle.clock.proofs.least_of.Tie as tie
 
-is-bound-before-requires : tie.Need-is-bound-before-requires
-is-bound-before-requires c κs = search needs
-
 returns : tie.Need-returns
 returns c = least-before _ _ (sym (c .before .is-bound-before .ensures) ∙ c .if1 .taken)
 
@@ -15,4 +12,4 @@ returns-2 : tie.Need-returns-2
 returns-2 c = least-other _ _ (sym (c .before .is-bound-before .ensures) ∙ c .if1 .left)
 
 pub least-of-spec : {M : Type 1} → statement M
-least-of-spec = tie.close (tie.spec is-bound-before-requires returns returns-2)
+least-of-spec = tie.close (tie.spec (λ c κs. search needs) returns returns-2)

@@ -5,9 +5,6 @@ use Rattle.clock.proofs.WaitLaws.{event-ready, event-overrun}
 use Rattle.clock.proofs.next_delta.Statement.{statement}
 use Rattle.clock.proofs.next_delta.Tie as tie
 
-add-t4 : tie.Need-add-t4
-add-t4 c = search needs
-
 -- below 1,023
 returns : tie.Need-returns
 returns c = event-ready _ (omega arith)
@@ -17,4 +14,4 @@ returns-2 : tie.Need-returns-2
 returns-2 c = event-overrun _ (omega arith)
 
 pub next-delta-spec : {M : Type 1} → statement M
-next-delta-spec = tie.close (tie.spec add-t4 returns returns-2)
+next-delta-spec = tie.close (tie.spec (λ c. search needs) returns returns-2)

@@ -9,15 +9,6 @@ use Rattle.clock.proofs.wait_ends.Tie as tie
 enum-told : tie.Need-enum-told
 enum-told c = search needs
 
-next-delta-requires : tie.Need-next-delta-requires
-next-delta-requires c κs = search needs
-
-enum-known-w : tie.Need-enum-known-w
-enum-known-w c = search needs
-
-after-units-requires : tie.Need-after-units-requires
-after-units-requires c κs = search needs
-
 -- an event
 returns : tie.Need-returns
 returns c = rw (c .before .enum-told .given .1) (c .next-delta .ensures ∙ heldStep-event _ (omega arith))
@@ -29,4 +20,4 @@ returns-2 c = rw (c .before .before .w .given .1) (c .after-units .ensures)
 pub wait-ends-spec : {M : Type 1} → statement M
 wait-ends-spec =
     tie.close
-    (tie.spec enum-told next-delta-requires enum-known-w after-units-requires returns returns-2)
+    (tie.spec enum-told (λ c κs. search needs) (λ c. search needs) (λ c κs. search needs) returns returns-2)

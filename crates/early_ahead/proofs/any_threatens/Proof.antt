@@ -20,23 +20,8 @@ Inv-loop row words n t i c crew xs k j₀ j = (j ≤ k) × (anyBelow j (threatAt
 abbrev μ-loop : tie.MeasureT-loop
 μ-loop row words n t i c crew xs k j₀ j = k - j
 
-at-most-requires : tie.Need-at-most-requires Inv-loop μ-loop
-at-most-requires c κs = search needs
-
 loop-holds : tie.Need-loop-holds Inv-loop μ-loop
 loop-holds c = (omega arith, anyBelow-start _)
-
-element-copy-out-segment : tie.Need-element-copy-out-segment Inv-loop μ-loop
-element-copy-out-segment c = search needs
-
-mul-b : tie.Need-mul-b Inv-loop μ-loop
-mul-b c = search needs
-
-element-copy-out-b : tie.Need-element-copy-out-b Inv-loop μ-loop
-element-copy-out-b c = search needs
-
-threatens-requires : tie.Need-threatens-requires Inv-loop μ-loop
-threatens-requires c κs = search needs
 
 returns : tie.Need-returns Inv-loop μ-loop
 returns c =
@@ -45,12 +30,6 @@ returns c =
     let size = limits-length (x .t6) _ (c .before .before .before .before .before .before .before .before .before .good .1 .1 .1 .1 .1 .0) in
     let e = threatAt-other (x .row) (x .words .now) (x .n) (x .t5 .segments) (x .t6 .at) (x .i) (x .c) j _ (λ e. omega arith) (omega arith) (c .before .threatens .ensures) in
     sym (anyBelow-here _ _ j (omega arith) (e ∙ c .if2 .taken))
-
-add-j : tie.Need-add-j Inv-loop μ-loop
-add-j c = search needs
-
-loop-less : tie.Need-loop-less Inv-loop μ-loop
-loop-less c = search needs
 
 loop-again : tie.Need-loop-again Inv-loop μ-loop
 loop-again c =
@@ -70,17 +49,5 @@ returns-2 c = let e : c .before .loop .j ≡ atMost 32 (c .before .before .befor
 pub any-threatens-spec : {M : Type 1} → statement M
 any-threatens-spec =
     tie.close
-    (tie.spec
-    Inv-loop
-    μ-loop
-    at-most-requires
-    loop-holds
-    element-copy-out-segment
-    mul-b
-    element-copy-out-b
-    threatens-requires
-    returns
-    add-j
-    loop-less
-    loop-again
-    returns-2)
+    (tie.spec Inv-loop μ-loop (λ c κs. search needs) loop-holds (λ c. search needs) (λ c. search needs)
+    (λ c. search needs) (λ c κs. search needs) returns (λ c. search needs) (λ c. search needs) loop-again returns-2)

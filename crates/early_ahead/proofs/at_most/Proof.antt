@@ -6,12 +6,6 @@ use Rattle.early_ahead.proofs.LimitLaws.{atMost-less, atMost-full}
 use Rattle.early_ahead.proofs.at_most.Statement.{statement}
 use Rattle.early_ahead.proofs.at_most.Tie as tie
 
-wide-requires : tie.Need-wide-requires
-wide-requires c κs = search needs
-
-wide-requires-2 : tie.Need-wide-requires-2
-wide-requires-2 c κs = search needs
-
 returns : tie.Need-returns
 returns c = (c .wide2 .ensures .0 ∙ atMost-less _ _ (omega arith), omega arith)
 
@@ -19,4 +13,4 @@ returns-2 : tie.Need-returns-2
 returns-2 c = (atMost-full _ _ (omega arith), omega arith)
 
 pub at-most-spec : {M : Type 1} → statement M
-at-most-spec = tie.close (tie.spec wide-requires wide-requires-2 returns returns-2)
+at-most-spec = tie.close (tie.spec (λ c κs. search needs) (λ c κs. search needs) returns returns-2)

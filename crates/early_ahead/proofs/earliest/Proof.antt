@@ -17,20 +17,8 @@ abbrev μ-loop : tie.MeasureT-loop
 loop-holds : tie.Need-loop-holds Inv-loop μ-loop
 loop-holds c = (omega arith, afterRounds-none _ _ _ _ _)
 
-relaxed-limits-requires : tie.Need-relaxed-limits-requires Inv-loop μ-loop
-relaxed-limits-requires c κs = search needs
-
-is-same-requires : tie.Need-is-same-requires Inv-loop μ-loop
-is-same-requires c κs = search needs
-
 returns : tie.Need-returns Inv-loop μ-loop
 returns c = earliestLimits-done _ _ _ _ _ (c .before .before .before .before .loop .n) _ _ (omega arith) (c .before .before .before .before .loop .inv .1) (c .before .before .relaxed-limits .ensures) (c .before .is-same .ensures (c .if1 .taken))
-
-add-n : tie.Need-add-n Inv-loop μ-loop
-add-n c = search needs
-
-loop-less : tie.Need-loop-less Inv-loop μ-loop
-loop-less c = search needs
 
 loop-again : tie.Need-loop-again Inv-loop μ-loop
 loop-again c = (omega arith, afterRounds-more _ _ _ _ _ (c .before .before .before .before .loop .n) _ _ (c .before .before .before .before .loop .inv .1) (c .before .before .relaxed-limits .ensures))
@@ -41,14 +29,5 @@ returns-2 c = earliestLimits-all _ _ _ _ _ (c .before .loop .n) _ (omega arith) 
 pub earliest-spec : {M : Type 1} → statement M
 earliest-spec =
     tie.close
-    (tie.spec
-    Inv-loop
-    μ-loop
-    loop-holds
-    relaxed-limits-requires
-    is-same-requires
-    returns
-    add-n
-    loop-less
-    loop-again
-    returns-2)
+    (tie.spec Inv-loop μ-loop loop-holds (λ c κs. search needs) (λ c κs. search needs) returns (λ c. search needs)
+    (λ c. search needs) loop-again returns-2)

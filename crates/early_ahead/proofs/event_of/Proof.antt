@@ -4,27 +4,6 @@ use Rattle.early_ahead.specs.Store.{eventOf}
 use Rattle.early_ahead.proofs.event_of.Statement.{statement}
 use Rattle.early_ahead.proofs.event_of.Tie as tie
 
-enum-told : tie.Need-enum-told
-enum-told c = search needs
-
-enum-told-2 : tie.Need-enum-told-2
-enum-told-2 c = search needs
-
-enum-told-3 : tie.Need-enum-told-3
-enum-told-3 c = search needs
-
-enum-told-4 : tie.Need-enum-told-4
-enum-told-4 c = search needs
-
-enum-told-5 : tie.Need-enum-told-5
-enum-told-5 c = search needs
-
-enum-known-op : tie.Need-enum-known-op
-enum-known-op c = search needs
-
-wide-requires : tie.Need-wide-requires
-wide-requires c κs = search needs
-
 returns : tie.Need-returns
 unfolding eventOf
 returns c = search needs
@@ -52,17 +31,5 @@ returns-6 c = rw (c .before .before .op .given .1) (c .wide .ensures .0)
 pub event-of-spec : {M : Type 1} → statement M
 event-of-spec =
     tie.close
-    (tie.spec
-    enum-told
-    enum-told-2
-    enum-told-3
-    enum-told-4
-    enum-told-5
-    enum-known-op
-    wide-requires
-    returns
-    returns-2
-    returns-3
-    returns-4
-    returns-5
-    returns-6)
+    (tie.spec (λ c. search needs) (λ c. search needs) (λ c. search needs) (λ c. search needs) (λ c. search needs)
+    (λ c. search needs) (λ c κs. search needs) returns returns-2 returns-3 returns-4 returns-5 returns-6)

@@ -20,29 +20,8 @@ abbrev μ-loop : tie.MeasureT-loop
 returns : tie.Need-returns Inv-loop μ-loop
 returns c = reachIn-short _ _ _ (c .if1 .taken)
 
-clear-requires : tie.Need-clear-requires Inv-loop μ-loop
-clear-requires c κs = search needs
-
-at-most-requires : tie.Need-at-most-requires Inv-loop μ-loop
-at-most-requires c κs = search needs
-
 loop-holds : tie.Need-loop-holds Inv-loop μ-loop
 loop-holds c = (omega arith, omega arith, reached-none _ _ _ (cleared-all _ _ (c .before .before .before .clear .ensures)))
-
-mul-g : tie.Need-mul-g Inv-loop μ-loop
-mul-g c = search needs
-
-element-copy-out-g : tie.Need-element-copy-out-g Inv-loop μ-loop
-element-copy-out-g c = search needs
-
-lower-columns-requires : tie.Need-lower-columns-requires Inv-loop μ-loop
-lower-columns-requires c κs = search needs
-
-add-s : tie.Need-add-s Inv-loop μ-loop
-add-s c = search needs
-
-loop-less : tie.Need-loop-less Inv-loop μ-loop
-loop-less c = search needs
 
 loop-again : tie.Need-loop-again Inv-loop μ-loop
 loop-again c =
@@ -63,18 +42,5 @@ returns-2 c =
 pub fill-reach-spec : {M : Type 1} → statement M
 fill-reach-spec =
     tie.close
-    (tie.spec
-    Inv-loop
-    μ-loop
-    returns
-    clear-requires
-    at-most-requires
-    loop-holds
-    mul-g
-    element-copy-out-g
-    lower-columns-requires
-    add-s
-    loop-less
-    loop-again
-    same-length
-    returns-2)
+    (tie.spec Inv-loop μ-loop returns (λ c κs. search needs) (λ c κs. search needs) loop-holds (λ c. search needs)
+    (λ c. search needs) (λ c κs. search needs) (λ c. search needs) (λ c. search needs) loop-again same-length returns-2)

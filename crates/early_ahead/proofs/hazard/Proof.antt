@@ -5,26 +5,8 @@ use Rattle.early_ahead.proofs.AheadLaws.{hazardAt-past, hazardAt-row}
 use Rattle.early_ahead.proofs.hazard.Statement.{statement}
 use Rattle.early_ahead.proofs.hazard.Tie as tie
 
-wide-requires : tie.Need-wide-requires
-wide-requires c κs = search needs
-
-segment-of-requires : tie.Need-segment-of-requires
-segment-of-requires c κs = search needs
-
 returns : tie.Need-returns
 returns c = hazardAt-past _ _ _ _ _ _ _ _ _ (good-length (eArr eBool 64) 64 (c .before .before .before .before .args .t1) _ (c .before .before .before .before .good .0)) (c .before .before .wide .ensures .0) (c .before .segment-of .ensures) (c .if1 .taken)
-
-mul-row : tie.Need-mul-row
-mul-row c = search needs
-
-array-copy-out-row : tie.Need-array-copy-out-row
-array-copy-out-row c = search needs
-
-limit-of-requires : tie.Need-limit-of-requires
-limit-of-requires c κs = search needs
-
-any-threatens-requires : tie.Need-any-threatens-requires
-any-threatens-requires c κs = search needs
 
 returns-2 : tie.Need-returns-2
 returns-2 c = hazardAt-row _ _ _ _ _ _ _ _ _ _ _ (c .before .before .before .before .before .before .wide .ensures .0) (c .before .before .before .before .before .segment-of .ensures) (c .before .limit-of .ensures) (c .any-threatens .ensures)
@@ -32,12 +14,5 @@ returns-2 c = hazardAt-row _ _ _ _ _ _ _ _ _ _ _ (c .before .before .before .bef
 pub hazard-spec : {M : Type 1} → statement M
 hazard-spec =
     tie.close
-    (tie.spec
-    wide-requires
-    segment-of-requires
-    returns
-    mul-row
-    array-copy-out-row
-    limit-of-requires
-    any-threatens-requires
-    returns-2)
+    (tie.spec (λ c κs. search needs) (λ c κs. search needs) returns (λ c. search needs) (λ c. search needs)
+    (λ c κs. search needs) (λ c κs. search needs) returns-2)

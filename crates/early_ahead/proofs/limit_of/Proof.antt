@@ -8,17 +8,8 @@ use Rattle.early_ahead.proofs.limit_of.Tie as tie
 returns : tie.Need-returns
 returns c = limitOfCycle-never _ (omega arith)
 
-mul-result : tie.Need-mul-result
-mul-result c = search needs
-
-delta-word-requires : tie.Need-delta-word-requires
-delta-word-requires c κs = search needs
-
-add-result : tie.Need-add-result
-add-result c = search needs
-
 returns-2 : tie.Need-returns-2
 returns-2 c = limitOfCycle-at _ _ (omega arith) (c .delta-word .ensures)
 
 pub limit-of-spec : {M : Type 1} → statement M
-limit-of-spec = tie.close (tie.spec returns mul-result delta-word-requires add-result returns-2)
+limit-of-spec = tie.close (tie.spec returns (λ c. search needs) (λ c κs. search needs) (λ c. search needs) returns-2)

@@ -8,14 +8,8 @@ use Rattle.early_ahead.proofs.limit_of_word.Tie as tie
 returns : tie.Need-returns
 returns c = limitOfWord-never _ (omega arith)
 
-mul-result : tie.Need-mul-result
-mul-result c = search needs
-
-add-result : tie.Need-add-result
-add-result c = search needs
-
 returns-2 : tie.Need-returns-2
 returns-2 c = limitOfWord-at _ (omega arith)
 
 pub limit-of-word-spec : {M : Type 1} → statement M
-limit-of-word-spec = tie.close (tie.spec returns mul-result add-result returns-2)
+limit-of-word-spec = tie.close (tie.spec returns (λ c. search needs) (λ c. search needs) returns-2)

@@ -15,41 +15,8 @@ Inv-loop words reach₀ count s e rows r₀ reach r = (r ≤ rows) × Places (co
 abbrev μ-loop : tie.MeasureT-loop
 μ-loop words reach₀ count s e rows r₀ reach r = rows - r
 
-at-most-requires : tie.Need-at-most-requires Inv-loop μ-loop
-at-most-requires c κs = search needs
-
 loop-holds : tie.Need-loop-holds Inv-loop μ-loop
 loop-holds c = (omega arith, columnLowered-none _ _ _ _ _)
-
-mul-p : tie.Need-mul-p Inv-loop μ-loop
-mul-p c = search needs
-
-add-p : tie.Need-add-p Inv-loop μ-loop
-add-p c = search needs
-
-mul-lesser-of : tie.Need-mul-lesser-of Inv-loop μ-loop
-mul-lesser-of c = search needs
-
-slice-read-lesser-of : tie.Need-slice-read-lesser-of Inv-loop μ-loop
-slice-read-lesser-of c = search needs
-
-way-requires : tie.Need-way-requires Inv-loop μ-loop
-way-requires c κs = search needs
-
-lesser-of-requires : tie.Need-lesser-of-requires Inv-loop μ-loop
-lesser-of-requires c κs = search needs
-
-mul-reach : tie.Need-mul-reach Inv-loop μ-loop
-mul-reach c = search needs
-
-slice-write-reach : tie.Need-slice-write-reach Inv-loop μ-loop
-slice-write-reach c = search needs
-
-add-r : tie.Need-add-r Inv-loop μ-loop
-add-r c = search needs
-
-loop-less : tie.Need-loop-less Inv-loop μ-loop
-loop-less c = search needs
 
 loop-again : tie.Need-loop-again Inv-loop μ-loop
 loop-again c =
@@ -66,21 +33,6 @@ returns c = let e : c .before .loop .r ≡ atMost 64 (c .before .before .before 
 pub lower-column-spec : {M : Type 1} → statement M
 lower-column-spec =
     tie.close
-    (tie.spec
-    Inv-loop
-    μ-loop
-    at-most-requires
-    loop-holds
-    mul-p
-    add-p
-    mul-lesser-of
-    slice-read-lesser-of
-    way-requires
-    lesser-of-requires
-    mul-reach
-    slice-write-reach
-    add-r
-    loop-less
-    loop-again
-    same-length
-    returns)
+    (tie.spec Inv-loop μ-loop (λ c κs. search needs) loop-holds (λ c. search needs) (λ c. search needs)
+    (λ c. search needs) (λ c. search needs) (λ c κs. search needs) (λ c κs. search needs) (λ c. search needs)
+    (λ c. search needs) (λ c. search needs) (λ c. search needs) loop-again same-length returns)

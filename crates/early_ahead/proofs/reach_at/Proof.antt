@@ -9,24 +9,6 @@ use Rattle.tables.specs.Word.{allOnes}
 use Rattle.early_ahead.proofs.reach_at.Statement.{statement}
 use Rattle.early_ahead.proofs.reach_at.Tie as tie
 
-wide-requires : tie.Need-wide-requires
-wide-requires c κs = search needs
-
-mul-k : tie.Need-mul-k
-mul-k c = search needs
-
-wide-requires-2 : tie.Need-wide-requires-2
-wide-requires-2 c κs = search needs
-
-add-k : tie.Need-add-k
-add-k c = search needs
-
-mul-result : tie.Need-mul-result
-mul-result c = search needs
-
-shared-slice-read-result : tie.Need-shared-slice-read-result
-shared-slice-read-result c = search needs
-
 returns : tie.Need-returns
 returns c =
     let x = c .before .before .before .before .before .args in
@@ -39,12 +21,5 @@ returns-2 c = let x = c .before .before .before .before .args in sym (List·getD
 pub reach-at-spec : {M : Type 1} → statement M
 reach-at-spec =
     tie.close
-    (tie.spec
-    wide-requires
-    mul-k
-    wide-requires-2
-    add-k
-    mul-result
-    shared-slice-read-result
-    returns
-    returns-2)
+    (tie.spec (λ c κs. search needs) (λ c. search needs) (λ c κs. search needs) (λ c. search needs) (λ c. search needs)
+    (λ c. search needs) returns returns-2)

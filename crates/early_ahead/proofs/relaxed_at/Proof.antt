@@ -7,30 +7,12 @@ use Rattle.early_ahead.proofs.AheadLaws.{relaxedAt-ready, relaxedAt-wai
 use Rattle.early_ahead.proofs.relaxed_at.Statement.{statement}
 use Rattle.early_ahead.proofs.relaxed_at.Tie as tie
 
-mul-x : tie.Need-mul-x
-mul-x c = search needs
-
-element-copy-out-x : tie.Need-element-copy-out-x
-element-copy-out-x c = search needs
-
-element-copy-out-e : tie.Need-element-copy-out-e
-element-copy-out-e c = search needs
-
 returns : tie.Need-returns
 returns c =
     let x = c .before .before .before .before .args in
     let size = limits-length (x .t3) _ (c .before .before .before .before .good .1 .1 .0) in
     let events = events-length (x .t2) _ (c .before .before .before .before .good .1 .0) in
     relaxedAt-ready (x .reach .now) (x .t2 .segments) (x .t2 .events) (x .t3 .at) (x .t) (x .k) (omega arith) (omega arith) (omega arith)
-
-forecast-requires : tie.Need-forecast-requires
-forecast-requires c κs = search needs
-
-sum-of-requires : tie.Need-sum-of-requires
-sum-of-requires c κs = search needs
-
-lesser-of-requires : tie.Need-lesser-of-requires
-lesser-of-requires c κs = search needs
 
 returns-2 : tie.Need-returns-2
 returns-2 c =
@@ -42,12 +24,5 @@ returns-2 c =
 pub relaxed-at-spec : {M : Type 1} → statement M
 relaxed-at-spec =
     tie.close
-    (tie.spec
-    mul-x
-    element-copy-out-x
-    element-copy-out-e
-    returns
-    forecast-requires
-    sum-of-requires
-    lesser-of-requires
-    returns-2)
+    (tie.spec (λ c. search needs) (λ c. search needs) (λ c. search needs) returns (λ c κs. search needs)
+    (λ c κs. search needs) (λ c κs. search needs) returns-2)

@@ -11,21 +11,13 @@ returns c = sumOf-late _ _ (omega arith)
 returns-2 : tie.Need-returns-2
 returns-2 c = sumOf-far _ _ (omega arith) (omega arith)
 
-add-result : tie.Need-add-result
-add-result c = search needs
-
 returns-3 : tie.Need-returns-3
 returns-3 c = sumOf-deltas _ _ (omega arith) (omega arith)
-
-mul-result : tie.Need-mul-result
-mul-result c = search needs
-
-add-result-2 : tie.Need-add-result-2
-add-result-2 c = search needs
 
 returns-4 : tie.Need-returns-4
 returns-4 c = sumOf-time _ _ (omega arith) (omega arith) (omega arith)
 
 pub sum-of-spec : {M : Type 1} → statement M
 sum-of-spec =
-    tie.close (tie.spec returns returns-2 add-result returns-3 mul-result add-result-2 returns-4)
+    tie.close
+    (tie.spec returns returns-2 (λ c. search needs) returns-3 (λ c. search needs) (λ c. search needs) returns-4)

@@ -17,43 +17,16 @@ Inv-loop words count segment b j c i row q k s₀ s = (s ≤ k) × (anyBelow s (
 abbrev μ-loop : tie.MeasureT-loop
 μ-loop words count segment b j c i row q k s₀ s = k - s
 
-is-sooner-limit-requires : tie.Need-is-sooner-limit-requires Inv-loop μ-loop
-is-sooner-limit-requires c κs = search needs
-
 returns : tie.Need-returns Inv-loop μ-loop
 returns c = let x = c .before .before .before .args in threatensLimit-late (x .t1) (x .words .now) (x .count) (x .segment) (x .b) (x .j) (x .c) (x .i) (omega arith) (sym (c .before .is-sooner-limit .ensures) ∙ not-true _ (c .if1 .taken))
 
-wide-requires : tie.Need-wide-requires Inv-loop μ-loop
-wide-requires c κs = search needs
-
-at-most-requires : tie.Need-at-most-requires Inv-loop μ-loop
-at-most-requires c κs = search needs
-
 loop-holds : tie.Need-loop-holds Inv-loop μ-loop
 loop-holds c = (omega arith, anyBelow-start _)
-
-array-read-if2 : tie.Need-array-read-if2 Inv-loop μ-loop
-array-read-if2 c = search needs
-
-way-requires : tie.Need-way-requires Inv-loop μ-loop
-way-requires c κs = search needs
-
-sum-of-requires : tie.Need-sum-of-requires Inv-loop μ-loop
-sum-of-requires c κs = search needs
-
-is-sooner-limit-requires-2 : tie.Need-is-sooner-limit-requires-2 Inv-loop μ-loop
-is-sooner-limit-requires-2 c κs = search needs
 
 returns-2 : tie.Need-returns-2 Inv-loop μ-loop
 returns-2 c =
     let x = c .before .before .before .before .before .before .before .before .before .before .before .before .args in
     threatensLimit-found (x .t1) (x .words .now) (x .count) (x .segment) (x .b) (x .j) (x .c) (x .i) (c .before .before .before .before .before .before .loop .s) _ _ (omega arith) (c .before .before .before .before .if2 .taken) (rw (c .before .before .before .before .before .before .before .before .wide .ensures .0) at (c .before .before .before .way .ensures)) (c .before .before .sum-of .ensures) (sym (c .before .is-sooner-limit2 .ensures) ∙ c .if3 .taken)
-
-add-s : tie.Need-add-s Inv-loop μ-loop
-add-s c = search needs
-
-loop-less : tie.Need-loop-less Inv-loop μ-loop
-loop-less c = search needs
 
 loop-again : tie.Need-loop-again Inv-loop μ-loop
 loop-again c =
@@ -72,20 +45,6 @@ returns-3 c = threatensLimit-none _ _ _ _ _ _ _ _ (c .before .loop .s) (omega ar
 pub threatens-spec : {M : Type 1} → statement M
 threatens-spec =
     tie.close
-    (tie.spec
-    Inv-loop
-    μ-loop
-    is-sooner-limit-requires
-    returns
-    wide-requires
-    at-most-requires
-    loop-holds
-    array-read-if2
-    way-requires
-    sum-of-requires
-    is-sooner-limit-requires-2
-    returns-2
-    add-s
-    loop-less
-    loop-again
-    returns-3)
+    (tie.spec Inv-loop μ-loop (λ c κs. search needs) returns (λ c κs. search needs) (λ c κs. search needs) loop-holds
+    (λ c. search needs) (λ c κs. search needs) (λ c κs. search needs) (λ c κs. search needs) returns-2
+    (λ c. search needs) (λ c. search needs) loop-again returns-3)

@@ -15,32 +15,8 @@ Inv-loop t threads n segments₀ events₀ k₀ segments events k =
 abbrev μ-loop : tie.MeasureT-loop
 μ-loop t threads n segments₀ events₀ k₀ segments events k = n - k
 
-wide-requires : tie.Need-wide-requires Inv-loop μ-loop
-wide-requires c κs = search needs
-
 loop-holds : tie.Need-loop-holds Inv-loop μ-loop
 loop-holds c = (omega arith, crew-none (c .before .args .t1 .at))
-
-mul-x : tie.Need-mul-x Inv-loop μ-loop
-mul-x c = omega arith
-
-element-copy-out-x : tie.Need-element-copy-out-x Inv-loop μ-loop
-element-copy-out-x c = omega arith
-
-array-write-segments : tie.Need-array-write-segments Inv-loop μ-loop
-array-write-segments c = omega arith
-
-event-awaited-requires : tie.Need-event-awaited-requires Inv-loop μ-loop
-event-awaited-requires c κs = search needs
-
-array-write-events : tie.Need-array-write-events Inv-loop μ-loop
-array-write-events c = omega arith
-
-add-k : tie.Need-add-k Inv-loop μ-loop
-add-k c = omega arith
-
-loop-less : tie.Need-loop-less Inv-loop μ-loop
-loop-less c = omega arith
 
 loop-again : tie.Need-loop-again Inv-loop μ-loop
 loop-again c =
@@ -56,17 +32,5 @@ returns c =
 pub crew-of-spec : {M : Type 1} → statement M
 crew-of-spec =
     tie.close
-    (tie.spec
-    Inv-loop
-    μ-loop
-    wide-requires
-    loop-holds
-    mul-x
-    element-copy-out-x
-    array-write-segments
-    event-awaited-requires
-    array-write-events
-    add-k
-    loop-less
-    loop-again
-    returns)
+    (tie.spec Inv-loop μ-loop (λ c κs. search needs) loop-holds (λ c. omega arith) (λ c. omega arith) (λ c. omega arith)
+    (λ c κs. search needs) (λ c. omega arith) (λ c. omega arith) (λ c. omega arith) loop-again returns)

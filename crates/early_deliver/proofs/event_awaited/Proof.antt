@@ -6,9 +6,6 @@ use Rattle.early_deliver.proofs.VariantLaws.{awaitedBy-other}
 use Rattle.early_deliver.proofs.event_awaited.Statement.{statement}
 use Rattle.early_deliver.proofs.event_awaited.Tie as tie
 
-enum-known-s : tie.Need-enum-known-s
-enum-known-s c = search needs
-
 returns : tie.Need-returns
 unfolding eventAwaited
 returns c = rw (awaitedBy-other (c .before .args .s) (c .match .keys2)) refl
@@ -18,4 +15,4 @@ unfolding eventAwaited
 returns-2 c = rw (c .before .s .given .1) refl
 
 pub event-awaited-spec : {M : Type 1} → statement M
-event-awaited-spec = tie.close (tie.spec enum-known-s returns returns-2)
+event-awaited-spec = tie.close (tie.spec (λ c. search needs) returns returns-2)

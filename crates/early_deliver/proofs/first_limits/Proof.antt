@@ -15,32 +15,8 @@ Inv-loop site t threads n at₀ k₀ at k = (k ≤ n) × (at ≡ firstLimits k (
 abbrev μ-loop : tie.MeasureT-loop
 μ-loop site t threads n at₀ k₀ at k = n - k
 
-wide-requires : tie.Need-wide-requires Inv-loop μ-loop
-wide-requires c κs = search needs
-
 loop-holds : tie.Need-loop-holds Inv-loop μ-loop
 loop-holds c = (omega arith, limits-none (c .before .args .t2 .at) (logOf (c .before .args .site)))
-
-mul-x : tie.Need-mul-x Inv-loop μ-loop
-mul-x c = omega arith
-
-element-copy-out-x : tie.Need-element-copy-out-x Inv-loop μ-loop
-element-copy-out-x c = omega arith
-
-first-limit-requires : tie.Need-first-limit-requires Inv-loop μ-loop
-first-limit-requires c κs = search needs
-
-mul-at : tie.Need-mul-at Inv-loop μ-loop
-mul-at c = omega arith
-
-array-write-at : tie.Need-array-write-at Inv-loop μ-loop
-array-write-at c = omega arith
-
-add-k : tie.Need-add-k Inv-loop μ-loop
-add-k c = omega arith
-
-loop-less : tie.Need-loop-less Inv-loop μ-loop
-loop-less c = omega arith
 
 loop-again : tie.Need-loop-again Inv-loop μ-loop
 loop-again c =
@@ -56,17 +32,6 @@ returns c =
 pub first-limits-spec : {M : Type 1} → statement M
 first-limits-spec =
     tie.close
-    (tie.spec
-    Inv-loop
-    μ-loop
-    wide-requires
-    loop-holds
-    mul-x
-    element-copy-out-x
-    first-limit-requires
-    mul-at
-    array-write-at
-    add-k
-    loop-less
-    loop-again
+    (tie.spec Inv-loop μ-loop (λ c κs. search needs) loop-holds (λ c. omega arith) (λ c. omega arith)
+    (λ c κs. search needs) (λ c. omega arith) (λ c. omega arith) (λ c. omega arith) (λ c. omega arith) loop-again
     returns)

@@ -16,32 +16,8 @@ Inv-loop t threads n least₀ k₀ least k = (k ≤ n) × (least ≡ floorBelow 
 abbrev μ-loop : tie.MeasureT-loop
 μ-loop t threads n least₀ k₀ least k = n - k
 
-few-requires : tie.Need-few-requires Inv-loop μ-loop
-few-requires c κs = search needs
-
-wide-requires : tie.Need-wide-requires Inv-loop μ-loop
-wide-requires c κs = search needs
-
 loop-holds : tie.Need-loop-holds Inv-loop μ-loop
 loop-holds c = (omega arith, floor-none (c .before .before .args .t1 .at))
-
-mul-x : tie.Need-mul-x Inv-loop μ-loop
-mul-x c = omega arith
-
-element-copy-out-x : tie.Need-element-copy-out-x Inv-loop μ-loop
-element-copy-out-x c = omega arith
-
-ready-cycle-requires : tie.Need-ready-cycle-requires Inv-loop μ-loop
-ready-cycle-requires c κs = search needs
-
-least-of-requires : tie.Need-least-of-requires Inv-loop μ-loop
-least-of-requires c κs = search needs
-
-add-k : tie.Need-add-k Inv-loop μ-loop
-add-k c = omega arith
-
-loop-less : tie.Need-loop-less Inv-loop μ-loop
-loop-less c = omega arith
 
 loop-again : tie.Need-loop-again Inv-loop μ-loop
 loop-again c =
@@ -57,17 +33,6 @@ returns c =
 pub floor-of-spec : {M : Type 1} → statement M
 floor-of-spec =
     tie.close
-    (tie.spec
-    Inv-loop
-    μ-loop
-    few-requires
-    wide-requires
-    loop-holds
-    mul-x
-    element-copy-out-x
-    ready-cycle-requires
-    least-of-requires
-    add-k
-    loop-less
-    loop-again
+    (tie.spec Inv-loop μ-loop (λ c κs. search needs) (λ c κs. search needs) loop-holds (λ c. omega arith)
+    (λ c. omega arith) (λ c κs. search needs) (λ c κs. search needs) (λ c. omega arith) (λ c. omega arith) loop-again
     returns)

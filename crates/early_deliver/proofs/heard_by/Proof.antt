@@ -9,19 +9,10 @@ use Rattle.early_deliver.proofs.SweepLaws.{heardBy-other, heardBy-none,
 use Rattle.early_deliver.proofs.heard_by.Statement.{statement}
 use Rattle.early_deliver.proofs.heard_by.Tie as tie
 
-enum-known-s : tie.Need-enum-known-s
-enum-known-s c = search needs
-
 returns : tie.Need-returns
 returns c =
     let x = c .before .before .args in
     heardBy-other (x .reach .now) (x .t) (logOf (x .site)) (x .crew .segments) (x .xs .at) (x .s) (awaitedBy-other (x .s) (c .match .keys2))
-
-least-heard-requires : tie.Need-least-heard-requires
-least-heard-requires c κs = search needs
-
-enum-known-c : tie.Need-enum-known-c
-enum-known-c c = search needs
 
 enum-told : tie.Need-enum-told
 enum-told c = search needs
@@ -30,12 +21,6 @@ returns-2 : tie.Need-returns-2
 returns-2 c =
     let x = c .before .before .before .before .before .before .before .args in
     heardBy-none (x .reach .now) (x .t) (logOf (x .site)) (x .crew .segments) (x .xs .at) (x .s) _ _ (ap viewOf (c .before .before .before .before .s .given .1)) (sym (c .before .before .least-heard .ensures) ∙ c .enum-told .given .1)
-
-forecast-requires : tie.Need-forecast-requires
-forecast-requires c κs = search needs
-
-limit-of-requires : tie.Need-limit-of-requires
-limit-of-requires c κs = search needs
 
 returns-3 : tie.Need-returns-3
 returns-3 c =
@@ -50,14 +35,5 @@ returns-4 c =
 pub heard-by-spec : {M : Type 1} → statement M
 heard-by-spec =
     tie.close
-    (tie.spec
-    enum-known-s
-    returns
-    least-heard-requires
-    enum-known-c
-    enum-told
-    returns-2
-    forecast-requires
-    limit-of-requires
-    returns-3
-    returns-4)
+    (tie.spec (λ c. search needs) returns (λ c κs. search needs) (λ c. search needs) enum-told returns-2
+    (λ c κs. search needs) (λ c κs. search needs) returns-3 returns-4)

@@ -5,9 +5,6 @@ use Rattle.early_deliver.proofs.CrewLaws.{later-small, later-never}
 use Rattle.early_deliver.proofs.one_later.Statement.{statement}
 use Rattle.early_deliver.proofs.one_later.Tie as tie
 
-add-result : tie.Need-add-result
-add-result c = search needs
-
 returns : tie.Need-returns
 returns c = later-small (c .before .args .x) (omega arith)
 
@@ -15,4 +12,4 @@ returns-2 : tie.Need-returns-2
 returns-2 c = later-never (c .before .args .x) (omega arith)
 
 pub one-later-spec : {M : Type 1} → statement M
-one-later-spec = tie.close (tie.spec add-result returns returns-2)
+one-later-spec = tie.close (tie.spec (λ c. search needs) returns returns-2)

@@ -7,16 +7,10 @@ use Rattle.early_deliver.specs.Awake.{outlookOf}
 use Rattle.early_deliver.proofs.outlook_of.Statement.{statement}
 use Rattle.early_deliver.proofs.outlook_of.Tie as tie
 
-few-requires : tie.Need-few-requires
-few-requires c κs = search needs
-
-outlook-with-requires : tie.Need-outlook-with-requires
-outlook-with-requires c κs = search needs
-
 returns : tie.Need-returns
 returns c =
     let x = c .before .before .before .args in
     c .outlook-with .ensures ∙ ap (λ n. outlookOf (x .reach .now) n (logOf (x .site)) (x .threads .at) false) (c .before .few .ensures .0)
 
 pub outlook-of-spec : {M : Type 1} → statement M
-outlook-of-spec = tie.close (tie.spec few-requires outlook-with-requires returns)
+outlook-of-spec = tie.close (tie.spec (λ c κs. search needs) (λ c κs. search needs) returns)

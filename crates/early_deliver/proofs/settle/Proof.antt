@@ -7,16 +7,10 @@ use Rattle.early_deliver.specs.Awake.{soonerOn}
 use Rattle.early_deliver.proofs.settle.Statement.{statement}
 use Rattle.early_deliver.proofs.settle.Tie as tie
 
-few-requires : tie.Need-few-requires
-few-requires c κs = search needs
-
-settle-below-requires : tie.Need-settle-below-requires
-settle-below-requires c κs = search needs
-
 returns : tie.Need-returns
 returns c =
     let x = c .before .before .before .args in
     c .settle-below .ensures ∙ ap (λ n. settledBy (soonerOn (x .reach .now) n (logOf (x .site))) (logOf (x .site)) n (x .threads .at)) (c .before .few .ensures .0)
 
 pub settle-spec : {M : Type 1} → statement M
-settle-spec = tie.close (tie.spec few-requires settle-below-requires returns)
+settle-spec = tie.close (tie.spec (λ c κs. search needs) (λ c κs. search needs) returns)

@@ -20,12 +20,6 @@ Inv-loop reach site t n o₀ i₀ o i =
 abbrev μ-loop : tie.MeasureT-loop
 μ-loop reach site t n o₀ i₀ o i = t - i
 
-wide-requires : tie.Need-wide-requires Inv-loop μ-loop
-wide-requires c κs = search needs
-
-outlook-with-requires : tie.Need-outlook-with-requires Inv-loop μ-loop
-outlook-with-requires c κs = search needs
-
 loop-holds : tie.Need-loop-holds Inv-loop μ-loop
 loop-holds c =
     let x = c .before .before .before .args in
@@ -51,12 +45,6 @@ returns c =
     settle-still (x .reach .now) (x .t) l (here .o) (swept .result) (swept .ensures .0) _ (here .i) (here .inv .1 .1) still
     ∙ ap (sweepsBy (soonerOn (x .reach .now) (x .t) l) l (x .t) (x .t)) (outlook-threads (x .reach .now) (x .t) l _ _ _ (c .before .before .before .before .before .before .outlook-with .ensures))
 
-add-i : tie.Need-add-i Inv-loop μ-loop
-add-i c = omega arith
-
-loop-less : tie.Need-loop-less Inv-loop μ-loop
-loop-less c = omega arith
-
 loop-again : tie.Need-loop-again Inv-loop μ-loop
 loop-again c =
     let x = c .before .before .before .before .before .before .before .before .args in
@@ -81,15 +69,5 @@ returns-2 c =
 pub settle-below-spec : {M : Type 1} → statement M
 settle-below-spec =
     tie.close
-    (tie.spec
-    Inv-loop
-    μ-loop
-    wide-requires
-    outlook-with-requires
-    loop-holds
-    sweep-requires
-    returns
-    add-i
-    loop-less
-    loop-again
-    returns-2)
+    (tie.spec Inv-loop μ-loop (λ c κs. search needs) (λ c κs. search needs) loop-holds sweep-requires returns
+    (λ c. omega arith) (λ c. omega arith) loop-again returns-2)

@@ -19,9 +19,6 @@ Inv-loop reach site t n w₀ k₀ w k =
 abbrev μ-loop : tie.MeasureT-loop
 μ-loop reach site t n w₀ k₀ w k = n - k
 
-wide-requires : tie.Need-wide-requires Inv-loop μ-loop
-wide-requires c κs = search needs
-
 loop-holds : tie.Need-loop-holds Inv-loop μ-loop
 loop-holds c =
     let x = c .before .before .before .before .before in
@@ -38,12 +35,6 @@ look-requires : tie.Need-look-requires Inv-loop μ-loop
 look-requires c κs =
     let start = c .before .before .before .before .before .before .before in
     (omega arith, (omega arith, outlook-own (start .args .reach .now) (start .args .t) (logOf (start .args .site)) (c .before .loop .w) _ _ (c .before .loop .inv .1 .0)))
-
-add-k : tie.Need-add-k Inv-loop μ-loop
-add-k c = omega arith
-
-loop-less : tie.Need-loop-less Inv-loop μ-loop
-loop-less c = omega arith
 
 loop-again : tie.Need-loop-again Inv-loop μ-loop
 loop-again c =
@@ -67,13 +58,5 @@ returns c =
 pub sweep-spec : {M : Type 1} → statement M
 sweep-spec =
     tie.close
-    (tie.spec
-    Inv-loop
-    μ-loop
-    wide-requires
-    loop-holds
-    look-requires
-    add-k
-    loop-less
-    loop-again
-    returns)
+    (tie.spec Inv-loop μ-loop (λ c κs. search needs) loop-holds look-requires (λ c. omega arith) (λ c. omega arith)
+    loop-again returns)

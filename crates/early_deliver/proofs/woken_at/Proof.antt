@@ -4,15 +4,6 @@ use borrow.Author.Needs.{needs}
 use Rattle.early_deliver.proofs.woken_at.Statement.{statement}
 use Rattle.early_deliver.proofs.woken_at.Tie as tie
 
-next-delta-requires : tie.Need-next-delta-requires
-next-delta-requires c κs = search needs
-
-enum-known-d : tie.Need-enum-known-d
-enum-known-d c = search needs
-
-enum-known-d-2 : tie.Need-enum-known-d-2
-enum-known-d-2 c = search needs
-
 returns : tie.Need-returns
 returns c = rw (← c .before .before .before .next-delta .ensures, c .before .d .given .1) refl
 
@@ -20,5 +11,4 @@ returns-2 : tie.Need-returns-2
 returns-2 c = rw (← c .before .before .before .next-delta .ensures, c .before .d2 .given .1) refl
 
 pub woken-at-spec : {M : Type 1} → statement M
-woken-at-spec =
-    tie.close (tie.spec next-delta-requires enum-known-d enum-known-d-2 returns returns-2)
+woken-at-spec = tie.close (tie.spec (λ c κs. search needs) (λ c. search needs) (λ c. search needs) returns returns-2)

@@ -5,9 +5,6 @@ use borrow.Author.Needs.{needs}
 use Rattle.early_fit.proofs.is_fit_pair.Statement.{statement}
 use Rattle.early_fit.proofs.is_fit_pair.Tie as tie
 
-is-fit-cycle-requires : tie.Need-is-fit-cycle-requires
-is-fit-cycle-requires c κs = search needs
-
 returns : tie.Need-returns
 returns c = λ m p. isFitPair-below m (c .before .before .before .before .args .x) _ (omega arith) (c .is-fit-cycle .ensures)
 
@@ -15,4 +12,4 @@ returns-2 : tie.Need-returns-2
 returns-2 c = λ m p. isFitPair-above m (c .before .before .before .args .x) (omega arith)
 
 pub is-fit-pair-spec : {M : Type 1} → statement M
-is-fit-pair-spec = tie.close (tie.spec is-fit-cycle-requires returns returns-2)
+is-fit-pair-spec = tie.close (tie.spec (λ c κs. search needs) returns returns-2)

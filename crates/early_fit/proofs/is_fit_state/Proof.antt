@@ -6,30 +6,6 @@ use borrow.Author.Needs.{needs}
 use Rattle.early_fit.proofs.is_fit_state.Statement.{statement}
 use Rattle.early_fit.proofs.is_fit_state.Tie as tie
 
-enum-known-state : tie.Need-enum-known-state
-enum-known-state c = search needs
-
-is-fit-cycle-requires : tie.Need-is-fit-cycle-requires
-is-fit-cycle-requires c κs = search needs
-
-enum-known-state-2 : tie.Need-enum-known-state-2
-enum-known-state-2 c = search needs
-
-is-fit-cycle-requires-2 : tie.Need-is-fit-cycle-requires-2
-is-fit-cycle-requires-2 c κs = search needs
-
-enum-known-state-3 : tie.Need-enum-known-state-3
-enum-known-state-3 c = search needs
-
-is-fit-cycle-requires-3 : tie.Need-is-fit-cycle-requires-3
-is-fit-cycle-requires-3 c κs = search needs
-
-enum-known-state-4 : tie.Need-enum-known-state-4
-enum-known-state-4 c = search needs
-
-is-fit-cycle-requires-4 : tie.Need-is-fit-cycle-requires-4
-is-fit-cycle-requires-4 c κs = search needs
-
 returns : tie.Need-returns
 returns c = λ m p. isFitState-waiting m _ _ _ _ (c .before .before .before .state4 .given .1) p (sym (c .before .is-fit-cycle4 .ensures) ∙ c .if1 .taken)
 
@@ -48,17 +24,5 @@ returns-5 c = λ m p. isFitState-late m (c .before .before .before .before .befo
 pub is-fit-state-spec : {M : Type 1} → statement M
 is-fit-state-spec =
     tie.close
-    (tie.spec
-    enum-known-state
-    is-fit-cycle-requires
-    enum-known-state-2
-    is-fit-cycle-requires-2
-    enum-known-state-3
-    is-fit-cycle-requires-3
-    enum-known-state-4
-    is-fit-cycle-requires-4
-    returns
-    returns-2
-    returns-3
-    returns-4
-    returns-5)
+    (tie.spec (λ c. search needs) (λ c κs. search needs) (λ c. search needs) (λ c κs. search needs) (λ c. search needs)
+    (λ c κs. search needs) (λ c. search needs) (λ c κs. search needs) returns returns-2 returns-3 returns-4 returns-5)

@@ -7,9 +7,6 @@ use borrow.Author.Needs.{needs}
 use Rattle.early_fit.proofs.is_unfit.Statement.{statement}
 use Rattle.early_fit.proofs.is_unfit.Tie as tie
 
-model-fault-requires : tie.Need-model-fault-requires
-model-fault-requires c κs = search needs
-
 returns : tie.Need-returns
 returns c =
     let x = c .before .before .before .args in
@@ -23,9 +20,6 @@ returns-2 c =
     let left = c .before .before in
     let x = left .before .before .before .args in
     isUnfit-state (x .m) (x .words .now) (x .site) (x .threads .at) (sym (left .before .model-fault .ensures) ∙ left .if1 .left) (sym (c .if2 .taken) ∙ c .before .is-unfit-state .ensures (x .m) refl refl refl)
-
-is-unfit-table-requires : tie.Need-is-unfit-table-requires
-is-unfit-table-requires c κs = search needs
 
 returns-3 : tie.Need-returns-3
 returns-3 c =
@@ -42,4 +36,6 @@ returns-3 c =
     (c .is-unfit-table .ensures (x .m) refl)
 
 pub is-unfit-spec : {M : Type 1} → statement M
-is-unfit-spec = tie.close (tie.spec model-fault-requires returns is-unfit-state-requires returns-2 is-unfit-table-requires returns-3)
+is-unfit-spec =
+    tie.close
+    (tie.spec (λ c κs. search needs) returns is-unfit-state-requires returns-2 (λ c κs. search needs) returns-3)

@@ -20,34 +20,16 @@ Inv-loop e site count i₀ i = (i ≤ count) × ((m : Model) → m .e ≡ e → 
 abbrev μ-loop : tie.MeasureT-loop
 μ-loop e site count i₀ i = count - i
 
-wide-requires : tie.Need-wide-requires Inv-loop μ-loop
-wide-requires c κs = search needs
-
 returns : tie.Need-returns Inv-loop μ-loop
 returns c = λ m p. isUnfitLog-above m (c .before .before .args .t1) (omega arith)
 
 loop-holds : tie.Need-loop-holds Inv-loop μ-loop
 loop-holds c = (omega arith, λ m p. below-none _)
 
-mul-x : tie.Need-mul-x Inv-loop μ-loop
-mul-x c = search needs
-
-element-copy-out-x : tie.Need-element-copy-out-x Inv-loop μ-loop
-element-copy-out-x c = search needs
-
-add-i : tie.Need-add-i Inv-loop μ-loop
-add-i c = search needs
-
-is-fit-pair-requires : tie.Need-is-fit-pair-requires Inv-loop μ-loop
-is-fit-pair-requires c κs = search needs
-
 returns-2 : tie.Need-returns-2 Inv-loop μ-loop
 returns-2 c =
     let s = c .before .before .before .before .before .before .before .args .t1 in
     λ m p. isUnfitLog-here m s (c .before .before .before .before .loop .i) (omega arith) (sym (c .before .is-fit-pair .ensures m p) ∙ not-true _ (c .if2 .taken))
-
-loop-less : tie.Need-loop-less Inv-loop μ-loop
-loop-less c = search needs
 
 loop-again : tie.Need-loop-again Inv-loop μ-loop
 loop-again c =
@@ -60,17 +42,5 @@ returns-3 c = λ m p. sym (→isUnfitLog m (c .before .before .before .before .a
 pub is-unfit-log-spec : {M : Type 1} → statement M
 is-unfit-log-spec =
     tie.close
-    (tie.spec
-    Inv-loop
-    μ-loop
-    wide-requires
-    returns
-    loop-holds
-    mul-x
-    element-copy-out-x
-    add-i
-    is-fit-pair-requires
-    returns-2
-    loop-less
-    loop-again
-    returns-3)
+    (tie.spec Inv-loop μ-loop (λ c κs. search needs) returns loop-holds (λ c. search needs) (λ c. search needs)
+    (λ c. search needs) (λ c κs. search needs) returns-2 (λ c. search needs) loop-again returns-3)

@@ -4,17 +4,11 @@ use borrow.Author.Needs.{needs}
 use Rattle.early_fit.proofs.is_unfit_state.Statement.{statement}
 use Rattle.early_fit.proofs.is_unfit_state.Tie as tie
 
-is-unfit-threads-requires : tie.Need-is-unfit-threads-requires
-is-unfit-threads-requires c κs = search needs
-
 returns : tie.Need-returns
 returns c = λ m o p q. rw (← c .before .is-unfit-threads .ensures m o p q, c .if1 .taken) refl
-
-is-unfit-log-requires : tie.Need-is-unfit-log-requires
-is-unfit-log-requires c κs = search needs
 
 returns-2 : tie.Need-returns-2
 returns-2 c = λ m o p q. rw (← c .before .before .is-unfit-threads .ensures m o p q, c .before .if1 .left) (c .is-unfit-log .ensures m q)
 
 pub is-unfit-state-spec : {M : Type 1} → statement M
-is-unfit-state-spec = tie.close (tie.spec is-unfit-threads-requires returns is-unfit-log-requires returns-2)
+is-unfit-state-spec = tie.close (tie.spec (λ c κs. search needs) returns (λ c κs. search needs) returns-2)

@@ -6,20 +6,14 @@ use borrow.Author.Needs.{needs}
 use Rattle.early_fit.proofs.is_unfit_table.Statement.{statement}
 use Rattle.early_fit.proofs.is_unfit_table.Tie as tie
 
-wide-requires : tie.Need-wide-requires
-wide-requires c κs = search needs
-
 mul-count : tie.Need-mul-count
 mul-count c = rw (c .wide .ensures) (let h = square-fits (c .before .before .args .n) (omega arith) in omega arith)
 
 returns : tie.Need-returns
 returns c = λ m p. isUnfitWords-short m (c .before .before .before .args .words .now) (rw (p ∙ sym (c .before .wide .ensures)) (c .if1 .taken))
 
-is-unfit-words-requires : tie.Need-is-unfit-words-requires
-is-unfit-words-requires c κs = search needs
-
 returns-2 : tie.Need-returns-2
 returns-2 c = λ m p. c .is-unfit-words .ensures m (rw (p ∙ sym (c .before .before .wide .ensures)) refl)
 
 pub is-unfit-table-spec : {M : Type 1} → statement M
-is-unfit-table-spec = tie.close (tie.spec wide-requires mul-count returns is-unfit-words-requires returns-2)
+is-unfit-table-spec = tie.close (tie.spec (λ c κs. search needs) mul-count returns (λ c κs. search needs) returns-2)

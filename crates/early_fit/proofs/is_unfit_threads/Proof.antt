@@ -22,32 +22,14 @@ Inv-loop t n e threads count k₀ k = (k ≤ count) × ((m : Model) → m .n ≡
 abbrev μ-loop : tie.MeasureT-loop
 μ-loop t n e threads count k₀ k = count - k
 
-wide-requires : tie.Need-wide-requires Inv-loop μ-loop
-wide-requires c κs = search needs
-
 loop-holds : tie.Need-loop-holds Inv-loop μ-loop
 loop-holds c = (omega arith, λ m p q. below-none _)
-
-mul-x : tie.Need-mul-x Inv-loop μ-loop
-mul-x c = search needs
-
-element-copy-out-x : tie.Need-element-copy-out-x Inv-loop μ-loop
-element-copy-out-x c = search needs
-
-add-k : tie.Need-add-k Inv-loop μ-loop
-add-k c = search needs
-
-is-fit-thread-requires : tie.Need-is-fit-thread-requires Inv-loop μ-loop
-is-fit-thread-requires c κs = search needs
 
 returns : tie.Need-returns Inv-loop μ-loop
 returns c =
     let x = c .before .before .before .before .before .before .args in
     let k = c .before .before .before .before .loop .k in
     λ m o p q. isUnfitThreads-here m (x .t1 .at) k (omega arith) (isFitThread-at m (x .t1 .at) k ∙ sym (c .before .is-fit-thread .ensures m k p q) ∙ not-true _ (c .if1 .taken))
-
-loop-less : tie.Need-loop-less Inv-loop μ-loop
-loop-less c = search needs
 
 loop-again : tie.Need-loop-again Inv-loop μ-loop
 loop-again c =
@@ -64,16 +46,5 @@ returns-2 c =
 pub is-unfit-threads-spec : {M : Type 1} → statement M
 is-unfit-threads-spec =
     tie.close
-    (tie.spec
-    Inv-loop
-    μ-loop
-    wide-requires
-    loop-holds
-    mul-x
-    element-copy-out-x
-    add-k
-    is-fit-thread-requires
-    returns
-    loop-less
-    loop-again
-    returns-2)
+    (tie.spec Inv-loop μ-loop (λ c κs. search needs) loop-holds (λ c. search needs) (λ c. search needs)
+    (λ c. search needs) (λ c κs. search needs) returns (λ c. search needs) loop-again returns-2)

@@ -21,29 +21,14 @@ abbrev μ-loop : tie.MeasureT-loop
 loop-holds : tie.Need-loop-holds Inv-loop μ-loop
 loop-holds c = (omega arith, below-none _)
 
-mul-w : tie.Need-mul-w Inv-loop μ-loop
-mul-w c = search needs
-
-shared-slice-read-w : tie.Need-shared-slice-read-w Inv-loop μ-loop
-shared-slice-read-w c = search needs
-
-add-i : tie.Need-add-i Inv-loop μ-loop
-add-i c = search needs
-
 returns : tie.Need-returns Inv-loop μ-loop
 returns c =
     let ws = c .before .before .before .before .before .args .words .now in
     let i = c .before .before .before .before .loop .i in
     λ m p. isUnfitWords-here m ws i (omega arith) (isFitWord-far (getD ws i 0) (c .before .if1 .taken) (c .if2 .taken))
 
-loop-less : tie.Need-loop-less Inv-loop μ-loop
-loop-less c = search needs
-
 loop-again : tie.Need-loop-again Inv-loop μ-loop
 loop-again c = (omega arith, below-more _ _ (c .before .before .before .before .loop .inv .1) (isFitWord-never _ (c .if2 .left)))
-
-loop-less-2 : tie.Need-loop-less-2 Inv-loop μ-loop
-loop-less-2 c = search needs
 
 loop-again-2 : tie.Need-loop-again-2 Inv-loop μ-loop
 loop-again-2 c = (omega arith, below-more _ _ (c .before .before .before .loop .inv .1) (isFitWord-near _ (c .if1 .left)))
@@ -54,16 +39,5 @@ returns-2 c = λ m p. sym (→isUnfitWords m (c .before .before .args .words .no
 pub is-unfit-words-spec : {M : Type 1} → statement M
 is-unfit-words-spec =
     tie.close
-    (tie.spec
-    Inv-loop
-    μ-loop
-    loop-holds
-    mul-w
-    shared-slice-read-w
-    add-i
-    returns
-    loop-less
-    loop-again
-    loop-less-2
-    loop-again-2
-    returns-2)
+    (tie.spec Inv-loop μ-loop loop-holds (λ c. search needs) (λ c. search needs) (λ c. search needs) returns
+    (λ c. search needs) loop-again (λ c. search needs) loop-again-2 returns-2)

@@ -7,19 +7,13 @@ use Rattle.early_lent.proofs.request_of.Reads as reads
 use Rattle.early_lent.proofs.request_of.Lts as lts
 use Rattle.early_request.proofs.request.Reads as request-reads
 
-cast-if1 : tie.Need-cast-if1
-cast-if1 c = search needs
-
 -- fewer than the threads
 returns : tie.Need-returns
 returns c = let a = c .before .before .args in lent-short (a .m) (a .marks) (now (a .words)) (a .site) (a .before) (a .lent) (a .k .0) (c .if1 .taken)
-
-request-requires : tie.Need-request-requires
-request-requires c κs = search needs
 
 -- the request on the records
 returns-2 : tie.Need-returns-2
 returns-2 c = lent-enough _ _ _ _ _ _ _ _ (c .before .before .before .if1 .left) (c .before .before .request .ensures)
 
 pub request-of-spec : {M : Type 1} → statement M
-request-of-spec = tie.close (tie.spec cast-if1 returns request-requires returns-2)
+request-of-spec = tie.close (tie.spec (λ c. search needs) returns (λ c κs. search needs) returns-2)

@@ -18,32 +18,8 @@ Inv-loop site used variables log₀ i₀ log i = (i ≤ used) × (log ≡ padded
 abbrev μ-loop : tie.MeasureT-loop
 μ-loop site used variables log₀ i₀ log i = 128 - i
 
-within-requires : tie.Need-within-requires Inv-loop μ-loop
-within-requires c κs = search needs
-
-nothing-requires : tie.Need-nothing-requires Inv-loop μ-loop
-nothing-requires c κs = search needs
-
 loop-holds : tie.Need-loop-holds Inv-loop μ-loop
 loop-holds c = (omega arith, rw (c .nothing .ensures) padded-none)
-
-mul-log : tie.Need-mul-log Inv-loop μ-loop
-mul-log c = search needs
-
-element-copy-out-log : tie.Need-element-copy-out-log Inv-loop μ-loop
-element-copy-out-log c = search needs
-
-mul-log-2 : tie.Need-mul-log-2 Inv-loop μ-loop
-mul-log-2 c = search needs
-
-array-set-from-log : tie.Need-array-set-from-log Inv-loop μ-loop
-array-set-from-log c = search needs
-
-add-i : tie.Need-add-i Inv-loop μ-loop
-add-i c = search needs
-
-loop-less : tie.Need-loop-less Inv-loop μ-loop
-loop-less c = search needs
 
 loop-again : tie.Need-loop-again Inv-loop μ-loop
 loop-again c =
@@ -51,9 +27,6 @@ loop-again c =
     let size = log-length s _ (c .before .before .before .before .before .before .good .0) in
     let l = c .before .before .loop in
     (omega arith, padded-copied (s .log) (l .log) noPair (l .i) (omega arith) (omega arith) (l .inv .1))
-
-cast-count : tie.Need-cast-count Inv-loop μ-loop
-cast-count c = search needs
 
 returns : tie.Need-returns Inv-loop μ-loop
 returns c =
@@ -66,18 +39,6 @@ returns c =
 pub cleared-spec : {M : Type 1} → statement M
 cleared-spec =
     tie.close
-    (tie.spec
-    Inv-loop
-    μ-loop
-    within-requires
-    nothing-requires
-    loop-holds
-    mul-log
-    element-copy-out-log
-    mul-log-2
-    array-set-from-log
-    add-i
-    loop-less
-    loop-again
-    cast-count
-    returns)
+    (tie.spec Inv-loop μ-loop (λ c κs. search needs) (λ c κs. search needs) loop-holds (λ c. search needs)
+    (λ c. search needs) (λ c. search needs) (λ c. search needs) (λ c. search needs) (λ c. search needs) loop-again
+    (λ c. search needs) returns)

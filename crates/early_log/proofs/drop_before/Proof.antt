@@ -19,44 +19,11 @@ Inv-loop floor site n variables log₀ count₀ i₀ log count i = (i ≤ n) × 
 abbrev μ-loop : tie.MeasureT-loop
 μ-loop floor site n variables log₀ count₀ i₀ log count i = n - i
 
-within-requires : tie.Need-within-requires Inv-loop μ-loop
-within-requires c κs = search needs
-
-nothing-requires : tie.Need-nothing-requires Inv-loop μ-loop
-nothing-requires c κs = search needs
-
 loop-holds : tie.Need-loop-holds Inv-loop μ-loop
 loop-holds c =
     let s = c .before .before .before .args .t1 in
     let e = dropBefore-start (c .before .before .before .args .floor) (s .log) in
     (omega arith, omega arith, rw e refl, rw (c .nothing .ensures, e) padded-none)
-
-mul-x : tie.Need-mul-x Inv-loop μ-loop
-mul-x c = search needs
-
-element-copy-out-x : tie.Need-element-copy-out-x Inv-loop μ-loop
-element-copy-out-x c = search needs
-
-add-i : tie.Need-add-i Inv-loop μ-loop
-add-i c = search needs
-
-is-dropped-requires : tie.Need-is-dropped-requires Inv-loop μ-loop
-is-dropped-requires c κs = search needs
-
-wide-requires : tie.Need-wide-requires Inv-loop μ-loop
-wide-requires c κs = search needs
-
-mul-log : tie.Need-mul-log Inv-loop μ-loop
-mul-log c = search needs
-
-array-set-from-log : tie.Need-array-set-from-log Inv-loop μ-loop
-array-set-from-log c = search needs
-
-add-count : tie.Need-add-count Inv-loop μ-loop
-add-count c = search needs
-
-loop-less : tie.Need-loop-less Inv-loop μ-loop
-loop-less c = search needs
 
 loop-again : tie.Need-loop-again Inv-loop μ-loop
 loop-again c =
@@ -66,9 +33,6 @@ loop-again c =
     let p =
     dropped-stays (x .floor) (x .t1 .log) (l .log) noPair (l .i) (l .count) (omega arith) (omega arith) (l .inv .2) (l .inv .3) _ (c .wide .ensures) (sym (c .before .before .is-dropped .ensures) ∙ not-true _ (c .before .if1 .taken)) in
     (omega arith, omega arith, p .0, p .1)
-
-loop-less-2 : tie.Need-loop-less-2 Inv-loop μ-loop
-loop-less-2 c = search needs
 
 loop-again-2 : tie.Need-loop-again-2 Inv-loop μ-loop
 loop-again-2 c =
@@ -91,22 +55,6 @@ returns c =
 pub drop-before-spec : {M : Type 1} → statement M
 drop-before-spec =
     tie.close
-    (tie.spec
-    Inv-loop
-    μ-loop
-    within-requires
-    nothing-requires
-    loop-holds
-    mul-x
-    element-copy-out-x
-    add-i
-    is-dropped-requires
-    wide-requires
-    mul-log
-    array-set-from-log
-    add-count
-    loop-less
-    loop-again
-    loop-less-2
-    loop-again-2
-    returns)
+    (tie.spec Inv-loop μ-loop (λ c κs. search needs) (λ c κs. search needs) loop-holds (λ c. search needs)
+    (λ c. search needs) (λ c. search needs) (λ c κs. search needs) (λ c κs. search needs) (λ c. search needs)
+    (λ c. search needs) (λ c. search needs) (λ c. search needs) loop-again (λ c. search needs) loop-again-2 returns)

@@ -16,32 +16,11 @@ Inv-loop e since site best₀ i₀ best i = (i ≤ 128) × (i ≤ length (logOf 
 abbrev μ-loop : tie.MeasureT-loop
 μ-loop e since site best₀ i₀ best i = i
 
-within-requires : tie.Need-within-requires Inv-loop μ-loop
-within-requires c κs = search needs
-
 loop-holds : tie.Need-loop-holds Inv-loop μ-loop
 loop-holds c =
     let s = c .before .args .t1 in
     let n = logOf-length s (log-length s _ (c .before .good .0)) in
     (omega arith, omega arith, leastHeard-none (logOf s) _ _ (c .within .result) (omega arith))
-
-sub-i : tie.Need-sub-i Inv-loop μ-loop
-sub-i c = search needs
-
-mul-x : tie.Need-mul-x Inv-loop μ-loop
-mul-x c = search needs
-
-element-copy-out-x : tie.Need-element-copy-out-x Inv-loop μ-loop
-element-copy-out-x c = search needs
-
-is-heard-requires : tie.Need-is-heard-requires Inv-loop μ-loop
-is-heard-requires c κs = search needs
-
-least-of-requires : tie.Need-least-of-requires Inv-loop μ-loop
-least-of-requires c κs = search needs
-
-loop-less : tie.Need-loop-less Inv-loop μ-loop
-loop-less c = search needs
 
 loop-again : tie.Need-loop-again Inv-loop μ-loop
 loop-again c =
@@ -49,9 +28,6 @@ loop-again c =
     let size = log-length s _ (c .before .before .before .before .before .before .before .before .good .0) in
     let l = c .before .before .before .before .before .before .loop in
     (omega arith, omega arith, leastHeard-heard s size _ _ (l .i) _ (omega arith) (omega arith) (l .inv .2) _ (sym (c .before .before .is-heard .ensures) ∙ c .before .if1 .taken) (c .least-of .ensures))
-
-loop-less-2 : tie.Need-loop-less-2 Inv-loop μ-loop
-loop-less-2 c = search needs
 
 loop-again-2 : tie.Need-loop-again-2 Inv-loop μ-loop
 loop-again-2 c =
@@ -66,18 +42,6 @@ returns c = let e : c .before .loop .i ≡ 0 = omega arith in rw e at (c .before
 pub least-heard-spec : {M : Type 1} → statement M
 least-heard-spec =
     tie.close
-    (tie.spec
-    Inv-loop
-    μ-loop
-    within-requires
-    loop-holds
-    sub-i
-    mul-x
-    element-copy-out-x
-    is-heard-requires
-    least-of-requires
-    loop-less
-    loop-again
-    loop-less-2
-    loop-again-2
-    returns)
+    (tie.spec Inv-loop μ-loop (λ c κs. search needs) loop-holds (λ c. search needs) (λ c. search needs)
+    (λ c. search needs) (λ c κs. search needs) (λ c κs. search needs) (λ c. search needs) loop-again (λ c. search needs)
+    loop-again-2 returns)

@@ -18,12 +18,6 @@ Inv-loop c events variables log₀ count₀ n j₀ log count j = (j ≤ n) × Ho
 abbrev μ-loop : tie.MeasureT-loop
 μ-loop c events variables log₀ count₀ n j₀ log count j = n - j
 
-cleared-requires : tie.Need-cleared-requires Inv-loop μ-loop
-cleared-requires c κs = search needs
-
-within-requires : tie.Need-within-requires Inv-loop μ-loop
-within-requires c κs = search needs
-
 loop-holds : tie.Need-loop-holds Inv-loop μ-loop
 loop-holds c =
     let x = c .before .before .before .before .args in
@@ -33,24 +27,12 @@ loop-holds c =
       rw (withPairs-none (take (t .result .count) (t .result .log)) (x .c) (x .t3 .at)) (cleared-start (t .result) _ _ (t .ensures) (omega arith)),
     )
 
-element-copy-out-e : tie.Need-element-copy-out-e Inv-loop μ-loop
-element-copy-out-e c = search needs
-
-wide-requires : tie.Need-wide-requires Inv-loop μ-loop
-wide-requires c κs = search needs
-
-add-j : tie.Need-add-j Inv-loop μ-loop
-add-j c = search needs
-
 is-held-requires : tie.Need-is-held-requires Inv-loop μ-loop
 is-held-requires c κs =
     let l = c .before .before .before .loop in
     let few = holding-few _ (l .log) (l .count) (l .inv .1) in
     let size = holding-length _ (l .log) (l .count) (l .inv .1) in
     (omega arith, omega arith)
-
-loop-less : tie.Need-loop-less Inv-loop μ-loop
-loop-less c = search needs
 
 loop-again : tie.Need-loop-again Inv-loop μ-loop
 loop-again c =
@@ -60,18 +42,6 @@ loop-again c =
     let l = c .before .before .before .before .before .loop in
     (omega arith, rw (withPairs-more (take (t .count) (t .log)) (x .c) (x .t3 .at) (l .j) (omega arith)) (holding-held _ (l .log) (l .count) (l .inv .1) _ _ (c .before .before .wide .ensures) (sym (c .if1 .taken) ∙ c .before .is-held .ensures)))
 
-mul-log : tie.Need-mul-log Inv-loop μ-loop
-mul-log c = search needs
-
-array-set-from-log : tie.Need-array-set-from-log Inv-loop μ-loop
-array-set-from-log c = search needs
-
-add-count : tie.Need-add-count Inv-loop μ-loop
-add-count c = search needs
-
-loop-less-2 : tie.Need-loop-less-2 Inv-loop μ-loop
-loop-less-2 c = search needs
-
 loop-again-2 : tie.Need-loop-again-2 Inv-loop μ-loop
 loop-again-2 c =
     let x = c .before .before .before .before .before .before .before .before .before .before .before .args in
@@ -79,9 +49,6 @@ loop-again-2 c =
     let t = c .before .before .before .before .before .before .before .before .before .before .cleared .result in
     let l = c .before .before .before .before .before .before .loop in
     (omega arith, rw (withPairs-more (take (t .count) (t .log)) (x .c) (x .t3 .at) (l .j) (omega arith)) (holding-new _ (l .log) (l .count) (l .inv .1) _ _ (c .before .before .before .wide .ensures) (sym (c .before .if1 .left) ∙ c .before .before .is-held .ensures) (c .if2 .taken)))
-
-loop-less-3 : tie.Need-loop-less-3 Inv-loop μ-loop
-loop-less-3 c = search needs
 
 loop-again-3 : tie.Need-loop-again-3 Inv-loop μ-loop
 loop-again-3 c =
@@ -111,23 +78,6 @@ returns c =
 pub note-spec : {M : Type 1} → statement M
 note-spec =
     tie.close
-    (tie.spec
-    Inv-loop
-    μ-loop
-    cleared-requires
-    within-requires
-    loop-holds
-    element-copy-out-e
-    wide-requires
-    add-j
-    is-held-requires
-    loop-less
-    loop-again
-    mul-log
-    array-set-from-log
-    add-count
-    loop-less-2
-    loop-again-2
-    loop-less-3
-    loop-again-3
-    returns)
+    (tie.spec Inv-loop μ-loop (λ c κs. search needs) (λ c κs. search needs) loop-holds (λ c. search needs)
+    (λ c κs. search needs) (λ c. search needs) is-held-requires (λ c. search needs) loop-again (λ c. search needs)
+    (λ c. search needs) (λ c. search needs) (λ c. search needs) loop-again-2 (λ c. search needs) loop-again-3 returns)

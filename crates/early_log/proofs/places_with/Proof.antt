@@ -21,12 +21,6 @@ Inv-loop c events log used n total₀ j₀ total j = (j ≤ n) × (total ≤ use
 abbrev μ-loop : tie.MeasureT-loop
 μ-loop c events log used n total₀ j₀ total j = n - j
 
-within-requires : tie.Need-within-requires Inv-loop μ-loop
-within-requires c κs = search needs
-
-within-requires-2 : tie.Need-within-requires-2 Inv-loop μ-loop
-within-requires-2 c κs = search needs
-
 loop-holds : tie.Need-loop-holds Inv-loop μ-loop
 loop-holds c =
     let start = c .before .before .before in
@@ -34,18 +28,6 @@ loop-holds c =
     let used = c .before .within .result in
     let size = log-length (start .args .site) _ (start .good .0) in
     (omega arith, omega arith, sym (placesWith-none (take used log) (start .args .c) (start .args .t3 .at) ∙ length-take-le used log (omega arith)))
-
-element-copy-out-e : tie.Need-element-copy-out-e Inv-loop μ-loop
-element-copy-out-e c = search needs
-
-is-listed-requires : tie.Need-is-listed-requires Inv-loop μ-loop
-is-listed-requires c κs = search needs
-
-add-j : tie.Need-add-j Inv-loop μ-loop
-add-j c = search needs
-
-loop-less : tie.Need-loop-less Inv-loop μ-loop
-loop-less c = search needs
 
 loop-again : tie.Need-loop-again Inv-loop μ-loop
 loop-again c =
@@ -61,9 +43,6 @@ is-held-requires c κs =
     let size = log-length (start .args .site) _ (start .good .0) in
     (omega arith, omega arith)
 
-loop-less-2 : tie.Need-loop-less-2 Inv-loop μ-loop
-loop-less-2 c = search needs
-
 loop-again-2 : tie.Need-loop-again-2 Inv-loop μ-loop
 loop-again-2 c =
     let start = c .before .before .before .before .before .before .before .before .before .before in
@@ -71,12 +50,6 @@ loop-again-2 c =
     let l = c .before .before .before .before .before .before .loop in
     let size = events-length (x .t3) _ (start .good .1 .1 .0) in
     (omega arith, omega arith, l .inv .2 ∙ placesWith-held _ (x .c) (x .t3 .at) (l .j) (omega arith) (inr (true→T _ (sym (c .before .is-held .ensures) ∙ c .if2 .taken))))
-
-add-total : tie.Need-add-total Inv-loop μ-loop
-add-total c = search needs
-
-loop-less-3 : tie.Need-loop-less-3 Inv-loop μ-loop
-loop-less-3 c = search needs
 
 loop-again-3 : tie.Need-loop-again-3 Inv-loop μ-loop
 loop-again-3 c =
@@ -98,21 +71,6 @@ returns c =
 pub places-with-spec : {M : Type 1} → statement M
 places-with-spec =
     tie.close
-    (tie.spec
-    Inv-loop
-    μ-loop
-    within-requires
-    within-requires-2
-    loop-holds
-    element-copy-out-e
-    is-listed-requires
-    add-j
-    loop-less
-    loop-again
-    is-held-requires
-    loop-less-2
-    loop-again-2
-    add-total
-    loop-less-3
-    loop-again-3
-    returns)
+    (tie.spec Inv-loop μ-loop (λ c κs. search needs) (λ c κs. search needs) loop-holds (λ c. search needs)
+    (λ c κs. search needs) (λ c. search needs) (λ c. search needs) loop-again is-held-requires (λ c. search needs)
+    loop-again-2 (λ c. search needs) (λ c. search needs) loop-again-3 returns)

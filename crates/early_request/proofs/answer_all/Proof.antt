@@ -20,9 +20,6 @@ abbrev μ-loop : tie.MeasureT-loop
 loop-holds : tie.Need-loop-holds Inv-loop μ-loop
 loop-holds c = going-start (c .before .before .before .before .before .args .t1) (c .before .before .before .before .before .args .marks) (c .before .before .before .before .before .args .words .now) (c .before .before .before .before .before .args .site) (c .before .before .before .before .before .args .threads .at) (c .before .before .before .before .before .args .ks .now) (c .before .before .before .before .before .args .answers .now) (c .before .before .before .before .before .pre .0)
 
-shared-slice-read-k : tie.Need-shared-slice-read-k Inv-loop μ-loop
-shared-slice-read-k c = omega arith
-
 segment-of-requires : tie.Need-segment-of-requires Inv-loop μ-loop
 segment-of-requires c κs = fit-threads-few (c .before .before .before .before .before .before .before .before .args .t1) (c .before .before .before .before .before .before .before .before .args .marks) (c .before .before .before .before .before .before .before .before .args .words .now) (c .before .before .loop .s) (c .before .before .loop .ts .at) (getD (c .before .before .before .before .before .before .before .before .args .ks .now) (c .before .before .loop .i) 0) (c .before .before .loop .inv .fit)
 
@@ -41,17 +38,11 @@ mul-put-answer c = omega (arith, c .before .before .before .before .before .loop
 put-answer-requires : tie.Need-put-answer-requires Inv-loop μ-loop
 put-answer-requires c κs = omega (arith, c .before .before .before .before .before .before .loop .inv .size, c .before .before .before .before .before .before .before .before .before .before .before .before .pre .1 .1)
 
-grants-in-requires : tie.Need-grants-in-requires Inv-loop μ-loop
-grants-in-requires c κs = search needs
-
 add-granted : tie.Need-add-granted Inv-loop μ-loop
 add-granted c = omega (arith, grantsIn-≤ (c .before .before .before .before .before .answered .result .answer) (c .grants-in .ensures), c .before .before .before .before .before .before .before .before .before .loop-test .taken, c .before .before .before .before .before .before .before .before .before .before .before .before .before .before .before .before .good .1 .1 .1 .1 .1 .1 .0 .0, c .before .before .before .before .before .before .before .before .before .before .loop .inv .few)
 
 add-i : tie.Need-add-i Inv-loop μ-loop
 add-i c = omega (arith, c .before .before .before .before .before .before .before .before .before .before .before .loop-test .taken, c .before .before .before .before .before .before .before .before .before .before .before .before .before .before .before .before .before .before .good .1 .1 .1 .1 .1 .1 .0 .0)
-
-loop-less : tie.Need-loop-less Inv-loop μ-loop
-loop-less c = omega arith
 
 loop-again : tie.Need-loop-again Inv-loop μ-loop
 loop-again c =
@@ -77,21 +68,6 @@ returns c =
 pub answer-all-spec : {M : Type 1} → statement M
 answer-all-spec =
     tie.close
-    (tie.spec
-    Inv-loop
-    μ-loop
-    loop-holds
-    shared-slice-read-k
-    segment-of-requires
-    mul-g
-    element-copy-out-g
-    answered-requires
-    mul-put-answer
-    put-answer-requires
-    grants-in-requires
-    add-granted
-    add-i
-    loop-less
-    loop-again
-    same-length
-    returns)
+    (tie.spec Inv-loop μ-loop loop-holds (λ c. omega arith) segment-of-requires mul-g element-copy-out-g
+    answered-requires mul-put-answer put-answer-requires (λ c κs. search needs) add-granted add-i (λ c. omega arith)
+    loop-again same-length returns)

@@ -6,15 +6,6 @@ use Rattle.early_request.proofs.AnsweredLaws.{answered-refused, answere
 use Rattle.early_request.proofs.answered.Statement.{statement}
 use Rattle.early_request.proofs.answered.Tie as tie
 
-listed-requires : tie.Need-listed-requires
-listed-requires c κs = search needs
-
-decide-requires : tie.Need-decide-requires
-decide-requires c κs = search needs
-
-refused-requires : tie.Need-refused-requires
-refused-requires c κs = search needs
-
 returns : tie.Need-returns
 returns c =
     let x = c .before .before .before .before .before .before .args in
@@ -33,10 +24,4 @@ returns-2 c =
 pub answered-spec : {M : Type 1} → statement M
 answered-spec =
     tie.close
-    (tie.spec
-    listed-requires
-    decide-requires
-    refused-requires
-    returns
-    run-grant-requires
-    returns-2)
+    (tie.spec (λ c κs. search needs) (λ c κs. search needs) (λ c κs. search needs) returns run-grant-requires returns-2)

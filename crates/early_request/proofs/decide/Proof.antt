@@ -16,18 +16,6 @@ returns c =
     let x = c .before .before .before .before .args in
     number-thread _ _ _ _ (x .t) (x .end .0) (x .t9 .at) (x .k .0) (omega arith)
 
-wide-requires : tie.Need-wide-requires
-wide-requires c κs = search needs
-
-mul-x : tie.Need-mul-x
-mul-x c = search needs
-
-element-copy-out-x : tie.Need-element-copy-out-x
-element-copy-out-x c = search needs
-
-enum-known-s : tie.Need-enum-known-s
-enum-known-s c = search needs
-
 returns-2 : tie.Need-returns-2
 unfolding numberOn
 returns-2 c =
@@ -42,9 +30,6 @@ returns-3 c =
     let x = c .before .before .before .before .before .before .before .before .before .before .before .before .args in
     number-late _ _ _ _ (x .t) (x .end .0) (x .t9 .at) (x .k .0) (omega arith) _ (ap (λ j. getD (x .t9 .at) j noThread .state) (sym (c .before .before .before .before .before .before .before .wide .ensures)) ∙ c .before .before .before .before .s .given .1) (omega arith)
 
-decide-ready-requires : tie.Need-decide-ready-requires
-decide-ready-requires c κs = search needs
-
 returns-4 : tie.Need-returns-4
 unfolding numberOn
 returns-4 c =
@@ -55,13 +40,5 @@ returns-4 c =
 pub decide-spec : {M : Type 1} → statement M
 decide-spec =
     tie.close
-    (tie.spec
-    returns
-    wide-requires
-    mul-x
-    element-copy-out-x
-    enum-known-s
-    returns-2
-    returns-3
-    decide-ready-requires
-    returns-4)
+    (tie.spec returns (λ c κs. search needs) (λ c. search needs) (λ c. search needs) (λ c. search needs) returns-2
+    returns-3 (λ c κs. search needs) returns-4)

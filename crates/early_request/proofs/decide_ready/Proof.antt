@@ -7,20 +7,11 @@ use Rattle.early_request.proofs.AnsweredLaws.{same-hazard, ready-hazard
 use Rattle.early_request.proofs.decide_ready.Statement.{statement}
 use Rattle.early_request.proofs.decide_ready.Tie as tie
 
-outlook-of-requires : tie.Need-outlook-of-requires
-outlook-of-requires c κs = search needs
-
-hazard-requires : tie.Need-hazard-requires
-hazard-requires c κs = search needs
-
 returns : tie.Need-returns
 returns c =
     let x = c .before .before .before .before .before .before .before .args in
     let seen = same-hazard (x .n) (x .t) (x .marks) (x .words .now) (x .reach .now) (logOf (x .site)) (x .threads .at) (x .at .thread .0) (x .at .cycle) (omega arith) _ _ (c .before .before .before .before .outlook-of .ensures) in
     ready-hazard _ _ _ _ _ (sym seen ∙ (sym (c .before .hazard .ensures) ∙ c .if1 .taken))
-
-is-full-requires : tie.Need-is-full-requires
-is-full-requires c κs = search needs
 
 returns-2 : tie.Need-returns-2
 returns-2 c =
@@ -37,4 +28,4 @@ returns-3 c =
 pub decide-ready-spec : {M : Type 1} → statement M
 decide-ready-spec =
     tie.close
-    (tie.spec outlook-of-requires hazard-requires returns is-full-requires returns-2 returns-3)
+    (tie.spec (λ c κs. search needs) (λ c κs. search needs) returns (λ c κs. search needs) returns-2 returns-3)

@@ -8,33 +8,6 @@ use Rattle.early_request.proofs.AnsweredLaws.{finish-made}
 use Rattle.early_request.proofs.finish.Statement.{statement}
 use Rattle.early_request.proofs.finish.Tie as tie
 
-wide-requires : tie.Need-wide-requires
-wide-requires c κs = search needs
-
-mul-x : tie.Need-mul-x
-mul-x c = search needs
-
-element-copy-out-x : tie.Need-element-copy-out-x
-element-copy-out-x c = search needs
-
-note-requires : tie.Need-note-requires
-note-requires c κs = search needs
-
-mul-thread : tie.Need-mul-thread
-mul-thread c = search needs
-
-element-set-from-thread : tie.Need-element-set-from-thread
-element-set-from-thread c = search needs
-
-settle-requires : tie.Need-settle-requires
-settle-requires c κs = search needs
-
-floor-of-requires : tie.Need-floor-of-requires
-floor-of-requires c κs = search needs
-
-drop-before-requires : tie.Need-drop-before-requires
-drop-before-requires c κs = search needs
-
 returns : tie.Need-returns
 returns c =
     let start = c .before .before .before .before .before .before .before .before .before .before .before .before in
@@ -47,14 +20,5 @@ returns c =
 pub finish-spec : {M : Type 1} → statement M
 finish-spec =
     tie.close
-    (tie.spec
-    wide-requires
-    mul-x
-    element-copy-out-x
-    note-requires
-    mul-thread
-    element-set-from-thread
-    settle-requires
-    floor-of-requires
-    drop-before-requires
-    returns)
+    (tie.spec (λ c κs. search needs) (λ c. search needs) (λ c. search needs) (λ c κs. search needs) (λ c. search needs)
+    (λ c. search needs) (λ c κs. search needs) (λ c κs. search needs) (λ c κs. search needs) returns)

@@ -6,15 +6,6 @@ use Rattle.early_request.proofs.FreshLaws.{fresh-refused, fresh-accepte
 use Rattle.early_request.proofs.fresh.Statement.{statement}
 use Rattle.early_request.proofs.fresh.Tie as tie
 
-fresh-site-requires : tie.Need-fresh-site-requires
-fresh-site-requires c κs = search needs
-
-model-fault-requires : tie.Need-model-fault-requires
-model-fault-requires c κs = search needs
-
-no-threads-requires : tie.Need-no-threads-requires
-no-threads-requires c κs = search needs
-
 returns : tie.Need-returns
 returns c =
     fresh-refused (c .before .before .before .before .args .m) _ _ (c .before .before .before .fresh-site .ensures) (λ e. c .before .if1 .taken (c .before .before .model-fault .ensures ∙ e)) (c .no-threads .ensures)
@@ -29,10 +20,5 @@ returns-2 c =
 pub fresh-spec : {M : Type 1} → statement M
 fresh-spec =
     tie.close
-    (tie.spec
-    fresh-site-requires
-    model-fault-requires
-    no-threads-requires
-    returns
-    fresh-threads-requires
+    (tie.spec (λ c κs. search needs) (λ c κs. search needs) (λ c κs. search needs) returns fresh-threads-requires
     returns-2)

@@ -14,29 +14,8 @@ Inv-loop m count n ts₀ k₀ ts k = (k ≤ n) × (ts .at ≡ startedTo m k)
 abbrev μ-loop : tie.MeasureT-loop
 μ-loop m count n ts₀ k₀ ts k = n - k
 
-wide-requires : tie.Need-wide-requires Inv-loop μ-loop
-wide-requires c κs = search needs
-
-no-threads-requires : tie.Need-no-threads-requires Inv-loop μ-loop
-no-threads-requires c κs = search needs
-
 loop-holds : tie.Need-loop-holds Inv-loop μ-loop
 loop-holds c = (omega arith, started-none (c .before .before .args .t1) _ (ap (λ (x : Threads). x .at) (c .no-threads .ensures)))
-
-element-copy-out-s : tie.Need-element-copy-out-s Inv-loop μ-loop
-element-copy-out-s c = omega arith
-
-mul-t18 : tie.Need-mul-t18 Inv-loop μ-loop
-mul-t18 c = omega arith
-
-element-set-from-ts : tie.Need-element-set-from-ts Inv-loop μ-loop
-element-set-from-ts c = omega arith
-
-add-k : tie.Need-add-k Inv-loop μ-loop
-add-k c = omega arith
-
-loop-less : tie.Need-loop-less Inv-loop μ-loop
-loop-less c = omega arith
 
 loop-again : tie.Need-loop-again Inv-loop μ-loop
 loop-again c = (omega arith, started-more (c .before .before .before .before .before .args .t1) (c .before .before .loop .ts .at) (c .before .before .loop .k) (omega arith) (c .before .before .loop .inv .1))
@@ -47,16 +26,5 @@ returns c = started-all (c .before .before .before .before .args .t1) _ (c .befo
 pub fresh-threads-spec : {M : Type 1} → statement M
 fresh-threads-spec =
     tie.close
-    (tie.spec
-    Inv-loop
-    μ-loop
-    wide-requires
-    no-threads-requires
-    loop-holds
-    element-copy-out-s
-    mul-t18
-    element-set-from-ts
-    add-k
-    loop-less
-    loop-again
-    returns)
+    (tie.spec Inv-loop μ-loop (λ c κs. search needs) (λ c κs. search needs) loop-holds (λ c. omega arith)
+    (λ c. omega arith) (λ c. omega arith) (λ c. omega arith) (λ c. omega arith) loop-again returns)

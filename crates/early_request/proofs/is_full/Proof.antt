@@ -8,20 +8,11 @@ use Rattle.early_request.proofs.AnsweredLaws.{floor-few, full-over, ful
 use Rattle.early_request.proofs.is_full.Statement.{statement}
 use Rattle.early_request.proofs.is_full.Tie as tie
 
-places-with-requires : tie.Need-places-with-requires
-places-with-requires c κs = search needs
-
 returns : tie.Need-returns
 returns c = full-over _ _ _ _ (c .before .places-with .ensures) (c .if1 .taken)
 
 returns-2 : tie.Need-returns-2
 returns-2 c = full-few _ _ _ _ (c .before .before .places-with .ensures) (omega arith)
-
-floor-of-requires : tie.Need-floor-of-requires
-floor-of-requires c κs = search needs
-
-is-bound-before-requires : tie.Need-is-bound-before-requires
-is-bound-before-requires c κs = search needs
 
 returns-3 : tie.Need-returns-3
 returns-3 c =
@@ -32,4 +23,4 @@ returns-3 c =
 pub is-full-spec : {M : Type 1} → statement M
 is-full-spec =
     tie.close
-    (tie.spec places-with-requires returns returns-2 floor-of-requires is-bound-before-requires returns-3)
+    (tie.spec (λ c κs. search needs) returns returns-2 (λ c κs. search needs) (λ c κs. search needs) returns-3)

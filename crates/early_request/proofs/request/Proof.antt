@@ -9,20 +9,8 @@ use Rattle.early_request.proofs.FitAnswerLaws.{request-unfit, fit-threa
 use Rattle.early_request.proofs.request.Statement.{statement}
 use Rattle.early_request.proofs.request.Tie as tie
 
-is-unfit-requires : tie.Need-is-unfit-requires
-is-unfit-requires c κs = search needs
-
-refused-requires : tie.Need-refused-requires
-refused-requires c κs = search needs
-
 returns : tie.Need-returns
 returns c = c .refused .ensures ∙ request-unfit (c .before .before .before .before .args .t1) (c .before .before .before .before .args .marks) (c .before .before .before .before .args .words .now) (c .before .before .before .before .args .site) (c .before .before .before .before .args .threads .at) (c .before .before .before .before .args .k .0) (sym (c .before .before .is-unfit .ensures) ∙ c .before .if1 .taken)
-
-slice-aggregate-fill-reach : tie.Need-slice-aggregate-fill-reach
-slice-aggregate-fill-reach c = search needs
-
-fill-reach-requires : tie.Need-fill-reach-requires
-fill-reach-requires c κs = search needs
 
 segment-of-requires : tie.Need-segment-of-requires
 segment-of-requires c κs = fit-threads-few (c .before .before .before .before .before .before .before .args .t1) (c .before .before .before .before .before .before .before .args .marks) (c .before .before .before .before .before .before .before .args .words .now) (c .before .before .before .before .before .before .before .args .site) (c .before .before .before .before .before .before .before .args .threads .at) (c .before .before .before .before .before .before .before .args .k .0) (sym (c .before .before .before .before .before .is-unfit .ensures) ∙ c .before .before .before .before .if1 .left)
@@ -32,9 +20,6 @@ mul-g c = omega (arith, c .segment-of .ensures, fit-segment-few (c .before .befo
 
 element-copy-out-g : tie.Need-element-copy-out-g
 element-copy-out-g c = omega (arith, c .segment-of .ensures, fit-segment-few (c .before .before .before .before .before .before .before .before .args .t1) (c .before .before .before .before .before .before .before .before .args .marks) (c .before .before .before .before .before .before .before .before .args .words .now) (c .before .before .before .before .before .before .before .before .args .site) (c .before .before .before .before .before .before .before .before .args .threads .at) (c .before .before .before .before .before .before .before .before .args .k .0) (sym (c .before .before .before .before .before .before .is-unfit .ensures) ∙ c .before .before .before .before .before .if1 .left))
-
-slice-aggregate-answered : tie.Need-slice-aggregate-answered
-slice-aggregate-answered c = search needs
 
 answered-requires : tie.Need-answered-requires
 answered-requires c κs = fit-threads-few (c .before .before .before .before .before .before .before .before .before .before .args .t1) (c .before .before .before .before .before .before .before .before .before .before .args .marks) (c .before .before .before .before .before .before .before .before .before .before .args .words .now) (c .before .before .before .before .before .before .before .before .before .before .args .site) (c .before .before .before .before .before .before .before .before .before .before .args .threads .at) (c .before .before .before .before .before .before .before .before .before .before .args .k .0) (sym (c .before .before .before .before .before .before .before .before .is-unfit .ensures) ∙ c .before .before .before .before .before .before .before .if1 .left)
@@ -48,15 +33,5 @@ returns-2 c =
 pub request-spec : {M : Type 1} → statement M
 request-spec =
     tie.close
-    (tie.spec
-    is-unfit-requires
-    refused-requires
-    returns
-    slice-aggregate-fill-reach
-    fill-reach-requires
-    segment-of-requires
-    mul-g
-    element-copy-out-g
-    slice-aggregate-answered
-    answered-requires
-    returns-2)
+    (tie.spec (λ c κs. search needs) (λ c κs. search needs) returns (λ c. search needs) (λ c κs. search needs)
+    segment-of-requires mul-g element-copy-out-g (λ c. search needs) answered-requires returns-2)

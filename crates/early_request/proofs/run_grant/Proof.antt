@@ -5,21 +5,6 @@ use Rattle.early_request.proofs.AnsweredLaws.{run-room, run-made}
 use Rattle.early_request.proofs.run_grant.Statement.{statement}
 use Rattle.early_request.proofs.run_grant.Tie as tie
 
-wide-requires : tie.Need-wide-requires
-wide-requires c κs = search needs
-
-mul-x : tie.Need-mul-x
-mul-x c = search needs
-
-element-copy-out-x : tie.Need-element-copy-out-x
-element-copy-out-x c = search needs
-
-cycle-of-requires : tie.Need-cycle-of-requires
-cycle-of-requires c κs = search needs
-
-effect-in-requires : tie.Need-effect-in-requires
-effect-in-requires c κs = search needs
-
 finish-requires : tie.Need-finish-requires
 finish-requires c κs =
     let start = c .before .before .before .before .before .before in
@@ -34,11 +19,5 @@ returns c =
 pub run-grant-spec : {M : Type 1} → statement M
 run-grant-spec =
     tie.close
-    (tie.spec
-    wide-requires
-    mul-x
-    element-copy-out-x
-    cycle-of-requires
-    effect-in-requires
-    finish-requires
-    returns)
+    (tie.spec (λ c κs. search needs) (λ c. search needs) (λ c. search needs) (λ c κs. search needs)
+    (λ c κs. search needs) finish-requires returns)

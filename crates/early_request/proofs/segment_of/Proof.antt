@@ -10,22 +10,11 @@ use Rattle.early_request.proofs.segment_of.Tie as tie
 returns : tie.Need-returns
 returns c = rw (le-ltb (c .before .args .k) (c .before .args .t) (omega arith)) refl
 
-wide-requires : tie.Need-wide-requires
-wide-requires c κs = search needs
-
-mul-x : tie.Need-mul-x
-mul-x c = search needs
-
-element-copy-out-x : tie.Need-element-copy-out-x
-element-copy-out-x c = search needs
-
-wide-requires-2 : tie.Need-wide-requires-2
-wide-requires-2 c κs = search needs
-
 returns-2 : tie.Need-returns-2
 unfolding threadAt
 returns-2 c = rw (lt-ltb (c .before .before .before .before .args .k) (c .before .before .before .before .args .t) (omega arith), ← c .before .before .wide .ensures) (c .wide2 .ensures)
 
 pub segment-of-spec : {M : Type 1} → statement M
 segment-of-spec =
-    tie.close (tie.spec returns wide-requires mul-x element-copy-out-x wide-requires-2 returns-2)
+    tie.close
+    (tie.spec returns (λ c κs. search needs) (λ c. search needs) (λ c. search needs) (λ c κs. search needs) returns-2)

@@ -23,17 +23,8 @@ returns c = areRecordsHeld-short (c .before .before .args .records .now) (c .if1
 loop-holds : tie.Need-loop-holds Inv-loop μ-loop
 loop-holds c = (omega arith, below-none _)
 
-is-record-held-requires : tie.Need-is-record-held-requires Inv-loop μ-loop
-is-record-held-requires c κs = search needs
-
 returns-2 : tie.Need-returns-2 Inv-loop μ-loop
 returns-2 c = areRecordsHeld-record (c .before .before .before .before .before .before .args .records .now) (c .before .before .before .loop .k) (c .before .before .before .before .if1 .left) (omega arith) (sym (c .before .is-record-held .ensures) ∙ not-true _ (c .if2 .taken))
-
-add-k : tie.Need-add-k Inv-loop μ-loop
-add-k c = search needs
-
-loop-less : tie.Need-loop-less Inv-loop μ-loop
-loop-less c = search needs
 
 loop-again : tie.Need-loop-again Inv-loop μ-loop
 loop-again c = (omega arith, below-more _ _ (c .before .before .before .loop .inv .1) (sym (c .before .is-record-held .ensures) ∙ not-false _ (c .if2 .left)))
@@ -44,14 +35,5 @@ returns-3 c = areRecordsHeld-all (c .before .before .before .before .args .recor
 pub are-records-held-spec : {M : Type 1} → statement M
 are-records-held-spec =
     tie.close
-    (tie.spec
-    Inv-loop
-    μ-loop
-    returns
-    loop-holds
-    is-record-held-requires
-    returns-2
-    add-k
-    loop-less
-    loop-again
-    returns-3)
+    (tie.spec Inv-loop μ-loop returns loop-holds (λ c κs. search needs) returns-2 (λ c. search needs)
+    (λ c. search needs) loop-again returns-3)

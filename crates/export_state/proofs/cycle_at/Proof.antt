@@ -4,14 +4,8 @@ use borrow.Author.Needs.{needs}
 use Rattle.export_state.proofs.cycle_at.Statement.{statement}
 use Rattle.export_state.proofs.cycle_at.Tie as tie
 
-word-at-requires : tie.Need-word-at-requires
-word-at-requires c κs = search needs
-
-delta-at-requires : tie.Need-delta-at-requires
-delta-at-requires c κs = search needs
-
 returns : tie.Need-returns
 returns c = rw (c .before .word-at .ensures, c .delta-at .ensures) refl
 
 pub cycle-at-spec : {M : Type 1} → statement M
-cycle-at-spec = tie.close (tie.spec word-at-requires delta-at-requires returns)
+cycle-at-spec = tie.close (tie.spec (λ c κs. search needs) (λ c κs. search needs) returns)

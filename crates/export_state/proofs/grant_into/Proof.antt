@@ -9,18 +9,6 @@ use Rattle.export_state.proofs.grant_into.Tie as tie
 returns : tie.Need-returns
 returns c = let x = c .before .before .args in placedIn-short (x .s ∷ x .c .time .0 ∷ x .c .delta .0 ∷ []) (x .answer .now) (c .if1 .taken)
 
-cycle-words-requires : tie.Need-cycle-words-requires
-cycle-words-requires c κs = search needs
-
-slice-aggregate-put-words : tie.Need-slice-aggregate-put-words
-slice-aggregate-put-words c = search needs
-
-put-words-requires : tie.Need-put-words-requires
-put-words-requires c κs = search needs
-
-same-length : tie.Need-same-length
-same-length c = search needs
-
 returns-2 : tie.Need-returns-2
 returns-2 c =
     let w = c .before .before .before .before .before in
@@ -30,10 +18,4 @@ returns-2 c =
 pub grant-into-spec : {M : Type 1} → statement M
 grant-into-spec =
     tie.close
-    (tie.spec
-    returns
-    cycle-words-requires
-    slice-aggregate-put-words
-    put-words-requires
-    same-length
-    returns-2)
+    (tie.spec returns (λ c κs. search needs) (λ c. search needs) (λ c κs. search needs) (λ c. search needs) returns-2)

@@ -20,26 +20,14 @@ abbrev μ-loop : tie.MeasureT-loop
 returns : tie.Need-returns Inv-loop μ-loop
 returns c = isLogHeld-short (c .before .before .args .log .now) (c .if1 .taken)
 
-shared-slice-read-if2 : tie.Need-shared-slice-read-if2 Inv-loop μ-loop
-shared-slice-read-if2 c = search needs
-
 returns-2 : tie.Need-returns-2 Inv-loop μ-loop
 returns-2 c = isLogHeld-count (c .before .before .before .before .args .log .now) (c .before .before .if1 .left) (c .if2 .taken)
 
 loop-holds : tie.Need-loop-holds Inv-loop μ-loop
 loop-holds c = (omega arith, below-none _)
 
-is-pair-held-requires : tie.Need-is-pair-held-requires Inv-loop μ-loop
-is-pair-held-requires c κs = search needs
-
 returns-3 : tie.Need-returns-3 Inv-loop μ-loop
 returns-3 c = isLogHeld-pair (c .before .before .before .before .before .before .before .before .args .log .now) (c .before .before .before .loop .i) (c .before .before .before .before .before .before .if1 .left) (c .before .before .before .before .if2 .left) (omega arith) (sym (c .before .is-pair-held .ensures) ∙ not-true _ (c .if3 .taken))
-
-add-i : tie.Need-add-i Inv-loop μ-loop
-add-i c = search needs
-
-loop-less : tie.Need-loop-less Inv-loop μ-loop
-loop-less c = search needs
 
 loop-again : tie.Need-loop-again Inv-loop μ-loop
 loop-again c = (omega arith, below-more _ _ (c .before .before .before .loop .inv .1) (sym (c .before .is-pair-held .ensures) ∙ not-false _ (c .if3 .left)))
@@ -50,16 +38,5 @@ returns-4 c = isLogHeld-all (c .before .before .before .before .before .before .
 pub is-log-held-spec : {M : Type 1} → statement M
 is-log-held-spec =
     tie.close
-    (tie.spec
-    Inv-loop
-    μ-loop
-    returns
-    shared-slice-read-if2
-    returns-2
-    loop-holds
-    is-pair-held-requires
-    returns-3
-    add-i
-    loop-less
-    loop-again
-    returns-4)
+    (tie.spec Inv-loop μ-loop returns (λ c. search needs) returns-2 loop-holds (λ c κs. search needs) returns-3
+    (λ c. search needs) (λ c. search needs) loop-again returns-4)

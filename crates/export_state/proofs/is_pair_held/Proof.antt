@@ -4,21 +4,6 @@ use Rattle.export_state.proofs.HeldLaws.{isPairHeld-low, isPairHeld-hig
 use Rattle.export_state.proofs.is_pair_held.Statement.{statement}
 use Rattle.export_state.proofs.is_pair_held.Tie as tie
 
-mul-p : tie.Need-mul-p
-mul-p c = search needs
-
-add-word-at : tie.Need-add-word-at
-add-word-at c = search needs
-
-word-at-requires : tie.Need-word-at-requires
-word-at-requires c κs = search needs
-
-add-word-at-2 : tie.Need-add-word-at-2
-add-word-at-2 c = search needs
-
-word-at-requires-2 : tie.Need-word-at-requires-2
-word-at-requires-2 c κs = search needs
-
 returns : tie.Need-returns
 returns c = isPairHeld-low (c .before .before .before .before .args .log .now) (c .before .before .before .before .args .i) _ _ (c .before .before .word-at .ensures) (c .word-at2 .ensures) (c .before .if1 .taken)
 
@@ -28,11 +13,5 @@ returns-2 c = isPairHeld-high (c .before .before .before .args .log .now) (c .be
 pub is-pair-held-spec : {M : Type 1} → statement M
 is-pair-held-spec =
     tie.close
-    (tie.spec
-    mul-p
-    add-word-at
-    word-at-requires
-    add-word-at-2
-    word-at-requires-2
-    returns
-    returns-2)
+    (tie.spec (λ c. search needs) (λ c. search needs) (λ c κs. search needs) (λ c. search needs) (λ c κs. search needs)
+    returns returns-2)

@@ -4,38 +4,11 @@ use Rattle.export_state.proofs.HeldLaws.{isRecordHeld-segment, isRecord
 use Rattle.export_state.proofs.is_record_held.Statement.{statement}
 use Rattle.export_state.proofs.is_record_held.Tie as tie
 
-mul-p : tie.Need-mul-p
-mul-p c = search needs
-
-add-word-at : tie.Need-add-word-at
-add-word-at c = search needs
-
-word-at-requires : tie.Need-word-at-requires
-word-at-requires c κs = search needs
-
-word-at-requires-2 : tie.Need-word-at-requires-2
-word-at-requires-2 c κs = search needs
-
 returns : tie.Need-returns
 returns c = isRecordHeld-segment (c .before .before .before .before .args .records .now) (c .before .before .before .before .args .k) _ (c .before .word-at2 .ensures) (c .if1 .taken)
 
 returns-2 : tie.Need-returns-2
 returns-2 c = isRecordHeld-state (c .before .before .before .before .before .args .records .now) (c .before .before .before .before .before .args .k) _ _ (c .before .before .word-at2 .ensures) (c .before .if1 .left) (c .before .before .before .word-at .ensures) (c .if2 .taken)
-
-add-word-at-2 : tie.Need-add-word-at-2
-add-word-at-2 c = search needs
-
-word-at-requires-3 : tie.Need-word-at-requires-3
-word-at-requires-3 c κs = search needs
-
-is-event-held-requires : tie.Need-is-event-held-requires
-is-event-held-requires c κs = search needs
-
-add-word-at-3 : tie.Need-add-word-at-3
-add-word-at-3 c = search needs
-
-word-at-requires-4 : tie.Need-word-at-requires-4
-word-at-requires-4 c κs = search needs
 
 returns-3 : tie.Need-returns-3
 returns-3 c = isRecordHeld-delta (c .before .before .before .before .before .before .before .before .before .args .records .now) (c .before .before .before .before .before .before .before .before .before .args .k) _ _ _ _ _ (c .before .before .before .before .before .before .word-at2 .ensures) (c .before .before .before .before .before .if1 .left) (c .before .before .before .before .before .before .before .word-at .ensures) (c .before .before .before .before .if2 .left) (c .before .before .before .word-at3 .ensures) (c .before .before .is-event-held .ensures) (c .before .if3 .taken) (c .word-at4 .ensures)
@@ -46,17 +19,6 @@ returns-4 c = isRecordHeld-event (c .before .before .before .before .before .bef
 pub is-record-held-spec : {M : Type 1} → statement M
 is-record-held-spec =
     tie.close
-    (tie.spec
-    mul-p
-    add-word-at
-    word-at-requires
-    word-at-requires-2
-    returns
-    returns-2
-    add-word-at-2
-    word-at-requires-3
-    is-event-held-requires
-    add-word-at-3
-    word-at-requires-4
-    returns-3
-    returns-4)
+    (tie.spec (λ c. search needs) (λ c. search needs) (λ c κs. search needs) (λ c κs. search needs) returns returns-2
+    (λ c. search needs) (λ c κs. search needs) (λ c κs. search needs) (λ c. search needs) (λ c κs. search needs)
+    returns-3 returns-4)

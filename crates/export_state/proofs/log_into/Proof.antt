@@ -14,12 +14,6 @@ use Rattle.export_state.proofs.log_into.Tie as tie
 returns : tie.Need-returns
 returns c = let s = c .before .before in placedIn-short (logWords (s .args .site)) (s .args .out .now) (omega (arith, logWords-length (s .args .site) (log-length (s .args .site) _ (s .good .0))))
 
-long-byte-requires : tie.Need-long-byte-requires
-long-byte-requires c κs = search needs
-
-slice-write-out : tie.Need-slice-write-out
-slice-write-out c = search needs
-
 put-places-requires : tie.Need-put-places-requires
 put-places-requires c κs = let s = c .before .before .before .before .before in (log-length (s .args .site) _ (s .good .0), simp length-set (omega arith))
 
@@ -35,4 +29,4 @@ returns-2 c =
 pub log-into-spec : {M : Type 1} → statement M
 log-into-spec =
     tie.close
-    (tie.spec returns long-byte-requires slice-write-out put-places-requires same-length returns-2)
+    (tie.spec returns (λ c κs. search needs) (λ c. search needs) put-places-requires same-length returns-2)

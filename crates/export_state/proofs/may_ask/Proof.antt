@@ -4,9 +4,6 @@ use borrow.Author.Needs.{needs}
 use Rattle.export_state.proofs.may_ask.Statement.{statement}
 use Rattle.export_state.proofs.may_ask.Tie as tie
 
-are-held-requires : tie.Need-are-held-requires
-are-held-requires c κs = search needs
-
 returns : tie.Need-returns
 returns c = rw (← c .before .are-held .ensures, c .if1 .taken) refl
 
@@ -14,4 +11,4 @@ returns-2 : tie.Need-returns-2
 returns-2 c = rw (← c .before .are-held .ensures, c .if1 .left) refl
 
 pub may-ask-spec : {M : Type 1} → statement M
-may-ask-spec = tie.close (tie.spec are-held-requires returns returns-2)
+may-ask-spec = tie.close (tie.spec (λ c κs. search needs) returns returns-2)

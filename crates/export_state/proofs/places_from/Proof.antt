@@ -16,26 +16,8 @@ Inv-loop log places₀ i₀ places i = (i ≤ 128) × (places ≡ sets places₀
 abbrev μ-loop : tie.MeasureT-loop
 μ-loop log places₀ i₀ places i = 128 - i
 
-pair-at-requires : tie.Need-pair-at-requires Inv-loop μ-loop
-pair-at-requires c κs = search needs
-
 loop-holds : tie.Need-loop-holds Inv-loop μ-loop
 loop-holds c = (omega arith, tabulate-none _ _)
-
-pair-at-requires-2 : tie.Need-pair-at-requires-2 Inv-loop μ-loop
-pair-at-requires-2 c κs = search needs
-
-mul-places : tie.Need-mul-places Inv-loop μ-loop
-mul-places c = search needs
-
-array-set-from-places : tie.Need-array-set-from-places Inv-loop μ-loop
-array-set-from-places c = search needs
-
-add-i : tie.Need-add-i Inv-loop μ-loop
-add-i c = search needs
-
-loop-less : tie.Need-loop-less Inv-loop μ-loop
-loop-less c = search needs
 
 loop-again : tie.Need-loop-again Inv-loop μ-loop
 loop-again c = (omega arith, tabulate-stored _ (c .before .before .loop .places) (c .before .before .loop .i) (pairAt (c .before .before .before .before .before .args .log .now)) _ (c .before .before .loop .inv .1) (c .pair-at2 .ensures))
@@ -48,15 +30,5 @@ returns c =
 pub places-from-spec : {M : Type 1} → statement M
 places-from-spec =
     tie.close
-    (tie.spec
-    Inv-loop
-    μ-loop
-    pair-at-requires
-    loop-holds
-    pair-at-requires-2
-    mul-places
-    array-set-from-places
-    add-i
-    loop-less
-    loop-again
-    returns)
+    (tie.spec Inv-loop μ-loop (λ c κs. search needs) loop-holds (λ c κs. search needs) (λ c. search needs)
+    (λ c. search needs) (λ c. search needs) (λ c. search needs) loop-again returns)

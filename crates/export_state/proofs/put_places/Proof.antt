@@ -20,33 +20,6 @@ abbrev μ-loop : tie.MeasureT-loop
 loop-holds : tie.Need-loop-holds Inv-loop μ-loop
 loop-holds c = (omega arith, refl, inTurn-none pairWords (c .before .args .t1) _ 1)
 
-mul-x : tie.Need-mul-x Inv-loop μ-loop
-mul-x c = search needs
-
-array-copy-out-x : tie.Need-array-copy-out-x Inv-loop μ-loop
-array-copy-out-x c = search needs
-
-cycle-words-requires : tie.Need-cycle-words-requires Inv-loop μ-loop
-cycle-words-requires c κs = search needs
-
-mul-put-words : tie.Need-mul-put-words Inv-loop μ-loop
-mul-put-words c = search needs
-
-add-put-words : tie.Need-add-put-words Inv-loop μ-loop
-add-put-words c = search needs
-
-slice-aggregate-put-words : tie.Need-slice-aggregate-put-words Inv-loop μ-loop
-slice-aggregate-put-words c = search needs
-
-put-words-requires : tie.Need-put-words-requires Inv-loop μ-loop
-put-words-requires c κs = search needs
-
-add-i : tie.Need-add-i Inv-loop μ-loop
-add-i c = search needs
-
-loop-less : tie.Need-loop-less Inv-loop μ-loop
-loop-less c = search needs
-
 loop-again : tie.Need-loop-again Inv-loop μ-loop
 loop-again c =
     let w = c .before .before .before .before .before in
@@ -55,9 +28,6 @@ loop-again c =
     let stored = (c .before .before .put-words .ensures) ∙ ap (sets (l .out) (3 * l .i + 1)) (w .cycle-words .ensures) in
     let e = stored ∙ inTurn-stored pairWords 3 pairWords-length (s .args .t1) (s .args .out .now) (l .out) 1 (l .i) _ _ (omega arith) (l .inv .2) (omega arith) in
     (omega arith, ap length e ∙ length-sets _ 1 (inTurn pairWords (take (l .i + 1) (s .args .t1))), e)
-
-same-length : tie.Need-same-length Inv-loop μ-loop
-same-length c = search needs
 
 returns : tie.Need-returns Inv-loop μ-loop
 returns c =
@@ -68,19 +38,6 @@ returns c =
 pub put-places-spec : {M : Type 1} → statement M
 put-places-spec =
     tie.close
-    (tie.spec
-    Inv-loop
-    μ-loop
-    loop-holds
-    mul-x
-    array-copy-out-x
-    cycle-words-requires
-    mul-put-words
-    add-put-words
-    slice-aggregate-put-words
-    put-words-requires
-    add-i
-    loop-less
-    loop-again
-    same-length
-    returns)
+    (tie.spec Inv-loop μ-loop loop-holds (λ c. search needs) (λ c. search needs) (λ c κs. search needs)
+    (λ c. search needs) (λ c. search needs) (λ c. search needs) (λ c κs. search needs) (λ c. search needs)
+    (λ c. search needs) loop-again (λ c. search needs) returns)

@@ -5,21 +5,6 @@ use Rattle.export_state.proofs.StepLaws.{holding-stored}
 use Rattle.export_state.proofs.put_state.Statement.{statement}
 use Rattle.export_state.proofs.put_state.Tie as tie
 
-site-into-requires : tie.Need-site-into-requires
-site-into-requires c κs = search needs
-
-threads-into-requires : tie.Need-threads-into-requires
-threads-into-requires c κs = search needs
-
-same-length : tie.Need-same-length
-same-length c = search needs
-
-same-length-2 : tie.Need-same-length-2
-same-length-2 c = search needs
-
-same-length-3 : tie.Need-same-length-3
-same-length-3 c = search needs
-
 returns : tie.Need-returns
 returns c =
     let x = c .before .before .before .before .before .before .before .before .before .before .before .before .before .before .args in
@@ -29,10 +14,5 @@ returns c =
 pub put-state-spec : {M : Type 1} → statement M
 put-state-spec =
     tie.close
-    (tie.spec
-    site-into-requires
-    threads-into-requires
-    same-length
-    same-length-2
-    same-length-3
+    (tie.spec (λ c κs. search needs) (λ c κs. search needs) (λ c. search needs) (λ c. search needs) (λ c. search needs)
     returns)

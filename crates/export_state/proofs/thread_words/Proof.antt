@@ -4,36 +4,6 @@ use borrow.Author.Needs.{needs}
 use Rattle.export_state.proofs.thread_words.Statement.{statement}
 use Rattle.export_state.proofs.thread_words.Tie as tie
 
-long-byte-requires : tie.Need-long-byte-requires
-long-byte-requires c κs = search needs
-
-enum-known-s : tie.Need-enum-known-s
-enum-known-s c = search needs
-
-long-word-requires : tie.Need-long-word-requires
-long-word-requires c κs = search needs
-
-enum-known-s-2 : tie.Need-enum-known-s-2
-enum-known-s-2 c = search needs
-
-long-word-requires-2 : tie.Need-long-word-requires-2
-long-word-requires-2 c κs = search needs
-
-enum-known-s-3 : tie.Need-enum-known-s-3
-enum-known-s-3 c = search needs
-
-long-word-requires-3 : tie.Need-long-word-requires-3
-long-word-requires-3 c κs = search needs
-
-enum-known-s-4 : tie.Need-enum-known-s-4
-enum-known-s-4 c = search needs
-
-long-byte-requires-2 : tie.Need-long-byte-requires-2
-long-byte-requires-2 c κs = search needs
-
-long-word-requires-4 : tie.Need-long-word-requires-4
-long-word-requires-4 c κs = search needs
-
 returns : tie.Need-returns
 returns c = rw (c .before .before .s .given .1, c .long-word .ensures, c .before .before .before .before .long-byte .ensures) refl
 
@@ -49,18 +19,6 @@ returns-4 c = rw (c .before .before .before .s4 .given .1, c .long-word4 .ensure
 pub thread-words-spec : {M : Type 1} → statement M
 thread-words-spec =
     tie.close
-    (tie.spec
-    long-byte-requires
-    enum-known-s
-    long-word-requires
-    enum-known-s-2
-    long-word-requires-2
-    enum-known-s-3
-    long-word-requires-3
-    enum-known-s-4
-    long-byte-requires-2
-    long-word-requires-4
-    returns
-    returns-2
-    returns-3
-    returns-4)
+    (tie.spec (λ c κs. search needs) (λ c. search needs) (λ c κs. search needs) (λ c. search needs)
+    (λ c κs. search needs) (λ c. search needs) (λ c κs. search needs) (λ c. search needs) (λ c κs. search needs)
+    (λ c κs. search needs) returns returns-2 returns-3 returns-4)

@@ -16,26 +16,8 @@ Inv-loop records at₀ k₀ at k = (k ≤ 32) × (at ≡ sets at₀ 0 (tabulate 
 abbrev μ-loop : tie.MeasureT-loop
 μ-loop records at₀ k₀ at k = 32 - k
 
-thread-from-requires : tie.Need-thread-from-requires Inv-loop μ-loop
-thread-from-requires c κs = search needs
-
 loop-holds : tie.Need-loop-holds Inv-loop μ-loop
 loop-holds c = (omega arith, tabulate-none _ _)
-
-thread-from-requires-2 : tie.Need-thread-from-requires-2 Inv-loop μ-loop
-thread-from-requires-2 c κs = search needs
-
-mul-at : tie.Need-mul-at Inv-loop μ-loop
-mul-at c = search needs
-
-array-set-from-at : tie.Need-array-set-from-at Inv-loop μ-loop
-array-set-from-at c = search needs
-
-add-k : tie.Need-add-k Inv-loop μ-loop
-add-k c = search needs
-
-loop-less : tie.Need-loop-less Inv-loop μ-loop
-loop-less c = search needs
 
 loop-again : tie.Need-loop-again Inv-loop μ-loop
 loop-again c = (omega arith, tabulate-stored _ (c .before .before .loop .at) (c .before .before .loop .k) (threadFrom (c .before .before .before .before .before .args .records .now)) _ (c .before .before .loop .inv .1) (c .thread-from2 .ensures))
@@ -50,15 +32,5 @@ returns c =
 pub threads-from-spec : {M : Type 1} → statement M
 threads-from-spec =
     tie.close
-    (tie.spec
-    Inv-loop
-    μ-loop
-    thread-from-requires
-    loop-holds
-    thread-from-requires-2
-    mul-at
-    array-set-from-at
-    add-k
-    loop-less
-    loop-again
-    returns)
+    (tie.spec Inv-loop μ-loop (λ c κs. search needs) loop-holds (λ c κs. search needs) (λ c. search needs)
+    (λ c. search needs) (λ c. search needs) (λ c. search needs) loop-again returns)

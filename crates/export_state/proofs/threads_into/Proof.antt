@@ -27,30 +27,6 @@ returns c =
 loop-holds : tie.Need-loop-holds Inv-loop μ-loop
 loop-holds c = (omega arith, refl, inTurn-none threadWords (c .before .before .args .t1 .at) _ 0)
 
-mul-thread-words : tie.Need-mul-thread-words Inv-loop μ-loop
-mul-thread-words c = search needs
-
-element-copy-out-thread-words : tie.Need-element-copy-out-thread-words Inv-loop μ-loop
-element-copy-out-thread-words c = search needs
-
-thread-words-requires : tie.Need-thread-words-requires Inv-loop μ-loop
-thread-words-requires c κs = search needs
-
-mul-put-words : tie.Need-mul-put-words Inv-loop μ-loop
-mul-put-words c = search needs
-
-slice-aggregate-put-words : tie.Need-slice-aggregate-put-words Inv-loop μ-loop
-slice-aggregate-put-words c = search needs
-
-put-words-requires : tie.Need-put-words-requires Inv-loop μ-loop
-put-words-requires c κs = search needs
-
-add-k : tie.Need-add-k Inv-loop μ-loop
-add-k c = search needs
-
-loop-less : tie.Need-loop-less Inv-loop μ-loop
-loop-less c = search needs
-
 loop-again : tie.Need-loop-again Inv-loop μ-loop
 loop-again c =
     let w = c .before .before .before .before .before in
@@ -60,9 +36,6 @@ loop-again c =
     let stored = (c .before .before .put-words .ensures) ∙ ap (sets (l .records) (5 * l .k)) (w .thread-words .ensures) in
     let e = stored ∙ inTurn-stored threadWords 5 threadWords-length (s .args .t1 .at) (s .args .records .now) (l .records) 0 (l .k) _ _ (omega arith) (l .inv .2) (omega arith) in
     (omega arith, ap length e ∙ length-sets _ 0 (inTurn threadWords (take (l .k + 1) (s .args .t1 .at))), e)
-
-same-length : tie.Need-same-length Inv-loop μ-loop
-same-length c = search needs
 
 returns-2 : tie.Need-returns-2 Inv-loop μ-loop
 unfolding recordWords
@@ -75,19 +48,6 @@ returns-2 c =
 pub threads-into-spec : {M : Type 1} → statement M
 threads-into-spec =
     tie.close
-    (tie.spec
-    Inv-loop
-    μ-loop
-    returns
-    loop-holds
-    mul-thread-words
-    element-copy-out-thread-words
-    thread-words-requires
-    mul-put-words
-    slice-aggregate-put-words
-    put-words-requires
-    add-k
-    loop-less
-    loop-again
-    same-length
-    returns-2)
+    (tie.spec Inv-loop μ-loop returns loop-holds (λ c. search needs) (λ c. search needs) (λ c κs. search needs)
+    (λ c. search needs) (λ c. search needs) (λ c κs. search needs) (λ c. search needs) (λ c. search needs) loop-again
+    (λ c. search needs) returns-2)

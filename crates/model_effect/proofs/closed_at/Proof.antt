@@ -4,24 +4,6 @@ use Rattle.model_effect.proofs.EffectLaws.{closed-end, closed-time, clo
 use Rattle.model_effect.proofs.closed_at.Statement.{statement}
 use Rattle.model_effect.proofs.closed_at.Tie as tie
 
-enum-told : tie.Need-enum-told
-enum-told c = search needs
-
-enum-known-closer : tie.Need-enum-known-closer
-enum-known-closer c = search needs
-
-next-of-requires : tie.Need-next-of-requires
-next-of-requires c κs = search needs
-
-waited-requires : tie.Need-waited-requires
-waited-requires c κs = search needs
-
-enum-known-closer-2 : tie.Need-enum-known-closer-2
-enum-known-closer-2 c = search needs
-
-next-of-requires-2 : tie.Need-next-of-requires-2
-next-of-requires-2 c κs = search needs
-
 returns : tie.Need-returns
 returns c = closed-end _ _ _ _ (search needs)
 
@@ -34,13 +16,5 @@ returns-3 c = rw (c .next-of2 .ensures) (closed-event _ _ _ _ _ _ (c .before .be
 pub closed-at-spec : {M : Type 1} → statement M
 closed-at-spec =
     tie.close
-    (tie.spec
-    enum-told
-    enum-known-closer
-    next-of-requires
-    waited-requires
-    enum-known-closer-2
-    next-of-requires-2
-    returns
-    returns-2
-    returns-3)
+    (tie.spec (λ c. search needs) (λ c. search needs) (λ c κs. search needs) (λ c κs. search needs) (λ c. search needs)
+    (λ c κs. search needs) returns returns-2 returns-3)

@@ -18,23 +18,8 @@ Inv-loop g n w₀ j₀ w j = (j ≤ n) × (w .at ≡ execute (take j (bodyOf g))
 abbrev μ-loop : tie.MeasureT-loop
 μ-loop g n w₀ j₀ w j = n - j
 
-body-length-requires : tie.Need-body-length-requires Inv-loop μ-loop
-body-length-requires c κs = search needs
-
 loop-holds : tie.Need-loop-holds Inv-loop μ-loop
 loop-holds c = (omega arith, execute-none (bodyOf (c .before .args .g)) _)
-
-op-at-requires : tie.Need-op-at-requires Inv-loop μ-loop
-op-at-requires c κs = omega arith
-
-execute-op-requires : tie.Need-execute-op-requires Inv-loop μ-loop
-execute-op-requires c κs = search needs
-
-add-j : tie.Need-add-j Inv-loop μ-loop
-add-j c = omega arith
-
-loop-less : tie.Need-loop-less Inv-loop μ-loop
-loop-less c = omega arith
 
 loop-again : tie.Need-loop-again Inv-loop μ-loop
 loop-again c =
@@ -50,14 +35,5 @@ returns c = rw (← take-all (c .before .loop .j) (bodyOf (c .before .before .be
 pub execute-all-spec : {M : Type 1} → statement M
 execute-all-spec =
     tie.close
-    (tie.spec
-    Inv-loop
-    μ-loop
-    body-length-requires
-    loop-holds
-    op-at-requires
-    execute-op-requires
-    add-j
-    loop-less
-    loop-again
-    returns)
+    (tie.spec Inv-loop μ-loop (λ c κs. search needs) loop-holds (λ c κs. omega arith) (λ c κs. search needs)
+    (λ c. omega arith) (λ c. omega arith) loop-again returns)

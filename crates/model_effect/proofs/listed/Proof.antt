@@ -22,9 +22,6 @@ Inv-loop g n es₀ j₀ es j = (j ≤ n) × ((n ≤ 32) × (es ≡ heldEvents (n
 abbrev μ-loop : tie.MeasureT-loop
 μ-loop g n es₀ j₀ es j = n - j
 
-body-length-requires : tie.Need-body-length-requires Inv-loop μ-loop
-body-length-requires c κs = search needs
-
 loop-holds : tie.Need-loop-holds Inv-loop μ-loop
 loop-holds c =
     let g = c .before .args .g in (
@@ -32,21 +29,12 @@ loop-holds c =
       (omega (arith, bodyOf-length g, statements-length g _ (c .before .good .0)), rw (notifiedBy-none (bodyOf g)) heldEvents-none),
     )
 
-op-at-requires : tie.Need-op-at-requires Inv-loop μ-loop
-op-at-requires c κs = omega arith
-
 with-op-requires : tie.Need-with-op-requires Inv-loop μ-loop
 with-op-requires c κs =
     let xs = bodyOf (c .before .before .before .before .args .g) in
     let j = c .before .before .loop .j in
     let e = ap (λ (es : Events). es .n) (c .before .before .loop .inv .1 .1) ∙ heldEvents-count (notifiedBy (take j xs)) in
     omega (arith, notifiedBy-first xs j)
-
-add-j : tie.Need-add-j Inv-loop μ-loop
-add-j c = omega arith
-
-loop-less : tie.Need-loop-less Inv-loop μ-loop
-loop-less c = omega arith
 
 loop-again : tie.Need-loop-again Inv-loop μ-loop
 loop-again c =
@@ -73,14 +61,5 @@ returns c = rw (← take-all (c .before .loop .j) (bodyOf (c .before .before .be
 pub listed-spec : {M : Type 1} → statement M
 listed-spec =
     tie.close
-    (tie.spec
-    Inv-loop
-    μ-loop
-    body-length-requires
-    loop-holds
-    op-at-requires
-    with-op-requires
-    add-j
-    loop-less
-    loop-again
-    returns)
+    (tie.spec Inv-loop μ-loop (λ c κs. search needs) loop-holds (λ c κs. omega arith) with-op-requires
+    (λ c. omega arith) (λ c. omega arith) loop-again returns)

@@ -8,12 +8,6 @@ use Rattle.model_effect.proofs.next_of.Tie as tie
 returns : tie.Need-returns
 returns c = nextOf-untested _ _ (omega arith)
 
-cast-value : tie.Need-cast-value
-cast-value c = search needs
-
-value-requires : tie.Need-value-requires
-value-requires c κs = search needs
-
 returns-2 : tie.Need-returns-2
 returns-2 c = nextOf-below _ _ (λ e. omega arith) (omega arith)
 
@@ -21,4 +15,4 @@ returns-3 : tie.Need-returns-3
 returns-3 c = nextOf-above _ _ (λ e. omega arith) (omega arith)
 
 pub next-of-spec : {M : Type 1} → statement M
-next-of-spec = tie.close (tie.spec returns cast-value value-requires returns-2 returns-3)
+next-of-spec = tie.close (tie.spec returns (λ c. search needs) (λ c κs. search needs) returns-2 returns-3)

@@ -5,9 +5,6 @@ use Rattle.model_effect.proofs.VariantLaws.{readyCycle-other}
 use Rattle.model_effect.proofs.ready_cycle.Statement.{statement}
 use Rattle.model_effect.proofs.ready_cycle.Tie as tie
 
-enum-known-s : tie.Need-enum-known-s
-enum-known-s c = search needs
-
 returns : tie.Need-returns
 returns c = readyCycle-other (c .before .args .s) (c .match .keys2)
 
@@ -15,4 +12,4 @@ returns-2 : tie.Need-returns-2
 returns-2 c = rw (c .before .s .given .1) refl
 
 pub ready-cycle-spec : {M : Type 1} → statement M
-ready-cycle-spec = tie.close (tie.spec enum-known-s returns returns-2)
+ready-cycle-spec = tie.close (tie.spec (λ c. search needs) returns returns-2)

@@ -7,18 +7,9 @@ use Rattle.model_effect.proofs.LengthLaws.{variables-length}
 use Rattle.model_effect.proofs.value.Statement.{statement}
 use Rattle.model_effect.proofs.value.Tie as tie
 
-mul-result : tie.Need-mul-result
-mul-result c = search needs
-
-element-copy-out-result : tie.Need-element-copy-out-result
-element-copy-out-result c = search needs
-
-returns : tie.Need-returns
-returns c = search needs
-
 returns-2 : tie.Need-returns-2
 returns-2 c = sym (List·getD-eq-default (c .before .args .t1 .at) 0
     (omega (arith, variables-length (c .before .args .t1) _ (c .before .good .0))))
 
 pub value-spec : {M : Type 1} → statement M
-value-spec = tie.close (tie.spec mul-result element-copy-out-result returns returns-2)
+value-spec = tie.close (tie.spec (λ c. search needs) (λ c. search needs) (λ c. search needs) returns-2)

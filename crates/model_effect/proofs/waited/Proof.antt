@@ -4,15 +4,6 @@ use borrow.Author.Needs.{needs}
 use Rattle.model_effect.proofs.waited.Statement.{statement}
 use Rattle.model_effect.proofs.waited.Tie as tie
 
-wait-ends-requires : tie.Need-wait-ends-requires
-wait-ends-requires c κs = search needs
-
-enum-known-d : tie.Need-enum-known-d
-enum-known-d c = search needs
-
-enum-known-d-2 : tie.Need-enum-known-d-2
-enum-known-d-2 c = search needs
-
 returns : tie.Need-returns
 returns c = rw (← c .before .before .before .wait-ends .ensures, c .before .d .given .1) refl
 
@@ -20,4 +11,4 @@ returns-2 : tie.Need-returns-2
 returns-2 c = rw (← c .before .before .before .wait-ends .ensures, c .before .d2 .given .1) refl
 
 pub waited-spec : {M : Type 1} → statement M
-waited-spec = tie.close (tie.spec wait-ends-requires enum-known-d enum-known-d-2 returns returns-2)
+waited-spec = tie.close (tie.spec (λ c κs. search needs) (λ c. search needs) (λ c. search needs) returns returns-2)

@@ -7,17 +7,8 @@ use Rattle.model_effect.proofs.LengthLaws.{variables-length}
 use Rattle.model_effect.proofs.with_value.Statement.{statement}
 use Rattle.model_effect.proofs.with_value.Tie as tie
 
-mul-w : tie.Need-mul-w
-mul-w c = search needs
-
-element-write-w : tie.Need-element-write-w
-element-write-w c = search needs
-
-returns : tie.Need-returns
-returns c = search needs
-
 returns-2 : tie.Need-returns-2
 returns-2 c = sym (set-out (c .before .args .v .at) _ _ (omega (arith, variables-length (c .before .args .v) _ (c .before .good .0))))
 
 pub with-value-spec : {M : Type 1} → statement M
-with-value-spec = tie.close (tie.spec mul-w element-write-w returns returns-2)
+with-value-spec = tie.close (tie.spec (λ c. search needs) (λ c. search needs) (λ c. search needs) returns-2)

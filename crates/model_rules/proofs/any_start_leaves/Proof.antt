@@ -21,9 +21,6 @@ abbrev μ-loop : tie.MeasureT-loop
 within : (c : tie.In-loop Inv-loop μ-loop) → (c .before .loop .k < c .before .before .args .t1 .t) × (c .before .loop .k < 32)
 within c = both-below _ _ 32 (c .loop-test .taken)
 
-cast-t : tie.Need-cast-t Inv-loop μ-loop
-cast-t c = search needs
-
 loop-holds : tie.Need-loop-holds Inv-loop μ-loop
 loop-holds c = (omega arith, (omega arith, below-none _))
 
@@ -62,14 +59,5 @@ returns-2 c =
 pub any-start-leaves-spec : {M : Type 1} → statement M
 any-start-leaves-spec =
     tie.close
-    (tie.spec
-    Inv-loop
-    μ-loop
-    cast-t
-    loop-holds
-    element-copy-out-if1
-    returns
-    add-k
-    loop-less
-    loop-again
+    (tie.spec Inv-loop μ-loop (λ c. search needs) loop-holds element-copy-out-if1 returns add-k loop-less loop-again
     returns-2)

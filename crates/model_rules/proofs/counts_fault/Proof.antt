@@ -7,19 +7,10 @@ use Rattle.model_rules.proofs.FaultLaws.{unless-both-then}
 use Rattle.model_rules.proofs.counts_fault.Statement.{statement}
 use Rattle.model_rules.proofs.counts_fault.Tie as tie
 
-unless-requires : tie.Need-unless-requires
-unless-requires c κs = search needs
-
-unless-requires-2 : tie.Need-unless-requires-2
-unless-requires-2 c κs = search needs
-
-or-else-requires : tie.Need-or-else-requires
-or-else-requires c κs = search needs
-
 returns : tie.Need-returns
 unfolding countsFault
 returns c = rw (c .or-else .ensures, c .before .before .before .unless .ensures, c .before .unless2 .ensures)
     (unless-both-then (leb 1 (c .before .before .before .before .before .before .args .m .n)) _ 2 _ (λ z. omega arith))
 
 pub counts-fault-spec : {M : Type 1} → statement M
-counts-fault-spec = tie.close (tie.spec unless-requires unless-requires-2 or-else-requires returns)
+counts-fault-spec = tie.close (tie.spec (λ c κs. search needs) (λ c κs. search needs) (λ c κs. search needs) returns)

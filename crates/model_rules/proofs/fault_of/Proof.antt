@@ -5,22 +5,15 @@ use Rattle.model_rules.specs.Asked.{faultOf}
 use Rattle.model_rules.proofs.fault_of.Statement.{statement}
 use Rattle.model_rules.proofs.fault_of.Tie as tie
 
-leaves-model-requires : tie.Need-leaves-model-requires
-leaves-model-requires c κs = search needs
-
-unless-requires : tie.Need-unless-requires
-unless-requires c κs = search needs
-
 returns : tie.Need-returns
 unfolding faultOf
 returns c = rw (c .before .before .if1 .taken, c .unless .ensures, c .before .leaves-model .ensures) refl
-
-segment-fault-requires : tie.Need-segment-fault-requires
-segment-fault-requires c κs = search needs
 
 returns-2 : tie.Need-returns-2
 unfolding faultOf
 returns-2 c = rw (c .before .if1 .left, c .segment-fault .ensures) refl
 
 pub fault-of-spec : {M : Type 1} → statement M
-fault-of-spec = tie.close (tie.spec leaves-model-requires unless-requires returns segment-fault-requires returns-2)
+fault-of-spec =
+    tie.close
+    (tie.spec (λ c κs. search needs) (λ c κs. search needs) returns (λ c κs. search needs) returns-2)

@@ -18,20 +18,8 @@ Inv-loop targets m n i₀ i = (i ≤ n) × (n ≤ 64) × (n ≡ placesUsed (m .n
 abbrev μ-loop : tie.MeasureT-loop
 μ-loop targets m n i₀ i = n - i
 
-places-used-requires : tie.Need-places-used-requires Inv-loop μ-loop
-places-used-requires c κs = search needs
-
 loop-holds : tie.Need-loop-holds Inv-loop μ-loop
 loop-holds c = (omega arith, omega (arith, c .places-used .ensures), c .places-used .ensures, firstBelow-none _)
-
-mul-g : tie.Need-mul-g Inv-loop μ-loop
-mul-g c = omega arith
-
-element-copy-out-g : tie.Need-element-copy-out-g Inv-loop μ-loop
-element-copy-out-g c = omega arith
-
-fault-of-requires : tie.Need-fault-of-requires Inv-loop μ-loop
-fault-of-requires c κs = search needs
 
 returns : tie.Need-returns Inv-loop μ-loop
 returns c =
@@ -40,21 +28,12 @@ returns c =
     let here = faultAt-read m (l .loop .i) _ _ _ (omega arith) (segments-length m _ (l .before .before .good .0)) (c .before .fault-of .ensures) in
     here ∙ sym (firstBelow-here (l .loop .i) _ _ (omega arith) (l .loop .inv .3) (λ z. c .if1 .taken (here ∙ z)))
 
-add-i : tie.Need-add-i Inv-loop μ-loop
-add-i c = omega arith
-
-loop-less : tie.Need-loop-less Inv-loop μ-loop
-loop-less c = omega arith
-
 loop-again : tie.Need-loop-again Inv-loop μ-loop
 loop-again c =
     let l = c .before .before .before .before in
     let m = l .before .before .args .t1 in
     let here = faultAt-read m (l .loop .i) _ _ _ (omega arith) (segments-length m _ (l .before .before .good .0)) (c .before .fault-of .ensures) in
     (omega arith, l .loop .inv .1, l .loop .inv .2, rw add-one (firstBelow-more _ _ (l .loop .inv .3) ∙ (sym here ∙ c .if1 .left)))
-
-unless-requires : tie.Need-unless-requires Inv-loop μ-loop
-unless-requires c κs = search needs
 
 returns-2 : tie.Need-returns-2 Inv-loop μ-loop
 returns-2 c =
@@ -66,17 +45,5 @@ returns-2 c =
 pub first-fault-spec : {M : Type 1} → statement M
 first-fault-spec =
     tie.close
-    (tie.spec
-    Inv-loop
-    μ-loop
-    places-used-requires
-    loop-holds
-    mul-g
-    element-copy-out-g
-    fault-of-requires
-    returns
-    add-i
-    loop-less
-    loop-again
-    unless-requires
-    returns-2)
+    (tie.spec Inv-loop μ-loop (λ c κs. search needs) loop-holds (λ c. omega arith) (λ c. omega arith)
+    (λ c κs. search needs) returns (λ c. omega arith) (λ c. omega arith) loop-again (λ c κs. search needs) returns-2)

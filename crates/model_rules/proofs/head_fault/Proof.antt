@@ -4,12 +4,9 @@ use Rattle.model.specs.Rules.{headFault}
 use Rattle.model_rules.proofs.head_fault.Statement.{statement}
 use Rattle.model_rules.proofs.head_fault.Tie as tie
 
-unless-requires : tie.Need-unless-requires
-unless-requires c κs = search needs
-
 returns : tie.Need-returns
 unfolding headFault
 returns c = c .unless .ensures
 
 pub head-fault-spec : {M : Type 1} → statement M
-head-fault-spec = tie.close (tie.spec unless-requires returns)
+head-fault-spec = tie.close (tie.spec (λ c κs. search needs) returns)

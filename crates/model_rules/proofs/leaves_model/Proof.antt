@@ -6,15 +6,6 @@ use Rattle.model.specs.Rules.{leavesModel}
 use Rattle.model_rules.proofs.leaves_model.Statement.{statement}
 use Rattle.model_rules.proofs.leaves_model.Tie as tie
 
-enum-told : tie.Need-enum-told
-enum-told c = search needs
-
-enum-known-closer : tie.Need-enum-known-closer
-enum-known-closer c = search needs
-
-enum-known-closer-2 : tie.Need-enum-known-closer-2
-enum-known-closer-2 c = search needs
-
 returns : tie.Need-returns
 unfolding leavesModel
 returns c = search needs
@@ -24,5 +15,4 @@ unfolding leavesModel
 returns-2 c = ⊎-elim (λ w. rw (w .1 .given .1, w .3) refl) (λ w. rw (w .1 .given .1, w .3) refl) (c .before .before .match .came)
 
 pub leaves-model-spec : {M : Type 1} → statement M
-leaves-model-spec =
-    tie.close (tie.spec enum-told enum-known-closer enum-known-closer-2 returns returns-2)
+leaves-model-spec = tie.close (tie.spec (λ c. search needs) (λ c. search needs) (λ c. search needs) returns returns-2)

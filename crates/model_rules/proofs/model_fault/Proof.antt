@@ -6,32 +6,20 @@ use Rattle.model_rules.proofs.FaultLaws.{fault-here, fault-later, segme
 use Rattle.model_rules.proofs.model_fault.Statement.{statement}
 use Rattle.model_rules.proofs.model_fault.Tie as tie
 
-head-fault-requires : tie.Need-head-fault-requires
-head-fault-requires c κs = search needs
-
 returns : tie.Need-returns
 unfolding modelFault
 returns c = fault-here _ _ _ (c .before .head-fault .ensures) (c .if1 .taken)
-
-first-fault-requires : tie.Need-first-fault-requires
-first-fault-requires c κs = search needs
 
 returns-2 : tie.Need-returns-2
 unfolding modelFault
 returns-2 c = fault-later _ _ _ (sym (c .before .before .before .head-fault .ensures) ∙ c .before .before .if1 .left)
     (fault-here _ _ _ (c .before .first-fault .ensures ∙ segmentsFault-asked _) (c .if2 .taken))
 
-counts-fault-requires : tie.Need-counts-fault-requires
-counts-fault-requires c κs = search needs
-
 returns-3 : tie.Need-returns-3
 unfolding modelFault
 returns-3 c = fault-later _ _ _ (sym (c .before .before .before .before .before .head-fault .ensures) ∙ c .before .before .before .before .if1 .left)
     (fault-later _ _ _ (sym (c .before .before .before .first-fault .ensures ∙ segmentsFault-asked _) ∙ c .before .before .if2 .left)
     (fault-here _ _ _ (c .before .counts-fault .ensures) (c .if3 .taken)))
-
-targets-fault-requires : tie.Need-targets-fault-requires
-targets-fault-requires c κs = search needs
 
 returns-4 : tie.Need-returns-4
 unfolding modelFault
@@ -43,12 +31,5 @@ returns-4 c = fault-later _ _ _ (sym (c .before .before .before .before .before 
 pub model-fault-spec : {M : Type 1} → statement M
 model-fault-spec =
     tie.close
-    (tie.spec
-    head-fault-requires
-    returns
-    first-fault-requires
-    returns-2
-    counts-fault-requires
-    returns-3
-    targets-fault-requires
-    returns-4)
+    (tie.spec (λ c κs. search needs) returns (λ c κs. search needs) returns-2 (λ c κs. search needs) returns-3
+    (λ c κs. search needs) returns-4)

@@ -7,15 +7,6 @@ use Rattle.model_rules.proofs.FaultLaws.{unless-both, unless-both-then}
 use Rattle.model_rules.proofs.next_fault.Statement.{statement}
 use Rattle.model_rules.proofs.next_fault.Tie as tie
 
-unless-requires : tie.Need-unless-requires
-unless-requires c κs = search needs
-
-unless-requires-2 : tie.Need-unless-requires-2
-unless-requires-2 c κs = search needs
-
-or-else-requires : tie.Need-or-else-requires
-or-else-requires c κs = search needs
-
 returns : tie.Need-returns
 unfolding choiceFault testFault
 returns c = rw (
@@ -27,4 +18,4 @@ returns c = rw (
 )
 
 pub next-fault-spec : {M : Type 1} → statement M
-next-fault-spec = tie.close (tie.spec unless-requires unless-requires-2 or-else-requires returns)
+next-fault-spec = tie.close (tie.spec (λ c κs. search needs) (λ c κs. search needs) (λ c κs. search needs) returns)

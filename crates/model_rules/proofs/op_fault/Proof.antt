@@ -6,33 +6,6 @@ use Rattle.model.specs.Rules.{opFault}
 use Rattle.model_rules.proofs.op_fault.Statement.{statement}
 use Rattle.model_rules.proofs.op_fault.Tie as tie
 
-enum-known-op : tie.Need-enum-known-op
-enum-known-op c = search needs
-
-enum-known-op-2 : tie.Need-enum-known-op-2
-enum-known-op-2 c = search needs
-
-enum-known-op-3 : tie.Need-enum-known-op-3
-enum-known-op-3 c = search needs
-
-enum-known-op-4 : tie.Need-enum-known-op-4
-enum-known-op-4 c = search needs
-
-enum-known-op-5 : tie.Need-enum-known-op-5
-enum-known-op-5 c = search needs
-
-enum-known-op-6 : tie.Need-enum-known-op-6
-enum-known-op-6 c = search needs
-
-unless-requires : tie.Need-unless-requires
-unless-requires c κs = search needs
-
-unless-requires-2 : tie.Need-unless-requires-2
-unless-requires-2 c κs = search needs
-
-unless-requires-3 : tie.Need-unless-requires-3
-unless-requires-3 c κs = search needs
-
 returns : tie.Need-returns
 unfolding opFault
 returns c = rw (c .before .before .op6 .given .1) (c .unless .ensures)
@@ -49,16 +22,5 @@ returns-3 c = c .unless3 .ensures ∙ ⊎-elim (λ w. rw (w .1 .given .1, w .3) 
 pub op-fault-spec : {M : Type 1} → statement M
 op-fault-spec =
     tie.close
-    (tie.spec
-    enum-known-op
-    enum-known-op-2
-    enum-known-op-3
-    enum-known-op-4
-    enum-known-op-5
-    enum-known-op-6
-    unless-requires
-    unless-requires-2
-    unless-requires-3
-    returns
-    returns-2
-    returns-3)
+    (tie.spec (λ c. search needs) (λ c. search needs) (λ c. search needs) (λ c. search needs) (λ c. search needs)
+    (λ c. search needs) (λ c κs. search needs) (λ c κs. search needs) (λ c κs. search needs) returns returns-2 returns-3)

@@ -12,16 +12,10 @@ returns : tie.Need-returns
 unfolding segmentFault
 returns c = fault-here _ _ 3 (unless-broken _ 3 (lt-leb _ _ (c .if1 .taken))) (λ z. omega arith)
 
-closer-fault-requires : tie.Need-closer-fault-requires
-closer-fault-requires c κs = search needs
-
 returns-2 : tie.Need-returns-2
 unfolding segmentFault
 returns-2 c = fault-later _ _ _ (unless-kept _ _ (le-leb _ _ (c .before .before .if1 .left)))
     (fault-here _ _ _ (c .before .closer-fault .ensures) (c .if2 .taken))
-
-statements-fault-requires : tie.Need-statements-fault-requires
-statements-fault-requires c κs = search needs
 
 returns-3 : tie.Need-returns-3
 unfolding segmentFault
@@ -29,6 +23,4 @@ returns-3 c = fault-later _ _ _ (unless-kept _ _ (le-leb _ _ (c .before .before 
     (fault-later _ _ _ (sym (c .before .before .closer-fault .ensures) ∙ c .before .if2 .left) (c .statements-fault .ensures))
 
 pub segment-fault-spec : {M : Type 1} → statement M
-segment-fault-spec =
-    tie.close
-    (tie.spec returns closer-fault-requires returns-2 statements-fault-requires returns-3)
+segment-fault-spec = tie.close (tie.spec returns (λ c κs. search needs) returns-2 (λ c κs. search needs) returns-3)

@@ -16,31 +16,13 @@ Inv-loop v e g n j₀ j = (j ≤ n) × (firstBelow j (statementFault v e g) ≡ 
 abbrev μ-loop : tie.MeasureT-loop
 μ-loop v e g n j₀ j = n - j
 
-cast-n : tie.Need-cast-n Inv-loop μ-loop
-cast-n c = search needs
-
 loop-holds : tie.Need-loop-holds Inv-loop μ-loop
 loop-holds c = (omega arith, firstBelow-none _)
-
-mul-x : tie.Need-mul-x Inv-loop μ-loop
-mul-x c = omega arith
-
-element-copy-out-x : tie.Need-element-copy-out-x Inv-loop μ-loop
-element-copy-out-x c = omega arith
-
-op-fault-requires : tie.Need-op-fault-requires Inv-loop μ-loop
-op-fault-requires c κs = search needs
 
 returns : tie.Need-returns Inv-loop μ-loop
 unfolding statementFault
 returns c = statementsFault-here _ _ _ (c .before .before .before .before .loop .j) _ (omega arith) (c .before .before .before .before .loop .inv .1)
     (c .before .op-fault .ensures) (c .if1 .taken)
-
-add-j : tie.Need-add-j Inv-loop μ-loop
-add-j c = omega arith
-
-loop-less : tie.Need-loop-less Inv-loop μ-loop
-loop-less c = omega arith
 
 loop-again : tie.Need-loop-again Inv-loop μ-loop
 unfolding statementFault
@@ -56,16 +38,5 @@ returns-2 c = statementsFault-none _ _ _ (c .before .loop .j) (omega arith) (c .
 pub statements-fault-spec : {M : Type 1} → statement M
 statements-fault-spec =
     tie.close
-    (tie.spec
-    Inv-loop
-    μ-loop
-    cast-n
-    loop-holds
-    mul-x
-    element-copy-out-x
-    op-fault-requires
-    returns
-    add-j
-    loop-less
-    loop-again
-    returns-2)
+    (tie.spec Inv-loop μ-loop (λ c. search needs) loop-holds (λ c. omega arith) (λ c. omega arith)
+    (λ c κs. search needs) returns (λ c. omega arith) (λ c. omega arith) loop-again returns-2)

@@ -5,37 +5,16 @@ use borrow.Author.Needs.{needs}
 use Rattle.plain_core.proofs.close_word.Statement.{statement}
 use Rattle.plain_core.proofs.close_word.Tie as tie
 
-add-result : tie.Need-add-result
-add-result c = search needs
-
 returns : tie.Need-returns
 returns c = closeWord-over (c .before .args .key) (c .before .args .end) (c .if1 .taken)
 
-mul-result : tie.Need-mul-result
-mul-result c = search needs
-
-add-result-2 : tie.Need-add-result-2
-add-result-2 c = search needs
-
-add-result-3 : tie.Need-add-result-3
-add-result-3 c = search needs
-
 returns-2 : tie.Need-returns-2
 returns-2 c = let a = c .before .before .args in closeWord-event (a .key) (a .end) (c .before .if1 .left) (c .if2 .taken)
-
-next-delta-requires : tie.Need-next-delta-requires
-next-delta-requires c κs = search needs
 
 returns-3 : tie.Need-returns-3
 returns-3 c = let second = c .before .before in
     let a = second .before .before .args in
     c .next-delta .ensures ∙ closeWord-delta (a .key) (a .end) (second .before .if1 .left) (second .if2 .left) (c .before .if3 .taken)
-
-add-result-4 : tie.Need-add-result-4
-add-result-4 c = search needs
-
-mul-result-2 : tie.Need-mul-result-2
-mul-result-2 c = search needs
 
 returns-4 : tie.Need-returns-4
 returns-4 c = let second = c .before in
@@ -45,15 +24,5 @@ returns-4 c = let second = c .before in
 pub close-word-spec : {M : Type 1} → statement M
 close-word-spec =
     tie.close
-    (tie.spec
-    add-result
-    returns
-    mul-result
-    add-result-2
-    add-result-3
-    returns-2
-    next-delta-requires
-    returns-3
-    add-result-4
-    mul-result-2
-    returns-4)
+    (tie.spec (λ c. search needs) returns (λ c. search needs) (λ c. search needs) (λ c. search needs) returns-2
+    (λ c κs. search needs) returns-3 (λ c. search needs) (λ c. search needs) returns-4)

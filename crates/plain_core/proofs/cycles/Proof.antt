@@ -39,20 +39,8 @@ begun-here c = let first = c .before .before .before .before in
     let start = first .before .before .before .before in
     begun-of c (start .args .m) (record { fit = start .pre; code = first .before .pack .ensures; threads = refl; limit = refl; first = first .first-segments .ensures .1 })
 
-cast-t : tie.Need-cast-t Inv-loop μ-loop
-cast-t c = search needs
-
 mul-limit : tie.Need-mul-limit Inv-loop μ-loop
 mul-limit c = omega (arith, modelFault-horizon (c .before .before .args .m) (c .before .before .pre) .1)
-
-pack-requires : tie.Need-pack-requires Inv-loop μ-loop
-pack-requires c κs = search needs
-
-first-segments-requires : tie.Need-first-segments-requires Inv-loop μ-loop
-first-segments-requires c κs = search needs
-
-no-ranges-requires : tie.Need-no-ranges-requires Inv-loop μ-loop
-no-ranges-requires c κs = search needs
 
 due-of-requires : tie.Need-due-of-requires Inv-loop μ-loop
 due-of-requires c κs = let few = few-threads (c .before .before .before .before .before .before) in
@@ -102,12 +90,6 @@ returns-2 c = let ended = c .before .before .before .before .before in
     let end = ended .end-cycle .ensures in
     c .result2 .ensures ∙ cycle-rest (begun-here (ran .before .before .before .before .before .before .before)) (ran .run-cycle .ensures) (sym (ended .before .before .before .before .before .is-out .ensures) ∙ ended .before .before .before .before .if1 .left) _ (end .0) _ (end .1 .0) (end .1 .1 .0) (c .before .before .before .if2 .taken)
 
-array-write-ranges : tie.Need-array-write-ranges Inv-loop μ-loop
-array-write-ranges c = omega arith
-
-array-write-ranges-2 : tie.Need-array-write-ranges-2 Inv-loop μ-loop
-array-write-ranges-2 c = omega arith
-
 loop-less : tie.Need-loop-less Inv-loop μ-loop
 loop-less c = let ended = c .before .before in
     let ran = ended .before .before .before .before .before .before .before in
@@ -128,24 +110,6 @@ loop-again c = let ended = c .before .before in
 pub cycles-spec : {M : Type 1} → statement M
 cycles-spec =
     tie.close
-    (tie.spec
-    Inv-loop
-    μ-loop
-    cast-t
-    mul-limit
-    pack-requires
-    first-segments-requires
-    no-ranges-requires
-    due-of-requires
-    loop-holds
-    run-cycle-requires
-    is-out-requires
-    result-requires
-    returns
-    end-cycle-requires
-    result-requires-2
-    returns-2
-    array-write-ranges
-    array-write-ranges-2
-    loop-less
-    loop-again)
+    (tie.spec Inv-loop μ-loop (λ c. search needs) mul-limit (λ c κs. search needs) (λ c κs. search needs)
+    (λ c κs. search needs) due-of-requires loop-holds run-cycle-requires is-out-requires result-requires returns
+    end-cycle-requires result-requires-2 returns-2 (λ c. omega arith) (λ c. omega arith) loop-less loop-again)

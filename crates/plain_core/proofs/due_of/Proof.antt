@@ -6,15 +6,6 @@ use borrow.Author.Needs.{needs}
 use Rattle.plain_core.proofs.due_of.Statement.{statement}
 use Rattle.plain_core.proofs.due_of.Tie as tie
 
-is-late-requires : tie.Need-is-late-requires
-is-late-requires c κs = search needs
-
-first-late-requires : tie.Need-first-late-requires
-first-late-requires c κs = search needs
-
-past-late-requires : tie.Need-past-late-requires
-past-late-requires c κs = search needs
-
 returns : tie.Need-returns
 returns c = let p = c .before .before .before .before .pre in
     let a = c .before .before .before .before .args in
@@ -26,4 +17,5 @@ returns-2 c = search needs
 
 pub due-of-spec : {M : Type 1} → statement M
 due-of-spec =
-    tie.close (tie.spec is-late-requires first-late-requires past-late-requires returns returns-2)
+    tie.close
+    (tie.spec (λ c κs. search needs) (λ c κs. search needs) (λ c κs. search needs) returns returns-2)

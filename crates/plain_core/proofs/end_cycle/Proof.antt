@@ -14,21 +14,6 @@ hull-here c = let start = c .before .before .before .before .before in
     let ends = start .pre .1 .1 .1 .0 in
     hull-of (a .t) (a .ranges .now) (a .due .from) (a .due .to) _ _ _ (ends .order) (ends .inside) (c .before .before .before .lesser .ensures) (c .before .greater .ensures) (c .lesser2 .ensures)
 
-element-copy-out-lesser : tie.Need-element-copy-out-lesser
-element-copy-out-lesser c = search needs
-
-lesser-requires : tie.Need-lesser-requires
-lesser-requires c κs = search needs
-
-element-copy-out-greater : tie.Need-element-copy-out-greater
-element-copy-out-greater c = search needs
-
-greater-requires : tie.Need-greater-requires
-greater-requires c κs = search needs
-
-lesser-requires-2 : tie.Need-lesser-requires-2
-lesser-requires-2 c κs = search needs
-
 wake-requires : tie.Need-wake-requires
 wake-requires c κs = let p = c .before .before .before .before .before .before .pre in
     let hull = hull-here (c .before) in
@@ -60,13 +45,5 @@ returns c = let woke = c .before .before .before .before in
 pub end-cycle-spec : {M : Type 1} → statement M
 end-cycle-spec =
     tie.close
-    (tie.spec
-    element-copy-out-lesser
-    lesser-requires
-    element-copy-out-greater
-    greater-requires
-    lesser-requires-2
-    wake-requires
-    least-of-requires
-    due-of-requires
-    returns)
+    (tie.spec (λ c. search needs) (λ c κs. search needs) (λ c. search needs) (λ c κs. search needs)
+    (λ c κs. search needs) wake-requires least-of-requires due-of-requires returns)

@@ -4,21 +4,11 @@ use borrow.Author.Needs.{needs}
 use Rattle.plain_core.proofs.least_of.Statement.{statement}
 use Rattle.plain_core.proofs.least_of.Tie as tie
 
-add-if1 : tie.Need-add-if1
-add-if1 c = search needs
-
 returns : tie.Need-returns
 returns c = let p = c .before .pre in let a = c .before .args in least-near (a .state .now) (a .from) (a .to) (a .t) (a .near) (p .0) (p .1 .0) (p .1 .1 .1 .1 .0) (a .key) (p .1 .1 .1 .0) (p .1 .1 .1 .1 .1) (c .if1 .taken)
-
-floor-of-requires : tie.Need-floor-of-requires
-floor-of-requires c κs = search needs
-
-floor-of-requires-2 : tie.Need-floor-of-requires-2
-floor-of-requires-2 c κs = search needs
 
 returns-2 : tie.Need-returns-2
 returns-2 c = let p = c .before .before .before .pre in let a = c .before .before .before .args in least-all (a .state .now) (a .from) (a .to) (a .t) (a .near) (p .0) (p .1 .0) (p .1 .1 .1 .1 .0) _ _ (c .before .floor-of .ensures) (c .floor-of2 .ensures)
 
 pub least-of-spec : {M : Type 1} → statement M
-least-of-spec =
-    tie.close (tie.spec add-if1 returns floor-of-requires floor-of-requires-2 returns-2)
+least-of-spec = tie.close (tie.spec (λ c. search needs) returns (λ c κs. search needs) (λ c κs. search needs) returns-2)

@@ -4,17 +4,11 @@ use borrow.Author.Needs.{needs}
 use Rattle.plain_core.proofs.next_delta.Statement.{statement}
 use Rattle.plain_core.proofs.next_delta.Tie as tie
 
-add-result : tie.Need-add-result
-add-result c = search needs
-
 returns : tie.Need-returns
 returns c = nextWord-ready (c .before .args .key) (c .if1 .taken)
-
-add-result-2 : tie.Need-add-result-2
-add-result-2 c = search needs
 
 returns-2 : tie.Need-returns-2
 returns-2 c = nextWord-overrun (c .before .args .key) (c .if1 .left)
 
 pub next-delta-spec : {M : Type 1} → statement M
-next-delta-spec = tie.close (tie.spec add-result returns add-result-2 returns-2)
+next-delta-spec = tie.close (tie.spec (λ c. search needs) returns (λ c. search needs) returns-2)

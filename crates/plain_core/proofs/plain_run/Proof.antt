@@ -5,12 +5,6 @@ use Rattle.plain_core.proofs.RunLaws.{plainRun-fit, plainRun-fault}
 use Rattle.plain_core.proofs.plain_run.Statement.{statement}
 use Rattle.plain_core.proofs.plain_run.Tie as tie
 
-model-fault-requires : tie.Need-model-fault-requires
-model-fault-requires c κs = search needs
-
-no-threads-requires : tie.Need-no-threads-requires
-no-threads-requires c κs = search needs
-
 returns : tie.Need-returns
 returns c =
     plainRun-fault (c .before .before .before .args .m) _ _ _
@@ -18,13 +12,12 @@ returns c =
     refl
     (c .no-threads .ensures)
 
-cycles-requires : tie.Need-cycles-requires
-cycles-requires c κs = search needs
-
 returns-2 : tie.Need-returns-2
 returns-2 c =
     c .cycles .ensures ∙
     plainRun-fit (c .before .before .before .args .m) _ (sym (c .before .before .model-fault .ensures) ∙ c .before .if1 .left)
 
 pub plain-run-spec : {M : Type 1} → statement M
-plain-run-spec = tie.close (tie.spec model-fault-requires no-threads-requires returns cycles-requires returns-2)
+plain-run-spec =
+    tie.close
+    (tie.spec (λ c κs. search needs) (λ c κs. search needs) returns (λ c κs. search needs) returns-2)

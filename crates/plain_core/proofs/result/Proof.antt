@@ -7,11 +7,8 @@ use borrow.Author.Needs.{needs}
 use Rattle.plain_core.proofs.result.Statement.{statement}
 use Rattle.plain_core.proofs.result.Tie as tie
 
-threads-of-requires : tie.Need-threads-of-requires
-threads-of-requires c κs = search needs
-
 returns : tie.Need-returns
 returns c = ap (λ (ts : List Thread). answer (c .before .args .v) ts (c .before .args .n) (c .before .args .spent)) (c .threads-of .ensures)
 
 pub result-spec : {M : Type 1} → statement M
-result-spec = tie.close (tie.spec threads-of-requires returns)
+result-spec = tie.close (tie.spec (λ c κs. search needs) returns)

@@ -20,12 +20,6 @@ loop-holds c = (omega arith, (omega (arith, c .pre .0), turnsTo-idle (c .args .c
 look-at-requires : tie.Need-look-at-requires Inv-loop μ-loop
 look-at-requires c κs = (omega arith, c .before .before .before .before .before .before .before .pre .1 .1 .0)
 
-add-turn : tie.Need-add-turn Inv-loop μ-loop
-add-turn c = omega arith
-
-loop-less : tie.Need-loop-less Inv-loop μ-loop
-loop-less c = omega arith
-
 loop-again : tie.Need-loop-again Inv-loop μ-loop
 loop-again c = (omega arith, (omega arith, turnsTo-next _ _ _ _ _ _ _ (c .before .before .before .before .before .before .before .loop .inv .1 .1) (c .look-at .ensures)))
 
@@ -35,4 +29,4 @@ returns c = let e : c .before .loop .turn ≡ c .before .before .args .due .to =
 pub run-cycle-spec : {M : Type 1} → statement M
 run-cycle-spec =
     tie.close
-    (tie.spec Inv-loop μ-loop loop-holds look-at-requires add-turn loop-less loop-again returns)
+    (tie.spec Inv-loop μ-loop loop-holds look-at-requires (λ c. omega arith) (λ c. omega arith) loop-again returns)

@@ -15,35 +15,8 @@ Inv-loop state segments t ts₀ k₀ ts k = (k ≤ t) × (ts .at ≡ threadsTo s
 abbrev μ-loop : tie.MeasureT-loop
 μ-loop state segments t ts₀ k₀ ts k = t - k
 
-no-threads-requires : tie.Need-no-threads-requires Inv-loop μ-loop
-no-threads-requires c κs = search needs
-
 loop-holds : tie.Need-loop-holds Inv-loop μ-loop
 loop-holds c = (omega arith, ap (λ (x : Threads). x .at) (c .no-threads .ensures) ∙ threadsTo-none (c .before .args .state .now) (c .before .args .segments .now))
-
-element-copy-out-segment : tie.Need-element-copy-out-segment Inv-loop μ-loop
-element-copy-out-segment c = omega arith
-
-mul-w : tie.Need-mul-w Inv-loop μ-loop
-mul-w c = omega arith
-
-element-copy-out-w : tie.Need-element-copy-out-w Inv-loop μ-loop
-element-copy-out-w c = omega arith
-
-state-of-requires : tie.Need-state-of-requires Inv-loop μ-loop
-state-of-requires c κs = search needs
-
-mul-t14 : tie.Need-mul-t14 Inv-loop μ-loop
-mul-t14 c = omega arith
-
-element-set-from-ts : tie.Need-element-set-from-ts Inv-loop μ-loop
-element-set-from-ts c = omega arith
-
-add-k : tie.Need-add-k Inv-loop μ-loop
-add-k c = omega arith
-
-loop-less : tie.Need-loop-less Inv-loop μ-loop
-loop-less c = omega arith
 
 loop-again : tie.Need-loop-again Inv-loop μ-loop
 loop-again c = let here = c .before .before .before .before in
@@ -56,18 +29,6 @@ returns c = let e : c .before .loop .k ≡ c .before .before .before .args .t = 
 pub threads-of-spec : {M : Type 1} → statement M
 threads-of-spec =
     tie.close
-    (tie.spec
-    Inv-loop
-    μ-loop
-    no-threads-requires
-    loop-holds
-    element-copy-out-segment
-    mul-w
-    element-copy-out-w
-    state-of-requires
-    mul-t14
-    element-set-from-ts
-    add-k
-    loop-less
-    loop-again
+    (tie.spec Inv-loop μ-loop (λ c κs. search needs) loop-holds (λ c. omega arith) (λ c. omega arith) (λ c. omega arith)
+    (λ c κs. search needs) (λ c. omega arith) (λ c. omega arith) (λ c. omega arith) (λ c. omega arith) loop-again
     returns)

@@ -12,9 +12,6 @@ returns c = let a = c .before .args in wakeWord-ready (a .told .now) (a .key) (a
 returns-2 : tie.Need-returns-2
 returns-2 c = let a = c .before .before .args in wakeWord-over (a .told .now) (a .key) (a .w) (c .if2 .taken)
 
-element-copy-out-if3 : tie.Need-element-copy-out-if3
-element-copy-out-if3 c = search needs
-
 returns-3 : tie.Need-returns-3
 returns-3 c = let second = c .before .before in
     let a = second .before .before .args in
@@ -25,9 +22,6 @@ returns-4 c = let second = c .before .before .before in
     let a = second .before .before .args in
     wakeWord-later (a .told .now) (a .key) (a .w) (second .before .if1 .left) (second .if2 .left) (not-false _ (c .before .if3 .left)) (c .if4 .taken)
 
-next-delta-requires : tie.Need-next-delta-requires
-next-delta-requires c κs = search needs
-
 returns-5 : tie.Need-returns-5
 returns-5 c = let second = c .before .before .before .before in
     let a = second .before .before .args in
@@ -36,4 +30,4 @@ returns-5 c = let second = c .before .before .before .before in
 pub wake-word-spec : {M : Type 1} → statement M
 wake-word-spec =
     tie.close
-    (tie.spec returns returns-2 element-copy-out-if3 returns-3 returns-4 next-delta-requires returns-5)
+    (tie.spec returns returns-2 (λ c. search needs) returns-3 returns-4 (λ c κs. search needs) returns-5)

@@ -15,46 +15,10 @@ Inv-loop code s v₀ told₀ ranges₀ i base n j₀ v told ranges j = (j ≤ n)
 abbrev μ-loop : tie.MeasureT-loop
 μ-loop code s v₀ told₀ ranges₀ i base n j₀ v told ranges j = n - j
 
-wide-requires : tie.Need-wide-requires Inv-loop μ-loop
-wide-requires c κs = search needs
-
-mul-base : tie.Need-mul-base Inv-loop μ-loop
-mul-base c = omega arith
-
-mul-size-of : tie.Need-mul-size-of Inv-loop μ-loop
-mul-size-of c = omega arith
-
-element-copy-out-size-of : tie.Need-element-copy-out-size-of Inv-loop μ-loop
-element-copy-out-size-of c = omega arith
-
-size-of-requires : tie.Need-size-of-requires Inv-loop μ-loop
-size-of-requires c κs = search needs
-
 loop-holds : tie.Need-loop-holds Inv-loop μ-loop
 loop-holds c = let a = c .before .before .before .args in
     let i = c .before .before .wide .result in
     (omega arith, (omega (arith, c .size-of .ensures, sizeBy-≤ (getD (a .code .now) (34 * (i % 64)) 0)), executeTo-none (a .code .now) (shared (a .v .now) (a .told .now) (a .ranges .now)) (34 * (i % 64) + 2)))
-
-add-w : tie.Need-add-w Inv-loop μ-loop
-add-w c = omega arith
-
-add-w-2 : tie.Need-add-w-2 Inv-loop μ-loop
-add-w-2 c = omega arith
-
-mul-w : tie.Need-mul-w Inv-loop μ-loop
-mul-w c = omega arith
-
-element-copy-out-w : tie.Need-element-copy-out-w Inv-loop μ-loop
-element-copy-out-w c = omega arith
-
-execute-word-requires : tie.Need-execute-word-requires Inv-loop μ-loop
-execute-word-requires c κs = search needs
-
-add-j : tie.Need-add-j Inv-loop μ-loop
-add-j c = omega arith
-
-loop-less : tie.Need-loop-less Inv-loop μ-loop
-loop-less c = omega arith
 
 loop-again : tie.Need-loop-again Inv-loop μ-loop
 loop-again c = let here = c .before .before .before .before .before .before in
@@ -71,21 +35,6 @@ returns c = let n = c .before .before in
 pub execute-spec : {M : Type 1} → statement M
 execute-spec =
     tie.close
-    (tie.spec
-    Inv-loop
-    μ-loop
-    wide-requires
-    mul-base
-    mul-size-of
-    element-copy-out-size-of
-    size-of-requires
-    loop-holds
-    add-w
-    add-w-2
-    mul-w
-    element-copy-out-w
-    execute-word-requires
-    add-j
-    loop-less
-    loop-again
-    returns)
+    (tie.spec Inv-loop μ-loop (λ c κs. search needs) (λ c. omega arith) (λ c. omega arith) (λ c. omega arith)
+    (λ c κs. search needs) loop-holds (λ c. omega arith) (λ c. omega arith) (λ c. omega arith) (λ c. omega arith)
+    (λ c κs. search needs) (λ c. omega arith) (λ c. omega arith) loop-again returns)

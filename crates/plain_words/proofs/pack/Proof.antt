@@ -19,47 +19,8 @@ abbrev μ-loop : tie.MeasureT-loop
 loop-holds : tie.Need-loop-holds Inv-loop μ-loop
 loop-holds c = (omega arith, isCode-none (c .args .t1))
 
-mul-g : tie.Need-mul-g Inv-loop μ-loop
-mul-g c = omega arith
-
-element-copy-out-g : tie.Need-element-copy-out-g Inv-loop μ-loop
-element-copy-out-g c = omega arith
-
-mul-base : tie.Need-mul-base Inv-loop μ-loop
-mul-base c = omega arith
-
-pack-end-requires : tie.Need-pack-end-requires Inv-loop μ-loop
-pack-end-requires c κs = search needs
-
-mul-code : tie.Need-mul-code Inv-loop μ-loop
-mul-code c = omega arith
-
-array-write-code : tie.Need-array-write-code Inv-loop μ-loop
-array-write-code c = omega arith
-
-pack-choice-requires : tie.Need-pack-choice-requires Inv-loop μ-loop
-pack-choice-requires c κs = search needs
-
-add-code : tie.Need-add-code Inv-loop μ-loop
-add-code c = omega arith
-
-mul-code-2 : tie.Need-mul-code-2 Inv-loop μ-loop
-mul-code-2 c = omega arith
-
-array-write-code-2 : tie.Need-array-write-code-2 Inv-loop μ-loop
-array-write-code-2 c = omega arith
-
-add-pack-statements : tie.Need-add-pack-statements Inv-loop μ-loop
-add-pack-statements c = omega arith
-
 pack-statements-requires : tie.Need-pack-statements-requires Inv-loop μ-loop
 pack-statements-requires c κs = (omega arith, simp length-set (c .before .before .before .before .before .loop .inv .1 .size))
-
-add-s : tie.Need-add-s Inv-loop μ-loop
-add-s c = omega arith
-
-loop-less : tie.Need-loop-less Inv-loop μ-loop
-loop-less c = omega arith
 
 loop-again : tie.Need-loop-again Inv-loop μ-loop
 loop-again c = let m = c .before .before .before .before .before .before .before .args .t1 in
@@ -76,23 +37,7 @@ returns c = let e : c .before .loop .s ≡ 64 = omega arith in rw (← e) (c .be
 pub pack-spec : {M : Type 1} → statement M
 pack-spec =
     tie.close
-    (tie.spec
-    Inv-loop
-    μ-loop
-    loop-holds
-    mul-g
-    element-copy-out-g
-    mul-base
-    pack-end-requires
-    mul-code
-    array-write-code
-    pack-choice-requires
-    add-code
-    mul-code-2
-    array-write-code-2
-    add-pack-statements
-    pack-statements-requires
-    add-s
-    loop-less
-    loop-again
+    (tie.spec Inv-loop μ-loop loop-holds (λ c. omega arith) (λ c. omega arith) (λ c. omega arith) (λ c κs. search needs)
+    (λ c. omega arith) (λ c. omega arith) (λ c κs. search needs) (λ c. omega arith) (λ c. omega arith)
+    (λ c. omega arith) (λ c. omega arith) pack-statements-requires (λ c. omega arith) (λ c. omega arith) loop-again
     returns)

@@ -15,15 +15,6 @@ shared-slice-read-head-fault c = omega (arith, c .before .before .before .before
 shared-slice-read-head-fault-2 : tie.Need-shared-slice-read-head-fault-2
 shared-slice-read-head-fault-2 c = omega (arith, c .before .before .before .before .before .pre (c .before .before .before .match .keys1))
 
-head-fault-requires : tie.Need-head-fault-requires
-head-fault-requires c κs = search needs
-
-unless-requires : tie.Need-unless-requires
-unless-requires c κs = search needs
-
-unless-requires-2 : tie.Need-unless-requires-2
-unless-requires-2 c κs = search needs
-
 returns : tie.Need-returns
 unfolding countFault
 returns c = rw (c .before .before .before .before .match .keys1, ← c .before .before .before .horizon-at .ensures) (c .head-fault .ensures)
@@ -41,4 +32,7 @@ unfolding countFault
 returns-4 c = simp (ne-eqb _ 1 (c .match .rest .0 .0 .1), ne-eqb _ 2 (c .match .rest .0 .1), ne-eqb _ 3 (c .match .rest .1))
 
 pub count-fault-spec : {M : Type 1} → statement M
-count-fault-spec = tie.close (tie.spec horizon-at-requires shared-slice-read-head-fault shared-slice-read-head-fault-2 head-fault-requires unless-requires unless-requires-2 returns returns-2 returns-3 returns-4)
+count-fault-spec =
+    tie.close
+    (tie.spec horizon-at-requires shared-slice-read-head-fault shared-slice-read-head-fault-2 (λ c κs. search needs)
+    (λ c κs. search needs) (λ c κs. search needs) returns returns-2 returns-3 returns-4)

@@ -15,26 +15,11 @@ shared-slice-read-t8 c = omega (arith, c .before .before .before .before .pre .h
 add-t9 : tie.Need-add-t9
 add-t9 c = omega (arith, c .before .before .before .pre .segment (c .before .match .keys2))
 
-target-bound-requires : tie.Need-target-bound-requires
-target-bound-requires c κs = search needs
-
-most-of-requires : tie.Need-most-of-requires
-most-of-requires c κs = search needs
-
 add-t12 : tie.Need-add-t12
 add-t12 c = omega (arith, c .before .before .before .pre .thread (c .before .match .keys3) .1)
 
 shared-slice-read-wide : tie.Need-shared-slice-read-wide
 shared-slice-read-wide c = omega (arith, c .before .before .before .before .pre .thread (c .before .before .match .keys3) .0)
-
-wide-requires : tie.Need-wide-requires
-wide-requires c κs = search needs
-
-add-most-of : tie.Need-add-most-of
-add-most-of c = search needs
-
-most-of-requires-2 : tie.Need-most-of-requires-2
-most-of-requires-2 c κs = search needs
 
 returns : tie.Need-returns
 unfolding countsAfter
@@ -53,4 +38,8 @@ unfolding countsAfter
 returns-4 c = simp (ne-eqb _ 1 (c .match .rest .0 .0 .1), ne-eqb _ 2 (c .match .rest .0 .1), ne-eqb _ 3 (c .match .rest .1))
 
 pub counts-after-spec : {M : Type 1} → statement M
-counts-after-spec = tie.close (tie.spec shared-slice-read-t6 shared-slice-read-t8 add-t9 target-bound-requires most-of-requires add-t12 shared-slice-read-wide wide-requires add-most-of most-of-requires-2 returns returns-2 returns-3 returns-4)
+counts-after-spec =
+    tie.close
+    (tie.spec shared-slice-read-t6 shared-slice-read-t8 add-t9 (λ c κs. search needs) (λ c κs. search needs) add-t12
+    shared-slice-read-wide (λ c κs. search needs) (λ c. search needs) (λ c κs. search needs) returns returns-2 returns-3
+    returns-4)

@@ -49,35 +49,11 @@ next-within w = omega (arith, opened-left (opened w), restOf-length (bytes-of (t
 loop-holds : tie.Need-loop-holds Inv-loop μ-loop
 loop-holds c = (omega arith, judged-none _)
 
-sub-b : tie.Need-sub-b Inv-loop μ-loop
-sub-b c = omega arith
-
-part-b-start : tie.Need-part-b-start Inv-loop μ-loop
-part-b-start c = omega arith
-
-part-b-end : tie.Need-part-b-end Inv-loop μ-loop
-part-b-end c = omega arith
-
-record-fault-requires : tie.Need-record-fault-requires Inv-loop μ-loop
-record-fault-requires c κs = search needs
-
 returns : tie.Need-returns Inv-loop μ-loop
 returns c = judged-refused _ _ _ _ (c .before .before .before .before .loop .inv .1) _ (c .before .before .before .loop-test .taken) (c .before .record-fault .ensures) (c .if1 .taken)
 
-word-at-requires : tie.Need-word-at-requires Inv-loop μ-loop
-word-at-requires c κs = search needs
-
-size-of-requires : tie.Need-size-of-requires Inv-loop μ-loop
-size-of-requires c κs = search needs
-
-word-at-requires-2 : tie.Need-word-at-requires-2 Inv-loop μ-loop
-word-at-requires-2 c κs = search needs
-
 sub-end-fault : tie.Need-sub-end-fault Inv-loop μ-loop
 sub-end-fault c = opened-left (opened (c .before))
-
-end-fault-requires : tie.Need-end-fault-requires Inv-loop μ-loop
-end-fault-requires c κs = search needs
 
 returns-2 : tie.Need-returns-2 Inv-loop μ-loop
 returns-2 c = judged-end _ _ _ _ (turn-of (c .before .before) .loop .inv .1) (opened (c .before .before)) (kept (c .before .before .before .before .before)) _ _ (c .before .if2 .taken) refl (c .end-fault .ensures)
@@ -107,24 +83,6 @@ returns-3 c = judged-short _ _ _ _ (c .before .loop .inv .1) (omega arith)
 pub file-number-spec : {M : Type 1} → statement M
 file-number-spec =
     tie.close
-    (tie.spec
-    Inv-loop
-    μ-loop
-    loop-holds
-    sub-b
-    part-b-start
-    part-b-end
-    record-fault-requires
-    returns
-    word-at-requires
-    size-of-requires
-    word-at-requires-2
-    sub-end-fault
-    end-fault-requires
-    returns-2
-    slice-aggregate-counts-after
-    counts-after-requires
-    add-at
-    loop-less
-    loop-again
-    returns-3)
+    (tie.spec Inv-loop μ-loop loop-holds (λ c. omega arith) (λ c. omega arith) (λ c. omega arith) (λ c κs. search needs)
+    returns (λ c κs. search needs) (λ c κs. search needs) (λ c κs. search needs) sub-end-fault (λ c κs. search needs)
+    returns-2 slice-aggregate-counts-after counts-after-requires add-at loop-less loop-again returns-3)

@@ -7,27 +7,12 @@ use Rattle.reader_file.proofs.RecordLaws.{framingFault-short, framingFa
 use Rattle.reader_file.proofs.framing_fault.Statement.{statement}
 use Rattle.reader_file.proofs.framing_fault.Tie as tie
 
-is-whole-requires : tie.Need-is-whole-requires
-is-whole-requires c κs = search needs
-
 returns : tie.Need-returns
 returns c = framingFault-short _ _ (sym (c .before .is-whole .ensures) ∙ not-true _ (c .if1 .taken))
-
-word-at-requires : tie.Need-word-at-requires
-word-at-requires c κs = search needs
-
-comes-after-requires : tie.Need-comes-after-requires
-comes-after-requires c κs = search needs
 
 returns-2 : tie.Need-returns-2
 returns-2 c = framingFault-kind _ _ _ (c .before .before .word-at .ensures .0) (sym (c .before .before .before .before .is-whole .ensures) ∙ not-false _ (c .before .before .before .if1 .left))
     (sym (c .before .comes-after .ensures) ∙ not-true _ (c .if2 .taken))
-
-word-at-requires-2 : tie.Need-word-at-requires-2
-word-at-requires-2 c κs = search needs
-
-length-fits-requires : tie.Need-length-fits-requires
-length-fits-requires c κs = search needs
 
 returns-3 : tie.Need-returns-3
 returns-3 c = framingFault-length _ _ _ (c .before .before .before .before .before .word-at .ensures .0) _ (c .before .before .word-at2 .ensures .0) (sym (c .before .before .before .before .before .before .before .is-whole .ensures) ∙ not-false _ (c .before .before .before .before .before .before .if1 .left))
@@ -40,13 +25,5 @@ returns-4 c = framingFault-none _ _ _ (c .before .before .before .before .before
 pub framing-fault-spec : {M : Type 1} → statement M
 framing-fault-spec =
     tie.close
-    (tie.spec
-    is-whole-requires
-    returns
-    word-at-requires
-    comes-after-requires
-    returns-2
-    word-at-requires-2
-    length-fits-requires
-    returns-3
-    returns-4)
+    (tie.spec (λ c κs. search needs) returns (λ c κs. search needs) (λ c κs. search needs) returns-2
+    (λ c κs. search needs) (λ c κs. search needs) returns-3 returns-4)

@@ -8,12 +8,6 @@ use Rattle.reader_file.proofs.is_whole.Tie as tie
 returns : tie.Need-returns
 returns c = isWhole-head _ (c .if1 .taken)
 
-word-at-requires : tie.Need-word-at-requires
-word-at-requires c κs = search needs
-
-size-of-requires : tie.Need-size-of-requires
-size-of-requires c κs = search needs
-
 returns-2 : tie.Need-returns-2
 returns-2 c = isWhole-least _ _ (c .before .before .before .if1 .left) (c .before .size-of .ensures ∙ c .before .before .word-at .ensures .0) (c .if2 .taken)
 
@@ -21,4 +15,4 @@ returns-3 : tie.Need-returns-3
 returns-3 c = isWhole-left _ _ (c .before .before .before .if1 .left) (c .before .size-of .ensures ∙ c .before .before .word-at .ensures .0) (c .if2 .left)
 
 pub is-whole-spec : {M : Type 1} → statement M
-is-whole-spec = tie.close (tie.spec returns word-at-requires size-of-requires returns-2 returns-3)
+is-whole-spec = tie.close (tie.spec returns (λ c κs. search needs) (λ c κs. search needs) returns-2 returns-3)

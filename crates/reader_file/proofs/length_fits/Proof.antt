@@ -6,12 +6,6 @@ use Rattle.reader.specs.Record.{segmentKind, lengthFits}
 use Rattle.reader_file.proofs.length_fits.Statement.{statement}
 use Rattle.reader_file.proofs.length_fits.Tie as tie
 
-size-of-requires : tie.Need-size-of-requires
-size-of-requires c κs = search needs
-
-segment-length-fits-requires : tie.Need-segment-length-fits-requires
-segment-length-fits-requires c κs = search needs
-
 returns : tie.Need-returns
 unfolding lengthFits
 returns c = rw (c .match .keys1)
@@ -28,4 +22,6 @@ unfolding lengthFits
 returns-4 c = simp (ne-eqb _ 1 (c .match .rest .0 .0 .1), ne-eqb _ 2 (c .match .rest .0 .1), ne-eqb _ 3 (c .match .rest .1))
 
 pub length-fits-spec : {M : Type 1} → statement M
-length-fits-spec = tie.close (tie.spec size-of-requires segment-length-fits-requires returns returns-2 returns-3 returns-4)
+length-fits-spec =
+    tie.close
+    (tie.spec (λ c κs. search needs) (λ c κs. search needs) returns returns-2 returns-3 returns-4)

@@ -97,41 +97,11 @@ shared-slice-read-v c = omega (arith, head-length (c .before .before))
 shared-slice-read-e : tie.Need-shared-slice-read-e Inv-loop μ-loop
 shared-slice-read-e c = omega (arith, head-length (c .before .before .before))
 
-no-segment-requires : tie.Need-no-segment-requires Inv-loop μ-loop
-no-segment-requires c κs = search needs
-
 loop-holds : tie.Need-loop-holds Inv-loop μ-loop
 loop-holds c = (filled-left _ (c .before .before .before .before .before .before .pre), rw (c .no-segment .ensures) (filled-head _ (c .before .before .before .before .before .before .pre) _ (c .before .before .before .horizon-at .ensures)))
 
-sub-loop : tie.Need-sub-loop Inv-loop μ-loop
-sub-loop c = omega arith
-
-sub-b : tie.Need-sub-b Inv-loop μ-loop
-sub-b c = omega arith
-
-part-b-start : tie.Need-part-b-start Inv-loop μ-loop
-part-b-start c = omega arith
-
-part-b-end : tie.Need-part-b-end Inv-loop μ-loop
-part-b-end c = omega arith
-
-word-at-requires : tie.Need-word-at-requires Inv-loop μ-loop
-word-at-requires c κs = search needs
-
-size-of-requires : tie.Need-size-of-requires Inv-loop μ-loop
-size-of-requires c κs = search needs
-
-word-at-requires-2 : tie.Need-word-at-requires-2 Inv-loop μ-loop
-word-at-requires-2 c κs = search needs
-
 slice-aggregate-r : tie.Need-slice-aggregate-r Inv-loop μ-loop
 slice-aggregate-r c = sym (opened-length (opened (c .before)))
-
-wide-requires : tie.Need-wide-requires Inv-loop μ-loop
-wide-requires c κs = search needs
-
-segment-from-requires : tie.Need-segment-from-requires Inv-loop μ-loop
-segment-from-requires c κs = search needs
 
 mul-segments : tie.Need-mul-segments Inv-loop μ-loop
 mul-segments c = omega (arith, c .before .wide .ensures, segments-left (c .before .before .before .before) (c .before .before .if1 .taken))
@@ -141,9 +111,6 @@ array-set-from-segments c = omega (arith, c .before .wide .ensures, segments-lef
 
 add-n : tie.Need-add-n Inv-loop μ-loop
 add-n c = omega (arith, segments-left (c .before .before .before .before) (c .before .before .if1 .taken))
-
-wide-requires-2 : tie.Need-wide-requires-2 Inv-loop μ-loop
-wide-requires-2 c κs = search needs
 
 shared-slice-read-t35 : tie.Need-shared-slice-read-t35 Inv-loop μ-loop
 shared-slice-read-t35 c = omega (arith, opened-thread (opened (c .before .before .before .before)) (thread (c .before .before)))
@@ -169,33 +136,8 @@ returns c = filled-all (accepted (c .before)) (c .before .loop .inv .1) (omega (
 pub model-from-spec : {M : Type 1} → statement M
 model-from-spec =
     tie.close
-    (tie.spec
-    Inv-loop
-    μ-loop
-    slice-aggregate-head
-    horizon-at-requires
-    shared-slice-read-v
-    shared-slice-read-e
-    no-segment-requires
-    loop-holds
-    sub-loop
-    sub-b
-    part-b-start
-    part-b-end
-    word-at-requires
-    size-of-requires
-    word-at-requires-2
-    slice-aggregate-r
-    wide-requires
-    segment-from-requires
-    mul-segments
-    array-set-from-segments
-    add-n
-    wide-requires-2
-    shared-slice-read-t35
-    array-set-from-starts
-    add-t
-    add-at
-    loop-less
-    loop-again
-    returns)
+    (tie.spec Inv-loop μ-loop slice-aggregate-head horizon-at-requires shared-slice-read-v shared-slice-read-e
+    (λ c κs. search needs) loop-holds (λ c. omega arith) (λ c. omega arith) (λ c. omega arith) (λ c. omega arith)
+    (λ c κs. search needs) (λ c κs. search needs) (λ c κs. search needs) slice-aggregate-r (λ c κs. search needs)
+    (λ c κs. search needs) mul-segments array-set-from-segments add-n (λ c κs. search needs) shared-slice-read-t35
+    array-set-from-starts add-t add-at loop-less loop-again returns)

@@ -3,11 +3,8 @@ use borrow.Author.Needs.{needs}
 use Rattle.reader_file.proofs.no_model.Statement.{statement}
 use Rattle.reader_file.proofs.no_model.Tie as tie
 
-no-segment-requires : tie.Need-no-segment-requires
-no-segment-requires c κs = search needs
-
 returns : tie.Need-returns
 returns c = rw (c .no-segment .ensures)
 
 pub no-model-spec : {M : Type 1} → statement M
-no-model-spec = tie.close (tie.spec no-segment-requires returns)
+no-model-spec = tie.close (tie.spec (λ c κs. search needs) returns)

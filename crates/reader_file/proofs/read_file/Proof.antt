@@ -5,12 +5,6 @@ use Rattle.reader_file.proofs.FileLaws.{file-is, file-refused}
 use Rattle.reader_file.proofs.read_file.Statement.{statement}
 use Rattle.reader_file.proofs.read_file.Tie as tie
 
-file-number-requires : tie.Need-file-number-requires
-file-number-requires c κs = search needs
-
-refused-requires : tie.Need-refused-requires
-refused-requires c κs = search needs
-
 returns : tie.Need-returns
 returns c = c .refused .ensures ∙ file-refused _ _ (c .before .before .file-number .ensures) (c .before .if1 .taken)
 
@@ -23,4 +17,4 @@ returns-2 c = file-is _ _ _ (sym (c .before .if1 .left) ∙ c .before .before .f
 pub read-file-spec : {M : Type 1} → statement M
 read-file-spec =
     tie.close
-    (tie.spec file-number-requires refused-requires returns model-from-requires returns-2)
+    (tie.spec (λ c κs. search needs) (λ c κs. search needs) returns model-from-requires returns-2)

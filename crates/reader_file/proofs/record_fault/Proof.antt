@@ -15,20 +15,8 @@ opened c = record {
   is-kind = c .before .word-at2 .ensures .0;
 }
 
-framing-fault-requires : tie.Need-framing-fault-requires
-framing-fault-requires c κs = search needs
-
 returns : tie.Need-returns
 returns c = recordFault-framing _ _ _ _ (c .before .framing-fault .ensures) (c .if1 .taken)
-
-word-at-requires : tie.Need-word-at-requires
-word-at-requires c κs = search needs
-
-size-of-requires : tie.Need-size-of-requires
-size-of-requires c κs = search needs
-
-word-at-requires-2 : tie.Need-word-at-requires-2
-word-at-requires-2 c κs = search needs
 
 slice-aggregate-r : tie.Need-slice-aggregate-r
 slice-aggregate-r c = sym (opened-length (opened c))
@@ -42,11 +30,11 @@ returns-2 c = recordFault-count (opened (c .before .before)) _ _ (c .before .cou
 returns-3 : tie.Need-returns-3
 returns-3 c = recordFault-other (opened (c .before .before .before)) _ _ (c .before .before .count-fault .ensures) (c .before .if2 .left) (c .if3 .taken)
 
-segment-fault-requires : tie.Need-segment-fault-requires
-segment-fault-requires c κs = search needs
-
 returns-4 : tie.Need-returns-4
 returns-4 c = recordFault-segment (opened (c .before .before .before .before)) _ _ (c .before .before .before .count-fault .ensures) _ (c .before .before .if2 .left) (c .before .if3 .left) (c .segment-fault .ensures)
 
 pub record-fault-spec : {M : Type 1} → statement M
-record-fault-spec = tie.close (tie.spec framing-fault-requires returns word-at-requires size-of-requires word-at-requires-2 slice-aggregate-r count-fault-requires returns-2 returns-3 segment-fault-requires returns-4)
+record-fault-spec =
+    tie.close
+    (tie.spec (λ c κs. search needs) returns (λ c κs. search needs) (λ c κs. search needs) (λ c κs. search needs)
+    slice-aggregate-r count-fault-requires returns-2 returns-3 (λ c κs. search needs) returns-4)

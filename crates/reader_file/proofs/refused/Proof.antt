@@ -3,11 +3,8 @@ use borrow.Author.Needs.{needs}
 use Rattle.reader_file.proofs.refused.Statement.{statement}
 use Rattle.reader_file.proofs.refused.Tie as tie
 
-no-model-requires : tie.Need-no-model-requires
-no-model-requires c κs = search needs
-
 returns : tie.Need-returns
 returns c = rw (c .no-model .ensures)
 
 pub refused-spec : {M : Type 1} → statement M
-refused-spec = tie.close (tie.spec no-model-requires returns)
+refused-spec = tie.close (tie.spec (λ c κs. search needs) returns)

@@ -4,22 +4,10 @@ use Rattle.reader_load.proofs.LoadLaws.{load-refused, load-short, load-
 use Rattle.reader_load.proofs.load.Statement.{statement}
 use Rattle.reader_load.proofs.load.Tie as tie
 
-read-file-requires : tie.Need-read-file-requires
-read-file-requires c κs = search needs
-
 returns : tie.Need-returns
 returns c =
     let s = c .before .before .before .before .before in
     load-refused (s .args .bytes .now) (s .args .words .now) _ (c .before .before .read-file .ensures) (c .if1 .taken)
-
-distances-requires : tie.Need-distances-requires
-distances-requires c κs = search needs
-
-refused-requires : tie.Need-refused-requires
-refused-requires c κs = search needs
-
-same-length : tie.Need-same-length
-same-length c = search needs
 
 returns-2 : tie.Need-returns-2
 returns-2 c =
@@ -27,9 +15,6 @@ returns-2 c =
     let r = c .before .before .before .before .before .before .before .before .before .read-file in
     let d = c .before .before .before .before .distances in
     rw (c .refused .ensures) (load-short (s .args .bytes .now) (s .args .words .now) (r .result) (r .ensures) (c .before .before .before .before .before .before .before .if1 .left) (d .result) _ (d .ensures .0) (c .before .if2 .taken) (d .ensures .1))
-
-same-length-2 : tie.Need-same-length-2
-same-length-2 c = search needs
 
 returns-3 : tie.Need-returns-3
 returns-3 c =
@@ -41,12 +26,5 @@ returns-3 c =
 pub load-spec : {M : Type 1} → statement M
 load-spec =
     tie.close
-    (tie.spec
-    read-file-requires
-    returns
-    distances-requires
-    refused-requires
-    same-length
-    returns-2
-    same-length-2
-    returns-3)
+    (tie.spec (λ c κs. search needs) returns (λ c κs. search needs) (λ c κs. search needs) (λ c. search needs) returns-2
+    (λ c. search needs) returns-3)

@@ -7,22 +7,15 @@ use Rattle.reader.specs.Closer.{closerBytesFault}
 use Rattle.reader_segment.proofs.closer_bytes_fault.Statement.{statement}
 use Rattle.reader_segment.proofs.closer_bytes_fault.Tie as tie
 
-closer-shape-fault-requires : tie.Need-closer-shape-fault-requires
-closer-shape-fault-requires c κs = search needs
-
 returns : tie.Need-returns
 unfolding closerBytesFault
 returns c = fault-here _ _ _ (c .before .closer-shape-fault .ensures) (c .if1 .taken)
-
-closer-from-requires : tie.Need-closer-from-requires
-closer-from-requires c κs = search needs
-
-closer-fault-requires : tie.Need-closer-fault-requires
-closer-fault-requires c κs = search needs
 
 returns-2 : tie.Need-returns-2
 unfolding closerBytesFault
 returns-2 c = fault-later _ _ _ (sym (c .before .before .before .closer-shape-fault .ensures) ∙ c .before .before .if1 .left) (c .closer-fault .ensures ∙ ap (closerFault _ _) (c .before .closer-from .ensures))
 
 pub closer-bytes-fault-spec : {M : Type 1} → statement M
-closer-bytes-fault-spec = tie.close (tie.spec closer-shape-fault-requires returns closer-from-requires closer-fault-requires returns-2)
+closer-bytes-fault-spec =
+    tie.close
+    (tie.spec (λ c κs. search needs) returns (λ c κs. search needs) (λ c κs. search needs) returns-2)

@@ -5,21 +5,6 @@ use Rattle.reader.specs.Closer.{closerFrom}
 use Rattle.reader_segment.proofs.closer_from.Statement.{statement}
 use Rattle.reader_segment.proofs.closer_from.Tie as tie
 
-shared-slice-read-kind : tie.Need-shared-slice-read-kind
-shared-slice-read-kind c = search needs
-
-long-within-requires : tie.Need-long-within-requires
-long-within-requires c κs = search needs
-
-next-from-requires : tie.Need-next-from-requires
-next-from-requires c κs = search needs
-
-shared-slice-read-t10 : tie.Need-shared-slice-read-t10
-shared-slice-read-t10 c = search needs
-
-next-from-requires-2 : tie.Need-next-from-requires-2
-next-from-requires-2 c κs = search needs
-
 returns : tie.Need-returns
 unfolding closerFrom
 returns c = rw (c .before .before .match .keys1, c .before .long-within .ensures, c .next-from .ensures)
@@ -39,13 +24,5 @@ returns-4 c = simp (ne-eqb _ 1 (c .match .rest .0 .0 .1), ne-eqb _ 2 (c .match .
 pub closer-from-spec : {M : Type 1} → statement M
 closer-from-spec =
     tie.close
-    (tie.spec
-    shared-slice-read-kind
-    long-within-requires
-    next-from-requires
-    shared-slice-read-t10
-    next-from-requires-2
-    returns
-    returns-2
-    returns-3
-    returns-4)
+    (tie.spec (λ c. search needs) (λ c κs. search needs) (λ c κs. search needs) (λ c. search needs)
+    (λ c κs. search needs) returns returns-2 returns-3 returns-4)

@@ -11,9 +11,6 @@ use Rattle.reader_segment.proofs.SegmentLaws.{part-rest, fits-length, c
 use Rattle.reader_segment.proofs.closer_in.Statement.{statement}
 use Rattle.reader_segment.proofs.closer_in.Tie as tie
 
-segment-length-fits-requires : tie.Need-segment-length-fits-requires
-segment-length-fits-requires c κs = search needs
-
 fit : (c : tie.Else1) → fits (now (c .before .before .before .args .r)) ≡ true
 fit c = sym (c .before .segment-length-fits .ensures) ∙ not-false _ (c .if1 .left)
 
@@ -26,9 +23,6 @@ sub-closer-from c = omega (arith, fits-length (now (c .before .before .before .a
 part-closer-from-start : tie.Need-part-closer-from-start
 part-closer-from-start c = omega (arith, fits-length (now (c .before .before .before .args .r)) (fit c) .0)
 
-part-closer-from-end : tie.Need-part-closer-from-end
-part-closer-from-end c = search needs
-
 closer-from-requires : tie.Need-closer-from-requires
 closer-from-requires c κs = rw part-rest (simp length-drop (omega (arith, fits-length (now (c .before .before .before .before .args .r)) (fit (c .before)) .0)))
 
@@ -36,4 +30,7 @@ returns-2 : tie.Need-returns-2
 returns-2 c = closerIn-fits _ _ (fit (c .before .before)) (c .closer-from .ensures)
 
 pub closer-in-spec : {M : Type 1} → statement M
-closer-in-spec = tie.close (tie.spec segment-length-fits-requires returns sub-closer-from part-closer-from-start part-closer-from-end closer-from-requires returns-2)
+closer-in-spec =
+    tie.close
+    (tie.spec (λ c κs. search needs) returns sub-closer-from part-closer-from-start (λ c. search needs)
+    closer-from-requires returns-2)

@@ -5,27 +5,6 @@ use Rattle.reader.specs.Closer.{closerShapeFault}
 use Rattle.reader_segment.proofs.closer_shape_fault.Statement.{statement}
 use Rattle.reader_segment.proofs.closer_shape_fault.Tie as tie
 
-shared-slice-read-kind : tie.Need-shared-slice-read-kind
-shared-slice-read-kind c = search needs
-
-rest-is-zero-requires : tie.Need-rest-is-zero-requires
-rest-is-zero-requires c κs = search needs
-
-unless-requires : tie.Need-unless-requires
-unless-requires c κs = search needs
-
-shared-slice-read-unless : tie.Need-shared-slice-read-unless
-shared-slice-read-unless c = search needs
-
-unless-requires-2 : tie.Need-unless-requires-2
-unless-requires-2 c κs = search needs
-
-long-within-requires : tie.Need-long-within-requires
-long-within-requires c κs = search needs
-
-unless-requires-3 : tie.Need-unless-requires-3
-unless-requires-3 c κs = search needs
-
 returns : tie.Need-returns
 unfolding closerShapeFault
 returns c = rw (c .before .before .match .keys1, ← c .before .rest-is-zero .ensures) (c .unless .ensures)
@@ -45,15 +24,5 @@ returns-4 c = simp (ne-eqb _ 0 (c .match .rest .0 .0 .1), ne-eqb _ 1 (c .match .
 pub closer-shape-fault-spec : {M : Type 1} → statement M
 closer-shape-fault-spec =
     tie.close
-    (tie.spec
-    shared-slice-read-kind
-    rest-is-zero-requires
-    unless-requires
-    shared-slice-read-unless
-    unless-requires-2
-    long-within-requires
-    unless-requires-3
-    returns
-    returns-2
-    returns-3
-    returns-4)
+    (tie.spec (λ c. search needs) (λ c κs. search needs) (λ c κs. search needs) (λ c. search needs)
+    (λ c κs. search needs) (λ c κs. search needs) (λ c κs. search needs) returns returns-2 returns-3 returns-4)

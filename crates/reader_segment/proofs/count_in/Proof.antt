@@ -10,9 +10,6 @@ use Rattle.reader_segment.proofs.SegmentLaws.{fits-length, countIn-fits
 use Rattle.reader_segment.proofs.count_in.Statement.{statement}
 use Rattle.reader_segment.proofs.count_in.Tie as tie
 
-segment-length-fits-requires : tie.Need-segment-length-fits-requires
-segment-length-fits-requires c κs = search needs
-
 fit : (c : tie.Else1) → fits (now (c .before .before .before .args .r)) ≡ true
 fit c = sym (c .before .segment-length-fits .ensures) ∙ not-false _ (c .if1 .left)
 
@@ -26,4 +23,4 @@ returns-2 : tie.Need-returns-2
 returns-2 c = countIn-fits _ (fit c)
 
 pub count-in-spec : {M : Type 1} → statement M
-count-in-spec = tie.close (tie.spec segment-length-fits-requires returns sub-result returns-2)
+count-in-spec = tie.close (tie.spec (λ c κs. search needs) returns sub-result returns-2)

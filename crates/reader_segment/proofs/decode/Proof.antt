@@ -6,18 +6,6 @@ use Rattle.reader_segment.proofs.StatementLaws.{decodedFrom-notify, dec
 use Rattle.reader_segment.proofs.decode.Statement.{statement}
 use Rattle.reader_segment.proofs.decode.Tie as tie
 
-shared-slice-read-kind : tie.Need-shared-slice-read-kind
-shared-slice-read-kind c = search needs
-
-shared-slice-read-a : tie.Need-shared-slice-read-a
-shared-slice-read-a c = search needs
-
-long-within-requires : tie.Need-long-within-requires
-long-within-requires c κs = search needs
-
-unless-requires : tie.Need-unless-requires
-unless-requires c κs = search needs
-
 returns : tie.Need-returns
 unfolding decodedFrom opShapeFault opFrom
 returns c = rw (c .match .keys1, c .before .long-within .ensures)
@@ -49,4 +37,7 @@ returns-8 : tie.Need-returns-8
 returns-8 c = decodedFrom-other _ (c .match .rest)
 
 pub decode-spec : {M : Type 1} → statement M
-decode-spec = tie.close (tie.spec shared-slice-read-kind shared-slice-read-a long-within-requires unless-requires returns returns-2 returns-3 returns-4 returns-5 returns-6 returns-7 returns-8)
+decode-spec =
+    tie.close
+    (tie.spec (λ c. search needs) (λ c. search needs) (λ c κs. search needs) (λ c κs. search needs) returns returns-2
+    returns-3 returns-4 returns-5 returns-6 returns-7 returns-8)

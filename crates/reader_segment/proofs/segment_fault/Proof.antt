@@ -14,9 +14,6 @@ use Rattle.reader_segment.proofs.segment_fault.Tie as tie
 fit : (c : tie.Else1) → fits (now (c .before .before .before .args .r)) ≡ true
 fit c = sym (c .before .segment-length-fits .ensures) ∙ not-false _ (c .if1 .left)
 
-segment-length-fits-requires : tie.Need-segment-length-fits-requires
-segment-length-fits-requires c κs = search needs
-
 returns : tie.Need-returns
 returns c = segmentRecordFault-length _ _ _ (sym (c .before .segment-length-fits .ensures) ∙ not-true _ (c .if1 .taken))
 
@@ -25,9 +22,6 @@ sub-closer-bytes-fault c = omega (arith, fits-length (now (c .before .before .be
 
 part-closer-bytes-fault-start : tie.Need-part-closer-bytes-fault-start
 part-closer-bytes-fault-start c = omega (arith, fits-length (now (c .before .before .before .args .r)) (fit c) .0)
-
-part-closer-bytes-fault-end : tie.Need-part-closer-bytes-fault-end
-part-closer-bytes-fault-end c = search needs
 
 closer-bytes-fault-requires : tie.Need-closer-bytes-fault-requires
 closer-bytes-fault-requires c κs = rw part-rest (simp length-drop (omega (arith, fits-length (now (c .before .before .before .before .args .r)) (fit (c .before)) .0)))
@@ -44,13 +38,5 @@ returns-3 c = segmentRecordFault-statements _ _ _ (fit (c .before .before .befor
 pub segment-fault-spec : {M : Type 1} → statement M
 segment-fault-spec =
     tie.close
-    (tie.spec
-    segment-length-fits-requires
-    returns
-    sub-closer-bytes-fault
-    part-closer-bytes-fault-start
-    part-closer-bytes-fault-end
-    closer-bytes-fault-requires
-    statements-fault-requires
-    returns-2
-    returns-3)
+    (tie.spec (λ c κs. search needs) returns sub-closer-bytes-fault part-closer-bytes-fault-start (λ c. search needs)
+    closer-bytes-fault-requires statements-fault-requires returns-2 returns-3)

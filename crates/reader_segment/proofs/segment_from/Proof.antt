@@ -16,12 +16,6 @@ Inv-loop r n g₀ j₀ g j = (n ≡ countIn r) × ((j ≤ n) × (g ≡ segmentTo
 abbrev μ-loop : tie.MeasureT-loop
 μ-loop r n g₀ j₀ g j = n - j
 
-count-in-requires : tie.Need-count-in-requires Inv-loop μ-loop
-count-in-requires c κs = search needs
-
-closer-in-requires : tie.Need-closer-in-requires Inv-loop μ-loop
-closer-in-requires c κs = search needs
-
 small-requires : tie.Need-small-requires Inv-loop μ-loop
 small-requires c κs = omega (arith, c .before .count-in .ensures, countIn-most (now (c .before .before .before .args .r)))
 
@@ -68,22 +62,6 @@ returns c = let e : c .before .loop .j ≡ countIn (now (c .before .before .befo
 pub segment-from-spec : {M : Type 1} → statement M
 segment-from-spec =
     tie.close
-    (tie.spec
-    Inv-loop
-    μ-loop
-    count-in-requires
-    closer-in-requires
-    small-requires
-    loop-holds
-    mul-at
-    add-at
-    sub-decode
-    part-decode-start
-    part-decode-end
-    decode-requires
-    mul-t14
-    element-set-from-g
-    add-j
-    loop-less
-    loop-again
+    (tie.spec Inv-loop μ-loop (λ c κs. search needs) (λ c κs. search needs) small-requires loop-holds mul-at add-at
+    sub-decode part-decode-start part-decode-end decode-requires mul-t14 element-set-from-g add-j loop-less loop-again
     returns)

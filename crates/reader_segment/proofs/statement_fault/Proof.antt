@@ -4,17 +4,11 @@ use Rattle.reader_segment.proofs.StatementLaws.{opBytesFault-shape, opB
 use Rattle.reader_segment.proofs.statement_fault.Statement.{statement}
 use Rattle.reader_segment.proofs.statement_fault.Tie as tie
 
-decode-requires : tie.Need-decode-requires
-decode-requires c κs = search needs
-
 returns : tie.Need-returns
 returns c = opBytesFault-shape _ _ _ _ (c .before .before .decode .ensures) (c .if1 .taken)
-
-op-fault-requires : tie.Need-op-fault-requires
-op-fault-requires c κs = search needs
 
 returns-2 : tie.Need-returns-2
 returns-2 c = opBytesFault-name _ _ _ _ (c .before .before .before .decode .ensures) _ (c .before .if1 .left) (c .op-fault .ensures)
 
 pub statement-fault-spec : {M : Type 1} → statement M
-statement-fault-spec = tie.close (tie.spec decode-requires returns op-fault-requires returns-2)
+statement-fault-spec = tie.close (tie.spec (λ c κs. search needs) returns (λ c κs. search needs) returns-2)

@@ -16,38 +16,14 @@ Inv-loop v e r n j₀ j = (j ≤ n) × (statementsBytesFault j v e r ≡ 0)
 abbrev μ-loop : tie.MeasureT-loop
 μ-loop v e r n j₀ j = n - j
 
-sub-n : tie.Need-sub-n Inv-loop μ-loop
-sub-n c = omega arith
-
 loop-holds : tie.Need-loop-holds Inv-loop μ-loop
 loop-holds c = (omega arith, statementsBytesFault-none _ _ _)
-
-mul-at : tie.Need-mul-at Inv-loop μ-loop
-mul-at c = omega arith
-
-add-at : tie.Need-add-at Inv-loop μ-loop
-add-at c = omega arith
-
-sub-statement-fault : tie.Need-sub-statement-fault Inv-loop μ-loop
-sub-statement-fault c = omega arith
-
-part-statement-fault-start : tie.Need-part-statement-fault-start Inv-loop μ-loop
-part-statement-fault-start c = omega arith
-
-part-statement-fault-end : tie.Need-part-statement-fault-end Inv-loop μ-loop
-part-statement-fault-end c = omega arith
 
 statement-fault-requires : tie.Need-statement-fault-requires Inv-loop μ-loop
 statement-fault-requires c κs = rw part-rest (simp length-drop (omega arith))
 
 returns : tie.Need-returns Inv-loop μ-loop
 returns c = statementsBytesFault-here _ _ _ (c .before .before .before .before .loop .j) _ _ (omega arith) (c .before .before .before .before .loop .inv .1) (c .before .statement-fault .ensures) (c .if1 .taken)
-
-add-j : tie.Need-add-j Inv-loop μ-loop
-add-j c = omega arith
-
-loop-less : tie.Need-loop-less Inv-loop μ-loop
-loop-less c = omega arith
 
 loop-again : tie.Need-loop-again Inv-loop μ-loop
 loop-again c = (omega arith, statementsBytesFault-more _ _ _ (c .before .before .before .before .loop .j) _ (c .before .before .before .before .loop .inv .1) (c .before .statement-fault .ensures) (c .if1 .left))
@@ -56,4 +32,8 @@ returns-2 : tie.Need-returns-2 Inv-loop μ-loop
 returns-2 c = let e : c .before .loop .j ≡ statementCount (now (c .before .before .before .args .r)) = omega arith in rw (← e) (sym (c .before .loop .inv .1))
 
 pub statements-fault-spec : {M : Type 1} → statement M
-statements-fault-spec = tie.close (tie.spec Inv-loop μ-loop sub-n loop-holds mul-at add-at sub-statement-fault part-statement-fault-start part-statement-fault-end statement-fault-requires returns add-j loop-less loop-again returns-2)
+statements-fault-spec =
+    tie.close
+    (tie.spec Inv-loop μ-loop (λ c. omega arith) loop-holds (λ c. omega arith) (λ c. omega arith) (λ c. omega arith)
+    (λ c. omega arith) (λ c. omega arith) statement-fault-requires returns (λ c. omega arith) (λ c. omega arith)
+    loop-again returns-2)

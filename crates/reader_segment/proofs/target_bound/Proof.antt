@@ -4,23 +4,8 @@ use Rattle.reader_segment.proofs.SegmentLaws.{targetBound-end, targetBo
 use Rattle.reader_segment.proofs.target_bound.Statement.{statement}
 use Rattle.reader_segment.proofs.target_bound.Tie as tie
 
-closer-in-requires : tie.Need-closer-in-requires
-closer-in-requires c κs = search needs
-
 enum-told : tie.Need-enum-told
 enum-told c = search needs
-
-enum-known-closer : tie.Need-enum-known-closer
-enum-known-closer c = search needs
-
-bound-of-requires : tie.Need-bound-of-requires
-bound-of-requires c κs = search needs
-
-enum-known-closer-2 : tie.Need-enum-known-closer-2
-enum-known-closer-2 c = search needs
-
-bound-of-requires-2 : tie.Need-bound-of-requires-2
-bound-of-requires-2 c κs = search needs
 
 returns : tie.Need-returns
 returns c = targetBound-end _ _ (c .before .before .closer-in .ensures) (c .enum-told .given .1)
@@ -32,4 +17,7 @@ returns-3 : tie.Need-returns-3
 returns-3 c = targetBound-event _ _ (c .before .before .before .before .closer-in .ensures) _ _ _ (c .before .before .closer2 .given .1) (c .bound-of2 .ensures)
 
 pub target-bound-spec : {M : Type 1} → statement M
-target-bound-spec = tie.close (tie.spec closer-in-requires enum-told enum-known-closer bound-of-requires enum-known-closer-2 bound-of-requires-2 returns returns-2 returns-3)
+target-bound-spec =
+    tie.close
+    (tie.spec (λ c κs. search needs) enum-told (λ c. search needs) (λ c κs. search needs) (λ c. search needs)
+    (λ c κs. search needs) returns returns-2 returns-3)

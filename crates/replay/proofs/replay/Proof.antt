@@ -9,37 +9,16 @@ use Rattle.replay.proofs.ReplayLaws.{square-small, replay-short, replay
 use Rattle.replay.proofs.replay.Statement.{statement}
 use Rattle.replay.proofs.replay.Tie as tie
 
-refused-requires : tie.Need-refused-requires
-refused-requires c κs = search needs
-
 returns : tie.Need-returns
 returns c =
     let a = c .before .before .before .before .before .before .args in
     replay-short (a .file .now) (a .words .now) (a .ks .now) (a .answers .now) (omega arith) (c .refused .result) (c .refused .ensures)
-
-load-requires : tie.Need-load-requires
-load-requires c κs = search needs
-
-refused-requires-2 : tie.Need-refused-requires-2
-refused-requires-2 c κs = search needs
-
-same-length : tie.Need-same-length
-same-length c = search needs
 
 returns-2 : tie.Need-returns-2
 returns-2 c =
     let a = c .before .before .before .before .before .before .before .before .before .before .before .before .args in
     let l = c .before .before .before .before .before .load in
     replay-refused (a .file .now) (a .words .now) (a .ks .now) (a .answers .now) (omega arith) (l .result) _ (l .ensures .0) (l .ensures .1) (c .before .if2 .taken) (c .refused2 .result) (c .refused2 .ensures)
-
-fresh-requires : tie.Need-fresh-requires
-fresh-requires c κs = search needs
-
-conflict-marks-requires : tie.Need-conflict-marks-requires
-conflict-marks-requires c κs = search needs
-
-wide-requires : tie.Need-wide-requires
-wide-requires c κs = search needs
 
 mul-size : tie.Need-mul-size
 mul-size c = omega (arith, square-small (c .wide .result) (c .wide .ensures .1))
@@ -56,15 +35,6 @@ slice-aggregate-requests c =
     let l = c .before .before .before .before .before .before .before .before .before .before .before .load in
     sym (length-take-le _ _ (own-room (a .file .now) (a .words .now) (a .ks .now) (a .answers .now) (omega arith) (l .result) _ (l .ensures .0) (l .ensures .1) (c .before .before .before .before .before .before .before .if2 .left) (c .before .wide .result) (c .before .wide .ensures .0)))
 
-requests-requires : tie.Need-requests-requires
-requests-requires c κs = search needs
-
-same-length-2 : tie.Need-same-length-2
-same-length-2 c = search needs
-
-same-length-3 : tie.Need-same-length-3
-same-length-3 c = search needs
-
 returns-3 : tie.Need-returns-3
 returns-3 c =
     let a = c .before .before .before .before .before .before .before .before .before .before .before .before .before .before .before .before .before .before .before .before .before .before .before .before .args in
@@ -79,20 +49,6 @@ returns-3 c =
 pub replay-spec : {M : Type 1} → statement M
 replay-spec =
     tie.close
-    (tie.spec
-    refused-requires
-    returns
-    load-requires
-    refused-requires-2
-    same-length
-    returns-2
-    fresh-requires
-    conflict-marks-requires
-    wide-requires
-    mul-size
-    slice-reshare-prefix-requests
-    slice-aggregate-requests
-    requests-requires
-    same-length-2
-    same-length-3
-    returns-3)
+    (tie.spec (λ c κs. search needs) returns (λ c κs. search needs) (λ c κs. search needs) (λ c. search needs) returns-2
+    (λ c κs. search needs) (λ c κs. search needs) (λ c κs. search needs) mul-size slice-reshare-prefix-requests
+    slice-aggregate-requests (λ c κs. search needs) (λ c. search needs) (λ c. search needs) returns-3)

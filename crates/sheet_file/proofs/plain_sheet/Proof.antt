@@ -4,18 +4,6 @@ use Rattle.sheet_file.proofs.ReportLaws.{printed-run, printed-refused}
 use Rattle.sheet_file.proofs.plain_sheet.Statement.{statement}
 use Rattle.sheet_file.proofs.plain_sheet.Tie as tie
 
-read-file-requires : tie.Need-read-file-requires
-read-file-requires c κs = search needs
-
-plain-run-requires : tie.Need-plain-run-requires
-plain-run-requires c κs = search needs
-
-sheet-requires : tie.Need-sheet-requires
-sheet-requires c κs = search needs
-
-same-length : tie.Need-same-length
-same-length c = search needs
-
 returns : tie.Need-returns
 returns c =
     let run = c .before .before .before .before .plain-run in
@@ -23,12 +11,6 @@ returns c =
     let r = k .before .before .read-file in
     let a = k .before .before .before .before .before .args in
     rw (printed-run (a .budget) (a .file .now) (r .result) (r .ensures) (run .result) (k .if1 .taken) (run .ensures)) at (c .before .before .sheet .ensures)
-
-refusal-requires : tie.Need-refusal-requires
-refusal-requires c κs = search needs
-
-same-length-2 : tie.Need-same-length-2
-same-length-2 c = search needs
 
 returns-2 : tie.Need-returns-2
 returns-2 c =
@@ -40,12 +22,5 @@ returns-2 c =
 pub plain-sheet-spec : {M : Type 1} → statement M
 plain-sheet-spec =
     tie.close
-    (tie.spec
-    read-file-requires
-    plain-run-requires
-    sheet-requires
-    same-length
-    returns
-    refusal-requires
-    same-length-2
-    returns-2)
+    (tie.spec (λ c κs. search needs) (λ c κs. search needs) (λ c κs. search needs) (λ c. search needs) returns
+    (λ c κs. search needs) (λ c. search needs) returns-2)

@@ -7,18 +7,6 @@ use Rattle.sheet.specs.Sheet.{cycleWords}
 use Rattle.sheet_print.proofs.put_cycle.Statement.{statement}
 use Rattle.sheet_print.proofs.put_cycle.Tie as tie
 
-put-number-requires : tie.Need-put-number-requires
-put-number-requires c κs = search needs
-
-long-word-requires : tie.Need-long-word-requires
-long-word-requires c κs = search needs
-
-put-last-requires : tie.Need-put-last-requires
-put-last-requires c κs = search needs
-
-same-length : tie.Need-same-length
-same-length c = search needs
-
 returns : tie.Need-returns
 unfolding cycleWords restOf
 returns c = (puts-then (c .before .before .before .before .before .before .before .put-number .ensures .0) (rw (c .before .before .before .long-word .ensures) at (c .before .before .put-last .ensures .0)), omega arith)
@@ -26,4 +14,4 @@ returns c = (puts-then (c .before .before .before .before .before .before .befor
 pub put-cycle-spec : {M : Type 1} → statement M
 put-cycle-spec =
     tie.close
-    (tie.spec put-number-requires long-word-requires put-last-requires same-length returns)
+    (tie.spec (λ c κs. search needs) (λ c κs. search needs) (λ c κs. search needs) (λ c. search needs) returns)

@@ -17,45 +17,9 @@ Inv-loop out₀ at t xs n to₀ k₀ out to k = (k ≤ n) × (Puts out₀ at out
 abbrev μ-loop : tie.MeasureT-loop
 μ-loop out₀ at t xs n to₀ k₀ out to k = n - k
 
-wide-requires : tie.Need-wide-requires Inv-loop μ-loop
-wide-requires c κs = search needs
-
-least-requires : tie.Need-least-requires Inv-loop μ-loop
-least-requires c κs = search needs
-
-least-requires-2 : tie.Need-least-requires-2 Inv-loop μ-loop
-least-requires-2 c κs = search needs
-
 loop-holds : tie.Need-loop-holds Inv-loop μ-loop
 unfolding tLines
 loop-holds c = (omega arith, (puts-none _ _ _ (c .least2 .ensures), omega arith))
-
-mul-x : tie.Need-mul-x Inv-loop μ-loop
-mul-x c = omega arith
-
-element-copy-out-x : tie.Need-element-copy-out-x Inv-loop μ-loop
-element-copy-out-x c = omega arith
-
-put-byte-requires : tie.Need-put-byte-requires Inv-loop μ-loop
-put-byte-requires c κs = search needs
-
-put-number-requires : tie.Need-put-number-requires Inv-loop μ-loop
-put-number-requires c κs = omega arith
-
-long-byte-requires : tie.Need-long-byte-requires Inv-loop μ-loop
-long-byte-requires c κs = search needs
-
-put-number-requires-2 : tie.Need-put-number-requires-2 Inv-loop μ-loop
-put-number-requires-2 c κs = search needs
-
-put-state-requires : tie.Need-put-state-requires Inv-loop μ-loop
-put-state-requires c κs = search needs
-
-add-k : tie.Need-add-k Inv-loop μ-loop
-add-k c = omega arith
-
-loop-less : tie.Need-loop-less Inv-loop μ-loop
-loop-less c = omega arith
 
 loop-again : tie.Need-loop-again Inv-loop μ-loop
 unfolding threadAt tLine tLines restOf
@@ -68,9 +32,6 @@ loop-again c =
     let line = puts-then (b .before .before .before .before .put-byte .ensures) numbers in
     (omega arith, (puts-next (λ k. tLines k xs) (l .loop .k) (l .loop .inv .1 .0) line refl, omega arith))
 
-same-length : tie.Need-same-length Inv-loop μ-loop
-same-length c = omega arith
-
 returns : tie.Need-returns Inv-loop μ-loop
 returns c =
     let e : c .before .loop .k ≡ min (c .before .before .before .before .before .before .args .t) 32 = omega arith in
@@ -79,22 +40,7 @@ returns c =
 pub put-t-lines-spec : {M : Type 1} → statement M
 put-t-lines-spec =
     tie.close
-    (tie.spec
-    Inv-loop
-    μ-loop
-    wide-requires
-    least-requires
-    least-requires-2
-    loop-holds
-    mul-x
-    element-copy-out-x
-    put-byte-requires
-    put-number-requires
-    long-byte-requires
-    put-number-requires-2
-    put-state-requires
-    add-k
-    loop-less
-    loop-again
-    same-length
+    (tie.spec Inv-loop μ-loop (λ c κs. search needs) (λ c κs. search needs) (λ c κs. search needs) loop-holds
+    (λ c. omega arith) (λ c. omega arith) (λ c κs. search needs) (λ c κs. omega arith) (λ c κs. search needs)
+    (λ c κs. search needs) (λ c κs. search needs) (λ c. omega arith) (λ c. omega arith) loop-again (λ c. omega arith)
     returns)

@@ -8,11 +8,8 @@ use Rattle.tables_conflict.proofs.bit.Statement.{statement}
 returns : tie.Need-returns
 returns c = bitOf-none _ (omega arith)
 
-shl-result : tie.Need-shl-result
-shl-result c = search needs
-
 returns-2 : tie.Need-returns-2
 returns-2 c = bitOf-some _ (omega arith)
 
 pub bit-spec : {M : Type 1} → statement M
-bit-spec = tie.close (tie.spec returns shl-result returns-2)
+bit-spec = tie.close (tie.spec returns (λ c. search needs) returns-2)

@@ -5,12 +5,6 @@ use Rattle.tables_conflict.proofs.MarkLaws.{held-few, conflictMarks-mad
 use Rattle.tables_conflict.proofs.conflict_marks.Tie as tie
 use Rattle.tables_conflict.proofs.conflict_marks.Statement.{statement}
 
-marked-segments-requires : tie.Need-marked-segments-requires
-marked-segments-requires c κs = search needs
-
-masks-for-requires : tie.Need-masks-for-requires
-masks-for-requires c κs = search needs
-
 all-marks-requires : tie.Need-all-marks-requires
 all-marks-requires c κs = held-few (c .before .before .args .m) _ (c .before .marked-segments .ensures)
 
@@ -18,5 +12,4 @@ returns : tie.Need-returns
 returns c = conflictMarks-made (c .before .before .before .args .m) _ (c .before .before .marked-segments .ensures) _ _ (c .before .masks-for .ensures .0) (c .before .masks-for .ensures .1) (c .all-marks .ensures)
 
 pub conflict-marks-spec : {M : Type 1} → statement M
-conflict-marks-spec =
-    tie.close (tie.spec marked-segments-requires masks-for-requires all-marks-requires returns)
+conflict-marks-spec = tie.close (tie.spec (λ c κs. search needs) (λ c κs. search needs) all-marks-requires returns)

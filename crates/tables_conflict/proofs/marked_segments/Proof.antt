@@ -6,16 +6,10 @@ use Rattle.tables_conflict.proofs.MarkLaws.{numbered-held}
 use Rattle.tables_conflict.proofs.marked_segments.Statement.{statement}
 use Rattle.tables_conflict.proofs.marked_segments.Tie as tie
 
-conflict-number-requires : tie.Need-conflict-number-requires
-conflict-number-requires c κs = search needs
-
 returns : tie.Need-returns
 returns c =
     let m = c .before .before .args .m in
     sym (ifHeld-no m _ 0 (λ e. c .if1 .taken (c .before .conflict-number .ensures ∙ sym (conflict-held m e .0))))
-
-cast-result : tie.Need-cast-result
-cast-result c = search needs
 
 returns-2 : tie.Need-returns-2
 returns-2 c =
@@ -23,4 +17,4 @@ returns-2 c =
     sym (ifHeld-yes m _ 0 (numbered-held m _ (c .before .before .conflict-number .ensures) (c .before .if1 .left)))
 
 pub marked-segments-spec : {M : Type 1} → statement M
-marked-segments-spec = tie.close (tie.spec conflict-number-requires returns cast-result returns-2)
+marked-segments-spec = tie.close (tie.spec (λ c κs. search needs) returns (λ c. search needs) returns-2)

@@ -46,12 +46,6 @@ mul-all c = let few = held-few (c .before .before .before .before .args .t1) _ (
 array-set-from-all : tie.Need-array-set-from-all Inv-loop μ-loop
 array-set-from-all c = let few = held-few (c .before .before .before .before .args .t1) _ (c .before .before .before .before .pre) in omega arith
 
-add-i : tie.Need-add-i Inv-loop μ-loop
-add-i c = search needs
-
-loop-less : tie.Need-loop-less Inv-loop μ-loop
-loop-less c = search needs
-
 loop-again : tie.Need-loop-again Inv-loop μ-loop
 unfolding masksFor
 loop-again c =
@@ -71,16 +65,5 @@ returns c = let e : c .before .loop .i ≡ c .before .before .args .n = omega ar
 pub masks-for-spec : {M : Type 1} → statement M
 masks-for-spec =
     tie.close
-    (tie.spec
-    Inv-loop
-    μ-loop
-    loop-holds
-    mul-g
-    element-copy-out-g
-    masks-of-requires
-    mul-all
-    array-set-from-all
-    add-i
-    loop-less
-    loop-again
-    returns)
+    (tie.spec Inv-loop μ-loop loop-holds mul-g element-copy-out-g masks-of-requires mul-all array-set-from-all
+    (λ c. search needs) (λ c. search needs) loop-again returns)

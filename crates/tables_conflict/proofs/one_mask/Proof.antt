@@ -4,11 +4,8 @@ use borrow.Author.Needs.{needs}
 use Rattle.tables_conflict.proofs.one_mask.Statement.{statement}
 use Rattle.tables_conflict.proofs.one_mask.Tie as tie
 
-bit-requires : tie.Need-bit-requires
-bit-requires c κs = search needs
-
 returns : tie.Need-returns
 returns c = rw (c .bit .ensures) refl
 
 pub one-mask-spec : {M : Type 1} → statement M
-one-mask-spec = tie.close (tie.spec bit-requires returns)
+one-mask-spec = tie.close (tie.spec (λ c κs. search needs) returns)

@@ -6,29 +6,8 @@ use Rattle.tables_conflict.specs.Mask.{opMasks}
 use Rattle.tables_conflict.proofs.op_masks.Statement.{statement}
 use Rattle.tables_conflict.proofs.op_masks.Tie as tie
 
-enum-known-op : tie.Need-enum-known-op
-enum-known-op c = search needs
-
-enum-known-op-2 : tie.Need-enum-known-op-2
-enum-known-op-2 c = search needs
-
-enum-known-op-3 : tie.Need-enum-known-op-3
-enum-known-op-3 c = search needs
-
-enum-known-op-4 : tie.Need-enum-known-op-4
-enum-known-op-4 c = search needs
-
-enum-known-op-5 : tie.Need-enum-known-op-5
-enum-known-op-5 c = search needs
-
 enum-told : tie.Need-enum-told
 enum-told c = search needs
-
-two-masks-requires : tie.Need-two-masks-requires
-two-masks-requires c κs = search needs
-
-one-mask-requires : tie.Need-one-mask-requires
-one-mask-requires c κs = search needs
 
 returns : tie.Need-returns
 unfolding opMasks
@@ -46,15 +25,5 @@ returns-3 c = c .one-mask .ensures ∙ ⊎-elim (λ w. rw (w .1 .given .1, w .3)
 pub op-masks-spec : {M : Type 1} → statement M
 op-masks-spec =
     tie.close
-    (tie.spec
-    enum-known-op
-    enum-known-op-2
-    enum-known-op-3
-    enum-known-op-4
-    enum-known-op-5
-    enum-told
-    two-masks-requires
-    one-mask-requires
-    returns
-    returns-2
-    returns-3)
+    (tie.spec (λ c. search needs) (λ c. search needs) (λ c. search needs) (λ c. search needs) (λ c. search needs)
+    enum-told (λ c κs. search needs) (λ c κs. search needs) returns returns-2 returns-3)

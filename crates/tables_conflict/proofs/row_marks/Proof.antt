@@ -14,33 +14,9 @@ Inv-loop n r all out₀ a s₀ out s = (s ≤ n) × (out ≡ rowTo all r s)
 abbrev μ-loop : tie.MeasureT-loop
 μ-loop n r all out₀ a s₀ out s = n - s
 
-mul-a : tie.Need-mul-a Inv-loop μ-loop
-mul-a c = search needs
-
-array-copy-out-a : tie.Need-array-copy-out-a Inv-loop μ-loop
-array-copy-out-a c = search needs
-
 loop-holds : tie.Need-loop-holds Inv-loop μ-loop
 unfolding rowTo
 loop-holds c = (omega arith, storeTo-none _ _ _)
-
-mul-b : tie.Need-mul-b Inv-loop μ-loop
-mul-b c = search needs
-
-array-copy-out-b : tie.Need-array-copy-out-b Inv-loop μ-loop
-array-copy-out-b c = search needs
-
-clashes-requires : tie.Need-clashes-requires Inv-loop μ-loop
-clashes-requires c κs = search needs
-
-array-write-out : tie.Need-array-write-out Inv-loop μ-loop
-array-write-out c = search needs
-
-add-s : tie.Need-add-s Inv-loop μ-loop
-add-s c = search needs
-
-loop-less : tie.Need-loop-less Inv-loop μ-loop
-loop-less c = search needs
 
 loop-again : tie.Need-loop-again Inv-loop μ-loop
 unfolding rowTo
@@ -54,17 +30,5 @@ returns c = let e : c .before .loop .s ≡ c .before .before .before .args .n = 
 pub row-marks-spec : {M : Type 1} → statement M
 row-marks-spec =
     tie.close
-    (tie.spec
-    Inv-loop
-    μ-loop
-    mul-a
-    array-copy-out-a
-    loop-holds
-    mul-b
-    array-copy-out-b
-    clashes-requires
-    array-write-out
-    add-s
-    loop-less
-    loop-again
-    returns)
+    (tie.spec Inv-loop μ-loop (λ c. search needs) (λ c. search needs) loop-holds (λ c. search needs) (λ c. search needs)
+    (λ c κs. search needs) (λ c. search needs) (λ c. search needs) (λ c. search needs) loop-again returns)

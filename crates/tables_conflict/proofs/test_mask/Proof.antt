@@ -6,21 +6,6 @@ use Rattle.tables_conflict.specs.Mask.{testMask}
 use Rattle.tables_conflict.proofs.test_mask.Statement.{statement}
 use Rattle.tables_conflict.proofs.test_mask.Tie as tie
 
-enum-told : tie.Need-enum-told
-enum-told c = search needs
-
-enum-known-closer : tie.Need-enum-known-closer
-enum-known-closer c = search needs
-
-enum-known-closer-2 : tie.Need-enum-known-closer-2
-enum-known-closer-2 c = search needs
-
-cast-bit : tie.Need-cast-bit
-cast-bit c = search needs
-
-bit-requires : tie.Need-bit-requires
-bit-requires c κs = search needs
-
 returns : tie.Need-returns
 unfolding testMask
 returns c = search needs
@@ -32,11 +17,5 @@ returns-2 c = c .bit .ensures ∙ ⊎-elim (λ w. rw (w .1 .given .1, w .3) refl
 pub test-mask-spec : {M : Type 1} → statement M
 test-mask-spec =
     tie.close
-    (tie.spec
-    enum-told
-    enum-known-closer
-    enum-known-closer-2
-    cast-bit
-    bit-requires
-    returns
-    returns-2)
+    (tie.spec (λ c. search needs) (λ c. search needs) (λ c. search needs) (λ c. search needs) (λ c κs. search needs)
+    returns returns-2)

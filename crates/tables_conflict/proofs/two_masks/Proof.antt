@@ -4,14 +4,8 @@ use borrow.Author.Needs.{needs}
 use Rattle.tables_conflict.proofs.two_masks.Statement.{statement}
 use Rattle.tables_conflict.proofs.two_masks.Tie as tie
 
-bit-requires : tie.Need-bit-requires
-bit-requires c κs = search needs
-
-bit-requires-2 : tie.Need-bit-requires-2
-bit-requires-2 c κs = search needs
-
 returns : tie.Need-returns
 returns c = rw (c .bit2 .ensures, c .before .bit .ensures) refl
 
 pub two-masks-spec : {M : Type 1} → statement M
-two-masks-spec = tie.close (tie.spec bit-requires bit-requires-2 returns)
+two-masks-spec = tie.close (tie.spec (λ c κs. search needs) (λ c κs. search needs) returns)

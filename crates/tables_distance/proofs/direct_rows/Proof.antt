@@ -22,26 +22,11 @@ abbrev μ-loop : tie.MeasureT-loop
 loop-holds : tie.Need-loop-holds Inv-loop μ-loop
 loop-holds c = (omega arith, refl, omega arith, directRows-none _ _)
 
-mul-g : tie.Need-mul-g Inv-loop μ-loop
-mul-g c = search needs
-
-element-copy-out-g : tie.Need-element-copy-out-g Inv-loop μ-loop
-element-copy-out-g c = search needs
-
-steps-of-requires : tie.Need-steps-of-requires Inv-loop μ-loop
-steps-of-requires c κs = search needs
-
 direct-row-requires : tie.Need-direct-row-requires Inv-loop μ-loop
 direct-row-requires c κs = let h = row-within (c .before .before .before .before .before .before .args .n) (c .before .before .before .before .loop .r) (omega arith) in omega arith
 
 add-p : tie.Need-add-p Inv-loop μ-loop
 add-p c = let h = row-within (c .before .before .before .before .before .before .before .before .before .args .n) (c .before .before .before .before .before .before .before .loop .r) (omega arith) in omega arith
-
-add-r : tie.Need-add-r Inv-loop μ-loop
-add-r c = search needs
-
-loop-less : tie.Need-loop-less Inv-loop μ-loop
-loop-less c = search needs
 
 loop-again : tie.Need-loop-again Inv-loop μ-loop
 loop-again c =
@@ -53,26 +38,11 @@ loop-again c =
     (ap (λ (g : Segment). g .closer) (sym (segmentAt-read (x .t1) (l .r) _ (omega arith)))) (c .before .before .before .steps-of .ensures) (c .before .before .direct-row .ensures) in
     (omega arith, ap length e ∙ directRows-length (x .t1) (x .words .now) _, row-next (x .n) (l .r) (l .p) (l .inv .2), e)
 
-same-length : tie.Need-same-length Inv-loop μ-loop
-same-length c = search needs
-
 returns : tie.Need-returns Inv-loop μ-loop
 returns c = let e : c .before .loop .r ≡ c .before .before .before .args .n = omega arith in rw e at (c .before .loop .inv .3)
 
 pub direct-rows-spec : {M : Type 1} → statement M
 direct-rows-spec =
     tie.close
-    (tie.spec
-    Inv-loop
-    μ-loop
-    loop-holds
-    mul-g
-    element-copy-out-g
-    steps-of-requires
-    direct-row-requires
-    add-p
-    add-r
-    loop-less
-    loop-again
-    same-length
-    returns)
+    (tie.spec Inv-loop μ-loop loop-holds (λ c. search needs) (λ c. search needs) (λ c κs. search needs)
+    direct-row-requires add-p (λ c. search needs) (λ c. search needs) loop-again (λ c. search needs) returns)

@@ -8,14 +8,8 @@ use Rattle.tables_distance.proofs.direct_word.Tie as tie
 returns : tie.Need-returns
 returns c = directWord-self _ _ _ (omega arith)
 
-cast-if2 : tie.Need-cast-if2
-cast-if2 c = search needs
-
 returns-2 : tie.Need-returns-2
 returns-2 c = directWord-first _ _ _ (λ e. omega arith) (omega arith)
-
-cast-if3 : tie.Need-cast-if3
-cast-if3 c = search needs
 
 returns-3 : tie.Need-returns-3
 returns-3 c = directWord-second _ _ _ (λ e. omega arith) (λ e. omega arith) (omega arith)
@@ -24,4 +18,4 @@ returns-4 : tie.Need-returns-4
 returns-4 c = directWord-none _ _ _ (λ e. omega arith) (λ e. omega arith) (λ e. omega arith)
 
 pub direct-word-spec : {M : Type 1} → statement M
-direct-word-spec = tie.close (tie.spec returns cast-if2 returns-2 cast-if3 returns-3 returns-4)
+direct-word-spec = tie.close (tie.spec returns (λ c. search needs) returns-2 (λ c. search needs) returns-3 returns-4)

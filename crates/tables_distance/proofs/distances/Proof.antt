@@ -7,9 +7,6 @@ use Rattle.tables_distance.proofs.RefusalLaws.{accepted-held, refused-b
 use Rattle.tables_distance.proofs.distances.Statement.{statement}
 use Rattle.tables_distance.proofs.distances.Tie as tie
 
-refusal-requires : tie.Need-refusal-requires
-refusal-requires c κs = search needs
-
 -- the number that was given
 numbered : (c : tie.After-refusal) → c .refusal .result ≡ distancesNumber (c .before .before .args .m) (c .before .before .args .words .now)
 unfolding distancesNumber isShort
@@ -17,9 +14,6 @@ numbered c = c .refusal .ensures
 
 fill-requires : tie.Need-fill-requires
 fill-requires c κs = accepted-held _ _ _ (numbered (c .before .before)) (c .before .if1 .taken)
-
-same-length : tie.Need-same-length
-same-length c = search needs
 
 returns : tie.Need-returns
 returns c =
@@ -32,4 +26,4 @@ returns-2 : tie.Need-returns-2
 returns-2 c = (numbered (c .before), refused-buffer _ _ _ (numbered (c .before)) (c .if1 .left))
 
 pub distances-spec : {M : Type 1} → statement M
-distances-spec = tie.close (tie.spec refusal-requires fill-requires same-length returns returns-2)
+distances-spec = tie.close (tie.spec (λ c κs. search needs) fill-requires (λ c. search needs) returns returns-2)

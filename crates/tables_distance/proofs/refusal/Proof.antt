@@ -9,14 +9,8 @@ use Rattle.tables_distance.proofs.StoreLaws.{square-small}
 use Rattle.tables_distance.proofs.refusal.Statement.{statement}
 use Rattle.tables_distance.proofs.refusal.Tie as tie
 
-model-fault-requires : tie.Need-model-fault-requires
-model-fault-requires c κs = search needs
-
 returns : tie.Need-returns
 returns c = sym (ifHeld-no (c .before .before .args .m) _ 11 (λ e. omega arith))
-
-cast-n : tie.Need-cast-n
-cast-n c = search needs
 
 mul-if2 : tie.Need-mul-if2
 mul-if2 c = let h = square-small (c .before .before .before .args .m) (sym (c .before .before .model-fault .ensures) ∙ c .before .if1 .left) in omega arith
@@ -32,4 +26,4 @@ returns-3 c =
     sym (ifHeld-yes x _ 11 (sym (c .before .before .before .model-fault .ensures) ∙ c .before .before .if1 .left) ∙ rw (le-ltb (c .before .before .before .before .args .size) (x .n * x .n) (c .if2 .left)) refl)
 
 pub refusal-spec : {M : Type 1} → statement M
-refusal-spec = tie.close (tie.spec model-fault-requires returns cast-n mul-if2 returns-2 returns-3)
+refusal-spec = tie.close (tie.spec (λ c κs. search needs) returns (λ c. search needs) mul-if2 returns-2 returns-3)

@@ -20,42 +20,6 @@ abbrev μ-loop : tie.MeasureT-loop
 loop-holds : tie.Need-loop-holds Inv-loop μ-loop
 loop-holds c = (omega arith, refl, storeTo-none _ _ _)
 
-add-sum-word : tie.Need-add-sum-word Inv-loop μ-loop
-add-sum-word c = search needs
-
-mul-sum-word : tie.Need-mul-sum-word Inv-loop μ-loop
-mul-sum-word c = search needs
-
-slice-read-sum-word : tie.Need-slice-read-sum-word Inv-loop μ-loop
-slice-read-sum-word c = search needs
-
-sum-word-requires : tie.Need-sum-word-requires Inv-loop μ-loop
-sum-word-requires c κs = search needs
-
-add-if1 : tie.Need-add-if1 Inv-loop μ-loop
-add-if1 c = search needs
-
-mul-if1 : tie.Need-mul-if1 Inv-loop μ-loop
-mul-if1 c = search needs
-
-slice-read-if1 : tie.Need-slice-read-if1 Inv-loop μ-loop
-slice-read-if1 c = search needs
-
-add-words : tie.Need-add-words Inv-loop μ-loop
-add-words c = search needs
-
-mul-words : tie.Need-mul-words Inv-loop μ-loop
-mul-words c = search needs
-
-slice-write-words : tie.Need-slice-write-words Inv-loop μ-loop
-slice-write-words c = search needs
-
-add-j : tie.Need-add-j Inv-loop μ-loop
-add-j c = search needs
-
-loop-less : tie.Need-loop-less Inv-loop μ-loop
-loop-less c = search needs
-
 loop-again : tie.Need-loop-again Inv-loop μ-loop
 loop-again c =
     let x = c .before .before .before .before .before .before .before .args in
@@ -67,31 +31,13 @@ loop-again c =
     (c .if1 .came) in
     (omega arith, ap length e ∙ storeTo-length _ (x .p) (x .words .now) _, e)
 
-same-length : tie.Need-same-length Inv-loop μ-loop
-same-length c = search needs
-
 returns : tie.Need-returns Inv-loop μ-loop
 returns c = let e : c .before .loop .j ≡ c .before .before .before .args .n = omega arith in rw e at (c .before .loop .inv .2)
 
 pub relax-row-spec : {M : Type 1} → statement M
 relax-row-spec =
     tie.close
-    (tie.spec
-    Inv-loop
-    μ-loop
-    loop-holds
-    add-sum-word
-    mul-sum-word
-    slice-read-sum-word
-    sum-word-requires
-    add-if1
-    mul-if1
-    slice-read-if1
-    add-words
-    mul-words
-    slice-write-words
-    add-j
-    loop-less
-    loop-again
-    same-length
+    (tie.spec Inv-loop μ-loop loop-holds (λ c. search needs) (λ c. search needs) (λ c. search needs)
+    (λ c κs. search needs) (λ c. search needs) (λ c. search needs) (λ c. search needs) (λ c. search needs)
+    (λ c. search needs) (λ c. search needs) (λ c. search needs) (λ c. search needs) loop-again (λ c. search needs)
     returns)

@@ -43,12 +43,6 @@ relax-row-requires c κs =
 add-p : tie.Need-add-p Inv-loop μ-loop
 add-p c = let h = row-within (c .before .before .before .before .before .args .n) (c .before .before .before .loop .i) (omega arith) in omega arith
 
-add-i : tie.Need-add-i Inv-loop μ-loop
-add-i c = search needs
-
-loop-less : tie.Need-loop-less Inv-loop μ-loop
-loop-less c = search needs
-
 loop-again : tie.Need-loop-again Inv-loop μ-loop
 loop-again c =
     let x = c .before .before .before .before .before .args in
@@ -60,27 +54,11 @@ loop-again c =
     (c .if1 .came) in
     (omega arith, ap length e ∙ roundTo-length (x .n) (x .k) (x .words .now) _, row-next (x .n) (l .i) (l .p) (l .inv .2), e)
 
-same-length : tie.Need-same-length Inv-loop μ-loop
-same-length c = search needs
-
 returns : tie.Need-returns Inv-loop μ-loop
 returns c = let e : c .before .loop .i ≡ c .before .before .before .args .n = omega arith in rw e at (c .before .loop .inv .3)
 
 pub round-spec : {M : Type 1} → statement M
 round-spec =
     tie.close
-    (tie.spec
-    Inv-loop
-    μ-loop
-    mul-q
-    loop-holds
-    add-a
-    mul-a
-    slice-read-a
-    relax-row-requires
-    add-p
-    add-i
-    loop-less
-    loop-again
-    same-length
-    returns)
+    (tie.spec Inv-loop μ-loop mul-q loop-holds add-a mul-a slice-read-a relax-row-requires add-p (λ c. search needs)
+    (λ c. search needs) loop-again (λ c. search needs) returns)

@@ -8,15 +8,6 @@ use Rattle.tables_distance.proofs.steps_of.Statement.{statement}
 enum-told : tie.Need-enum-told
 enum-told c = search needs
 
-enum-known-closer : tie.Need-enum-known-closer
-enum-known-closer c = search needs
-
-units-word-requires : tie.Need-units-word-requires
-units-word-requires c κs = search needs
-
-enum-known-closer-2 : tie.Need-enum-known-closer-2
-enum-known-closer-2 c = search needs
-
 returns : tie.Need-returns
 returns c = stepsOf-end _ (c .enum-told .given .1)
 
@@ -29,11 +20,4 @@ returns-3 c = stepsOf-event _ _ _ _ (c .before .closer2 .given .1) refl
 pub steps-of-spec : {M : Type 1} → statement M
 steps-of-spec =
     tie.close
-    (tie.spec
-    enum-told
-    enum-known-closer
-    units-word-requires
-    enum-known-closer-2
-    returns
-    returns-2
-    returns-3)
+    (tie.spec enum-told (λ c. search needs) (λ c κs. search needs) (λ c. search needs) returns returns-2 returns-3)

@@ -8,20 +8,13 @@ use Rattle.tables_distance.proofs.sum_word.Statement.{statement}
 returns : tie.Need-returns
 returns c = sumWord-far _ _ (omega arith)
 
-add-result : tie.Need-add-result
-add-result c = search needs
-
 returns-2 : tie.Need-returns-2
 returns-2 c = sumWord-none _ _ (omega arith)
-
-mul-result : tie.Need-mul-result
-mul-result c = search needs
-
-add-result-2 : tie.Need-add-result-2
-add-result-2 c = search needs
 
 returns-3 : tie.Need-returns-3
 returns-3 c = sumWord-more _ _ (omega arith) (omega arith)
 
 pub sum-word-spec : {M : Type 1} → statement M
-sum-word-spec = tie.close (tie.spec returns add-result returns-2 mul-result add-result-2 returns-3)
+sum-word-spec =
+    tie.close
+    (tie.spec returns (λ c. search needs) returns-2 (λ c. search needs) (λ c. search needs) returns-3)

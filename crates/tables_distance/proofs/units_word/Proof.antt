@@ -5,20 +5,14 @@ use Rattle.tables_distance.proofs.StoreLaws.{unitsWord-none, unitsWord-
 use Rattle.tables_distance.proofs.units_word.Statement.{statement}
 use Rattle.tables_distance.proofs.units_word.Tie as tie
 
-cast-units : tie.Need-cast-units
-cast-units c = search needs
-
 returns : tie.Need-returns
 returns c = unitsWord-none _ (omega arith)
 
 returns-2 : tie.Need-returns-2
 returns-2 c = unitsWord-far _ (omega arith)
 
-mul-result : tie.Need-mul-result
-mul-result c = search needs
-
 returns-3 : tie.Need-returns-3
 returns-3 c = unitsWord-more _ (λ e. omega arith) (omega arith)
 
 pub units-word-spec : {M : Type 1} → statement M
-units-word-spec = tie.close (tie.spec cast-units returns returns-2 mul-result returns-3)
+units-word-spec = tie.close (tie.spec (λ c. search needs) returns returns-2 (λ c. search needs) returns-3)

@@ -20,32 +20,11 @@ abbrev μ-loop : tie.MeasureT-loop
 loop-holds : tie.Need-loop-holds Inv-loop μ-loop
 loop-holds c = (omega arith, refl, refl)
 
-mul-thread-of : tie.Need-mul-thread-of Inv-loop μ-loop
-mul-thread-of c = omega arith
-
-shared-slice-read-thread-of : tie.Need-shared-slice-read-thread-of Inv-loop μ-loop
-shared-slice-read-thread-of c = omega arith
-
-thread-of-requires : tie.Need-thread-of-requires Inv-loop μ-loop
-thread-of-requires c κs = search needs
-
-slice-write-ks : tie.Need-slice-write-ks Inv-loop μ-loop
-slice-write-ks c = omega arith
-
-add-i : tie.Need-add-i Inv-loop μ-loop
-add-i c = omega arith
-
-loop-less : tie.Need-loop-less Inv-loop μ-loop
-loop-less c = omega arith
-
 loop-again : tie.Need-loop-again Inv-loop μ-loop
 loop-again c =
     let l = c .before .before .before in
     let a = l .before .before .before .args in
     (omega arith, simp length-set (l .loop .inv .1), rw (l .loop .inv .2, c .thread-of .ensures) (threads-more (a .labels .now) (a .ks .now) (l .loop .i) (omega arith) (omega arith)))
-
-same-length : tie.Need-same-length Inv-loop μ-loop
-same-length c = omega arith
 
 returns : tie.Need-returns Inv-loop μ-loop
 returns c =
@@ -56,16 +35,5 @@ returns c =
 pub fill-threads-spec : {M : Type 1} → statement M
 fill-threads-spec =
     tie.close
-    (tie.spec
-    Inv-loop
-    μ-loop
-    loop-holds
-    mul-thread-of
-    shared-slice-read-thread-of
-    thread-of-requires
-    slice-write-ks
-    add-i
-    loop-less
-    loop-again
-    same-length
-    returns)
+    (tie.spec Inv-loop μ-loop loop-holds (λ c. omega arith) (λ c. omega arith) (λ c κs. search needs) (λ c. omega arith)
+    (λ c. omega arith) (λ c. omega arith) loop-again (λ c. omega arith) returns)

@@ -22,9 +22,6 @@ returns-2 c = label-long (c .before .before .before .args .arg .now) (c .if2 .ta
 loop-holds : tie.Need-loop-holds Inv-loop μ-loop
 loop-holds c = (omega arith, left-none _)
 
-shared-slice-read-b : tie.Need-shared-slice-read-b Inv-loop μ-loop
-shared-slice-read-b c = omega arith
-
 returns-3 : tie.Need-returns-3 Inv-loop μ-loop
 returns-3 c =
     let l = c .before .before .before .loop in
@@ -40,19 +37,10 @@ mul-x c =
     let l = c .before .before .before .before .loop in
     omega (arith, left-fits (c .before .before .before .before .before .before .before .before .args .arg .now) (l .i) (l .x) (omega arith) (l .inv .1))
 
-long-byte-requires : tie.Need-long-byte-requires Inv-loop μ-loop
-long-byte-requires c κs = search needs
-
 add-x : tie.Need-add-x Inv-loop μ-loop
 add-x c =
     let l = c .before .before .before .before .before .loop in
     omega (arith, left-fits (c .before .before .before .before .before .before .before .before .before .args .arg .now) (l .i) (l .x) (omega arith) (l .inv .1))
-
-add-i : tie.Need-add-i Inv-loop μ-loop
-add-i c = omega arith
-
-loop-less : tie.Need-loop-less Inv-loop μ-loop
-loop-less c = omega arith
 
 loop-again : tie.Need-loop-again Inv-loop μ-loop
 loop-again c =
@@ -65,19 +53,5 @@ returns-5 c = label-whole (c .before .before .before .before .before .args .arg 
 pub label-of-spec : {M : Type 1} → statement M
 label-of-spec =
     tie.close
-    (tie.spec
-    Inv-loop
-    μ-loop
-    returns
-    returns-2
-    loop-holds
-    shared-slice-read-b
-    returns-3
-    returns-4
-    mul-x
-    long-byte-requires
-    add-x
-    add-i
-    loop-less
-    loop-again
-    returns-5)
+    (tie.spec Inv-loop μ-loop returns returns-2 loop-holds (λ c. omega arith) returns-3 returns-4 mul-x
+    (λ c κs. search needs) add-x (λ c. omega arith) (λ c. omega arith) loop-again returns-5)

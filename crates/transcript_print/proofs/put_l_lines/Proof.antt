@@ -15,30 +15,9 @@ Inv-loop out₀ at site n to₀ i₀ out to i = (i ≤ n) × (Puts out₀ at out
 abbrev μ-loop : tie.MeasureT-loop
 μ-loop out₀ at site n to₀ i₀ out to i = n - i
 
-wide-requires : tie.Need-wide-requires Inv-loop μ-loop
-wide-requires c κs = search needs
-
-least-requires : tie.Need-least-requires Inv-loop μ-loop
-least-requires c κs = search needs
-
 loop-holds : tie.Need-loop-holds Inv-loop μ-loop
 unfolding lLines
 loop-holds c = (omega arith, (puts-none _ _ _ (omega arith), omega arith))
-
-mul-x : tie.Need-mul-x Inv-loop μ-loop
-mul-x c = omega arith
-
-element-copy-out-x : tie.Need-element-copy-out-x Inv-loop μ-loop
-element-copy-out-x c = omega arith
-
-put-l-line-requires : tie.Need-put-l-line-requires Inv-loop μ-loop
-put-l-line-requires c κs = search needs
-
-add-i : tie.Need-add-i Inv-loop μ-loop
-add-i c = omega arith
-
-loop-less : tie.Need-loop-less Inv-loop μ-loop
-loop-less c = omega arith
 
 loop-again : tie.Need-loop-again Inv-loop μ-loop
 unfolding lLines
@@ -46,9 +25,6 @@ loop-again c =
     let l = c .before .before .before .before .before .before in
     let xs = l .before .before .before .before .args .t3 .log in
     (omega arith, (puts-next (λ i. lLines i xs) (l .loop .i) (l .loop .inv .1 .0) (c .before .before .put-l-line .ensures .0) refl, omega arith))
-
-same-length : tie.Need-same-length Inv-loop μ-loop
-same-length c = omega arith
 
 returns : tie.Need-returns Inv-loop μ-loop
 returns c =
@@ -58,17 +34,6 @@ returns c =
 pub put-l-lines-spec : {M : Type 1} → statement M
 put-l-lines-spec =
     tie.close
-    (tie.spec
-    Inv-loop
-    μ-loop
-    wide-requires
-    least-requires
-    loop-holds
-    mul-x
-    element-copy-out-x
-    put-l-line-requires
-    add-i
-    loop-less
-    loop-again
-    same-length
+    (tie.spec Inv-loop μ-loop (λ c κs. search needs) (λ c κs. search needs) loop-holds (λ c. omega arith)
+    (λ c. omega arith) (λ c κs. search needs) (λ c. omega arith) (λ c. omega arith) loop-again (λ c. omega arith)
     returns)

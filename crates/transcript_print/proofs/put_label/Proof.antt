@@ -6,24 +6,9 @@ use Rattle.transcript.specs.Transcript.{labelWord}
 use Rattle.transcript_print.proofs.put_label.Statement.{statement}
 use Rattle.transcript_print.proofs.put_label.Tie as tie
 
-slice-aggregate-put-word : tie.Need-slice-aggregate-put-word
-slice-aggregate-put-word c = search needs
-
-put-word-requires : tie.Need-put-word-requires
-put-word-requires c κs = search needs
-
-same-length : tie.Need-same-length
-same-length c = search needs
-
 returns : tie.Need-returns
 unfolding labelWord
 returns c = (rw (eq-eqb _ 18446744073709551615 (c .before .before .before .before .before .if1 .taken)) (c .before .before .put-word .ensures), omega arith)
-
-put-number-requires : tie.Need-put-number-requires
-put-number-requires c κs = search needs
-
-same-length-2 : tie.Need-same-length-2
-same-length-2 c = search needs
 
 returns-2 : tie.Need-returns-2
 unfolding labelWord
@@ -32,11 +17,5 @@ returns-2 c = (rw (ne-eqb _ 18446744073709551615 (c .before .before .before .bef
 pub put-label-spec : {M : Type 1} → statement M
 put-label-spec =
     tie.close
-    (tie.spec
-    slice-aggregate-put-word
-    put-word-requires
-    same-length
-    returns
-    put-number-requires
-    same-length-2
-    returns-2)
+    (tie.spec (λ c. search needs) (λ c κs. search needs) (λ c. search needs) returns (λ c κs. search needs)
+    (λ c. search needs) returns-2)

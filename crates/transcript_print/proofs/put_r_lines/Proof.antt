@@ -19,24 +19,12 @@ loop-holds : tie.Need-loop-holds Inv-loop μ-loop
 unfolding rLines
 loop-holds c = (omega arith, (puts-none _ _ _ (omega arith), omega arith))
 
-put-r-line-requires : tie.Need-put-r-line-requires Inv-loop μ-loop
-put-r-line-requires c κs = omega arith
-
-add-i : tie.Need-add-i Inv-loop μ-loop
-add-i c = omega arith
-
-loop-less : tie.Need-loop-less Inv-loop μ-loop
-loop-less c = omega arith
-
 loop-again : tie.Need-loop-again Inv-loop μ-loop
 unfolding rLines
 loop-again c =
     let l = c .before .before .before .before .before in
     let a = l .before .before .before .before .args in
     (omega arith, (puts-next (λ i. rLines i (a .labels .now) (a .answers .now)) (l .loop .i) (l .loop .inv .1 .0) (c .before .before .put-r-line .ensures .0) refl, omega arith))
-
-same-length : tie.Need-same-length Inv-loop μ-loop
-same-length c = omega arith
 
 returns : tie.Need-returns Inv-loop μ-loop
 returns c =
@@ -46,13 +34,5 @@ returns c =
 pub put-r-lines-spec : {M : Type 1} → statement M
 put-r-lines-spec =
     tie.close
-    (tie.spec
-    Inv-loop
-    μ-loop
-    loop-holds
-    put-r-line-requires
-    add-i
-    loop-less
-    loop-again
-    same-length
-    returns)
+    (tie.spec Inv-loop μ-loop loop-holds (λ c κs. omega arith) (λ c. omega arith) (λ c. omega arith) loop-again
+    (λ c. omega arith) returns)

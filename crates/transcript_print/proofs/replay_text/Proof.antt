@@ -13,44 +13,14 @@ use Rattle.transcript_print.proofs.TextLaws.{text-long, text-refused, t
 use Rattle.transcript_print.proofs.replay_text.Statement.{statement}
 use Rattle.transcript_print.proofs.replay_text.Tie as tie
 
-refusal-requires : tie.Need-refusal-requires
-refusal-requires c κs = search needs
-
-same-length : tie.Need-same-length
-same-length c = search needs
-
 returns : tie.Need-returns
 returns c =
     let k = c .before .before .before .before in
     let a = k .before .before .before .before .args in
     writes-same (text-long (a .file .now) (a .labels .now) (k .if1 .taken)) (c .before .before .refusal .ensures .0)
 
-slice-aggregate-fill-threads : tie.Need-slice-aggregate-fill-threads
-slice-aggregate-fill-threads c = search needs
-
-fill-threads-requires : tie.Need-fill-threads-requires
-fill-threads-requires c κs = search needs
-
-slice-aggregate-replay : tie.Need-slice-aggregate-replay
-slice-aggregate-replay c = search needs
-
-array-share-prefix-ks : tie.Need-array-share-prefix-ks
-array-share-prefix-ks c = search needs
-
 slice-aggregate-replay-2 : tie.Need-slice-aggregate-replay-2
 slice-aggregate-replay-2 c = sym (length-take-le _ _ (omega arith))
-
-slice-aggregate-replay-3 : tie.Need-slice-aggregate-replay-3
-slice-aggregate-replay-3 c = search needs
-
-replay-requires : tie.Need-replay-requires
-replay-requires c κs = search needs
-
-refusal-requires-2 : tie.Need-refusal-requires-2
-refusal-requires-2 c κs = search needs
-
-same-length-2 : tie.Need-same-length-2
-same-length-2 c = search needs
 
 returns-2 : tie.Need-returns-2
 returns-2 c =
@@ -63,20 +33,8 @@ returns-2 c =
     let t = text-refused (a .file .now) (a .labels .now) (replicate 4096 0) (replicate 4096 0) (f .before .before .if1 .left) (omega arith) (omega arith) (r .result) e (h .if2 .taken) in
     writes-same t (c .before .before .refusal2 .ensures .0)
 
-mul-w : tie.Need-mul-w
-mul-w c = search needs
-
-array-share-prefix-answers : tie.Need-array-share-prefix-answers
-array-share-prefix-answers c = search needs
-
 slice-aggregate-transcript : tie.Need-slice-aggregate-transcript
 slice-aggregate-transcript c = sym (length-take-le _ _ (omega arith))
-
-transcript-requires : tie.Need-transcript-requires
-transcript-requires c κs = search needs
-
-same-length-3 : tie.Need-same-length-3
-same-length-3 c = search needs
 
 returns-3 : tie.Need-returns-3
 returns-3 c =
@@ -93,23 +51,7 @@ returns-3 c =
 pub replay-text-spec : {M : Type 1} → statement M
 replay-text-spec =
     tie.close
-    (tie.spec
-    refusal-requires
-    same-length
-    returns
-    slice-aggregate-fill-threads
-    fill-threads-requires
-    slice-aggregate-replay
-    array-share-prefix-ks
-    slice-aggregate-replay-2
-    slice-aggregate-replay-3
-    replay-requires
-    refusal-requires-2
-    same-length-2
-    returns-2
-    mul-w
-    array-share-prefix-answers
-    slice-aggregate-transcript
-    transcript-requires
-    same-length-3
-    returns-3)
+    (tie.spec (λ c κs. search needs) (λ c. search needs) returns (λ c. search needs) (λ c κs. search needs)
+    (λ c. search needs) (λ c. search needs) slice-aggregate-replay-2 (λ c. search needs) (λ c κs. search needs)
+    (λ c κs. search needs) (λ c. search needs) returns-2 (λ c. search needs) (λ c. search needs)
+    slice-aggregate-transcript (λ c κs. search needs) (λ c. search needs) returns-3)

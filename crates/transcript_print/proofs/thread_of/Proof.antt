@@ -5,9 +5,6 @@ use Rattle.transcript_print.proofs.LabelLaws.{threadOf-small, threadOf-
 use Rattle.transcript_print.proofs.thread_of.Statement.{statement}
 use Rattle.transcript_print.proofs.thread_of.Tie as tie
 
-cast-result : tie.Need-cast-result
-cast-result c = search needs
-
 returns : tie.Need-returns
 returns c = threadOf-small _ (omega arith)
 
@@ -15,4 +12,4 @@ returns-2 : tie.Need-returns-2
 returns-2 c = threadOf-large _ (omega arith)
 
 pub thread-of-spec : {M : Type 1} → statement M
-thread-of-spec = tie.close (tie.spec cast-result returns returns-2)
+thread-of-spec = tie.close (tie.spec (λ c. search needs) returns returns-2)

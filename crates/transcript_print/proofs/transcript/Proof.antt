@@ -9,26 +9,11 @@ use Rattle.transcript_print.proofs.TranscriptLaws.{transcript-long, tra
 use Rattle.transcript_print.proofs.transcript.Statement.{statement}
 use Rattle.transcript_print.proofs.transcript.Tie as tie
 
-refusal-requires : tie.Need-refusal-requires
-refusal-requires c κs = search needs
-
-same-length : tie.Need-same-length
-same-length c = search needs
-
 returns : tie.Need-returns
 returns c =
     let k = c .before .before .before .before in
     let a = k .before .before .before .before .args in
     held-line (transcript-long (a .labels .now) (a .answers .now) (a .v) (a .t) (a .site) (a .threads .at) (k .if1 .taken)) (c .before .before .refusal .ensures)
-
-mul-if2 : tie.Need-mul-if2
-mul-if2 c = search needs
-
-refusal-requires-2 : tie.Need-refusal-requires-2
-refusal-requires-2 c κs = search needs
-
-same-length-2 : tie.Need-same-length-2
-same-length-2 c = search needs
 
 returns-2 : tie.Need-returns-2
 returns-2 c =
@@ -36,29 +21,11 @@ returns-2 c =
     let a = k .before .before .before .before .before .args in
     held-line (transcript-short (a .labels .now) (a .answers .now) (a .v) (a .t) (a .site) (a .threads .at) (k .before .if1 .left) (k .if2 .taken)) (c .before .before .refusal2 .ensures)
 
-slice-aggregate-put-r-lines : tie.Need-slice-aggregate-put-r-lines
-slice-aggregate-put-r-lines c = search needs
-
-put-r-lines-requires : tie.Need-put-r-lines-requires
-put-r-lines-requires c κs = search needs
-
-slice-aggregate-put-closing : tie.Need-slice-aggregate-put-closing
-slice-aggregate-put-closing c = search needs
-
-put-closing-requires : tie.Need-put-closing-requires
-put-closing-requires c κs = search needs
-
 array-share-prefix-text : tie.Need-array-share-prefix-text
 array-share-prefix-text c = c .before .put-closing .ensures .0 .within
 
 slice-aggregate-copy-in : tie.Need-slice-aggregate-copy-in
 slice-aggregate-copy-in c = sym (length-take-le _ _ (c .before .before .put-closing .ensures .0 .within))
-
-copy-in-requires : tie.Need-copy-in-requires
-copy-in-requires c κs = search needs
-
-same-length-3 : tie.Need-same-length-3
-same-length-3 c = search needs
 
 returns-3 : tie.Need-returns-3
 returns-3 c =
@@ -74,20 +41,6 @@ returns-3 c =
 pub transcript-spec : {M : Type 1} → statement M
 transcript-spec =
     tie.close
-    (tie.spec
-    refusal-requires
-    same-length
-    returns
-    mul-if2
-    refusal-requires-2
-    same-length-2
-    returns-2
-    slice-aggregate-put-r-lines
-    put-r-lines-requires
-    slice-aggregate-put-closing
-    put-closing-requires
-    array-share-prefix-text
-    slice-aggregate-copy-in
-    copy-in-requires
-    same-length-3
-    returns-3)
+    (tie.spec (λ c κs. search needs) (λ c. search needs) returns (λ c. search needs) (λ c κs. search needs)
+    (λ c. search needs) returns-2 (λ c. search needs) (λ c κs. search needs) (λ c. search needs) (λ c κs. search needs)
+    array-share-prefix-text slice-aggregate-copy-in (λ c κs. search needs) (λ c. search needs) returns-3)

@@ -10,41 +10,11 @@ Inv-loop g desk x k bounds j₀ j = Unit {0}
 abbrev μ-loop : tie.MeasureT-loop
 μ-loop g desk x k bounds j₀ j = 32 - j
 
-earliest-requires : tie.Need-earliest-requires Inv-loop μ-loop
-earliest-requires c κs = tt
-
-loop-holds : tie.Need-loop-holds Inv-loop μ-loop
-loop-holds c = tt
-
-threatens-requires : tie.Need-threatens-requires Inv-loop μ-loop
-threatens-requires c κs = tt
-
-returns : tie.Need-returns Inv-loop μ-loop
-returns c = tt
-
-add-j : tie.Need-add-j Inv-loop μ-loop
-add-j c = omega arith
-
-loop-less : tie.Need-loop-less Inv-loop μ-loop
-loop-less c = omega arith
-
-loop-again : tie.Need-loop-again Inv-loop μ-loop
-loop-again c = tt
-
 returns-2 : tie.Need-returns-2 Inv-loop μ-loop
 returns-2 c = tt
 
 pub is-hazard-spec : {M : Type 1} → statement M
 is-hazard-spec =
     tie.close
-    (tie.spec
-    Inv-loop
-    μ-loop
-    earliest-requires
-    loop-holds
-    threatens-requires
-    returns
-    add-j
-    loop-less
-    loop-again
-    returns-2)
+    (tie.spec Inv-loop μ-loop (λ c κs. tt) (λ c. tt) (λ c κs. tt) (λ c. tt) (λ c. omega arith) (λ c. omega arith)
+    (λ c. tt) returns-2)

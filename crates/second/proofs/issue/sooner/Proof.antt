@@ -12,9 +12,6 @@ returns : tie.Need-returns
 unfolding soonerOf
 returns c = rw (ne-eqb (c .before .args .x % 4) 2 (c .if1 .taken)) refl
 
-key-of-requires : tie.Need-key-of-requires
-key-of-requires c κs = tt
-
 returns-2 : tie.Need-returns-2
 unfolding soonerOf
 returns-2 c =
@@ -28,4 +25,4 @@ returns-3 c =
     rw (eq-eqb (a .x % 4) 2 (omega arith), le-ltb (a .x / 262144) (a .least) (omega arith)) refl
 
 pub sooner-spec : {M : Type 1} → statement M
-sooner-spec = tie.close (tie.spec returns key-of-requires returns-2 returns-3)
+sooner-spec = tie.close (tie.spec returns (λ c κs. tt) returns-2 returns-3)

@@ -10,37 +10,11 @@ Inv-loop bounds best₀ least₀ k₀ best least k = Unit {0}
 abbrev μ-loop : tie.MeasureT-loop
 μ-loop bounds best₀ least₀ k₀ best least k = 32 - k
 
-loop-holds : tie.Need-loop-holds Inv-loop μ-loop
-loop-holds c = tt
-
-add-bound : tie.Need-add-bound Inv-loop μ-loop
-add-bound c = omega arith
-
-bound-requires : tie.Need-bound-requires Inv-loop μ-loop
-bound-requires c κs = tt
-
-add-k : tie.Need-add-k Inv-loop μ-loop
-add-k c = omega arith
-
-loop-less : tie.Need-loop-less Inv-loop μ-loop
-loop-less c = omega arith
-
-loop-again : tie.Need-loop-again Inv-loop μ-loop
-loop-again c = tt
-
 returns : tie.Need-returns Inv-loop μ-loop
 returns c = tt
 
 pub soonest-spec : {M : Type 1} → statement M
 soonest-spec =
     tie.close
-    (tie.spec
-    Inv-loop
-    μ-loop
-    loop-holds
-    add-bound
-    bound-requires
-    add-k
-    loop-less
-    loop-again
+    (tie.spec Inv-loop μ-loop (λ c. tt) (λ c. omega arith) (λ c κs. tt) (λ c. omega arith) (λ c. omega arith) (λ c. tt)
     returns)
