@@ -10,7 +10,7 @@ ghost use Rattle.buffers.specs.Write.{Writes};
 
 // Numbers in wider words, and the lesser of two.
 pub fn wide(x: u8) -> usize
-    ensures { λ r. ⌜ r ≡ x ⌝ }
+    ensures { λ r. ⌜ (r ≡ x) × (r < 256) ⌝ }
 {
     x as usize
 }

@@ -28,12 +28,6 @@ const UNIT: u64 = 65536;
 // From here on a limit stands for never in a sum.
 const TOP: u64 = 4611686018427387904;
 
-fn wide(x: u8) -> usize
-    ensures { λ r. ⌜ (r ≡ x) × (r ≤ 255) ⌝ }
-{
-    x as usize
-}
-
 fn delta_word(x: u32) -> u64
     ensures { λ r. ⌜ r ≡ x ⌝ }
 {
@@ -44,8 +38,8 @@ fn delta_word(x: u32) -> u64
 fn at_most(k: usize, x: u8) -> usize
     ensures { λ r. ⌜ (r ≡ atMost k x) × (r ≤ k) ⌝ }
 {
-    if wide(x) < k {
-        return wide(x);
+    if buffers::wide(x) < k {
+        return buffers::wide(x);
     }
     k
 }
@@ -112,7 +106,7 @@ fn way(words: &[u64], count: u8, r: usize, s: usize) -> u64
     requires { ⌜ (r ≤ 255) × (s ≤ 255) ⌝ }
     ensures { λ w. ⌜ w ≡ limitOfWord (getD (now (words .entry)) (r * count + s) 0) ⌝ }
 {
-    let n = wide(count);
+    let n = buffers::wide(count);
     limit_of_word(buffers::word_at(words, r * n + s))
 }
 
@@ -152,7 +146,7 @@ fn event_of(op: Op) -> usize
         Op::Copy(_, _) => 255,
         Op::AddVariable(_, _) => 255,
         Op::SubVariable(_, _) => 255,
-        Op::Notify(e) => wide(e),
+        Op::Notify(e) => buffers::wide(e),
     }
 }
 
@@ -196,7 +190,7 @@ pub fn fill_reach(m: Model, words: &[u64], reach: &mut [u64])
 fn reach_at(reach: &[u64], segment: u8, e: u8) -> u64
     ensures { λ r. ⌜ r ≡ getD (now (reach .entry)) (segment * 32 + e) allOnes ⌝ }
 {
-    let k = wide(segment) * 32 + wide(e);
+    let k = buffers::wide(segment) * 32 + buffers::wide(e);
     if k < reach.len() {
         return reach[k];
     }
@@ -293,7 +287,7 @@ fn threatens(
     if !is_sooner_limit(b, j, c, i) {
         return false;
     }
-    let q = wide(segment);
+    let q = buffers::wide(segment);
     let k = at_most(64, count);
     let mut s = 0;
     while s < k {
@@ -340,7 +334,7 @@ fn segment_of(crew: Crew, k: usize) -> usize
     ensures { λ r. ⌜ r ≡ getD (crew .segments) k 0 ⌝ }
 {
     if k < 32 {
-        return wide(crew.segments[k]);
+        return buffers::wide(crew.segments[k]);
     }
     0
 }
@@ -357,7 +351,7 @@ pub fn hazard(
 ) -> bool
     ensures { λ r. ⌜ r ≡ hazardAt marks (now (words .entry)) n t (crew .segments) (xs .at) at ⌝ }
 {
-    let i = wide(at.thread.0);
+    let i = buffers::wide(at.thread.0);
     let r = segment_of(crew, i);
     if r >= 64 {
         return false;

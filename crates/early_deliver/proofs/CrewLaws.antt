@@ -11,10 +11,11 @@ use Rattle.clock.specs.Advance.{least, leastBelow}
 use Rattle.model.specs.declared.Thread.{Thread}
 use Rattle.model.specs.Record.{noThread, threadAt, readyCycle, awaitedBy}
 use Rattle.tables.specs.Word.{allOnes}
+use Rattle.plain.specs.Wake.{floorBelow}
 use Rattle.early.specs.declared.Notification.{Notification}
 use Rattle.early_limits.specs.Limit.{top, sumOf}
 use Rattle.early_limits.specs.Ahead.{eventAwaited, segmentsOf, eventsOf}
-use Rattle.early_deliver.specs.Awake.{floorBelow, crewOf, firstLimit, firstLimits}
+use Rattle.early_deliver.specs.Awake.{crewOf, firstLimit, firstLimits}
 use Rattle.early_deliver.proofs.FillLaws.{fill-none, fill-more}
 
 module _ (ts : List Thread) where

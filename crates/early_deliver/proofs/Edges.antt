@@ -10,7 +10,7 @@ use Rattle.tables.specs.Word.{allOnes}
 use Rattle.early.specs.Deliver.{heardBy}
 use Rattle.early.proofs.EdgeModels.{boundAt, note, readyIn, waitingIn, endedIn}
 use Rattle.early_limits.proofs.Computed.{computed}
-use Rattle.early_deliver.specs.Awake.{floorBelow, firstLimits, soonerAt}
+use Rattle.early_deliver.specs.Awake.{firstLimits, soonerAt}
 
 -- one thread, whose limit is the forecast; a notification at (2, 0)
 pub soonerAt-edges :
@@ -30,10 +30,3 @@ pub firstLimits-edges :
     (getD (firstLimits 1 [] (waitingIn 0 0 0 0 ∷ [])) 0 7 ≡ allOnes)
 unfolding computed firstLimits
 firstLimits-edges = (refl, refl, refl, refl, refl)
-
-pub floorBelow-edges :
-    (floorBelow 1 (waitingIn 0 0 0 0 ∷ readyIn 0 3 4 ∷ readyIn 0 3 3 ∷ []) ≡ Never) ×
-    (floorBelow 2 (waitingIn 0 0 0 0 ∷ readyIn 0 3 4 ∷ readyIn 0 3 3 ∷ []) ≡ boundAt 3 4) ×
-    (floorBelow 3 (waitingIn 0 0 0 0 ∷ readyIn 0 3 4 ∷ readyIn 0 3 3 ∷ []) ≡ boundAt 3 3)
-unfolding computed floorBelow
-floorBelow-edges = (refl, refl, refl)

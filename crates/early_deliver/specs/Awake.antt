@@ -6,11 +6,10 @@ use lib.Dec.{ltb}
 use Rattle.base.specs.Index.{tabulate}
 use Rattle.clock.specs.declared.Bound.{Bound}
 use Rattle.clock.specs.declared.Bound.the-variants.{Never, At}
-use Rattle.clock.specs.Advance.{leastBelow}
 use Rattle.model.specs.declared.State.{State}
 use Rattle.model.specs.declared.Thread.{Thread}
 use Rattle.model.specs.Record as view
-use Rattle.model.specs.Record.{threadAt, View, viewOf, readyCycle}
+use Rattle.model.specs.Record.{threadAt, View, viewOf}
 use Rattle.tables.specs.Word.{allOnes}
 use Rattle.early.specs.declared.Notification.{Notification}
 use Rattle.early.specs.Log.{leastHeard}
@@ -19,10 +18,6 @@ use Rattle.early_limits.specs.declared.Crew.{Crew}
 use Rattle.early_deliver.specs.declared.Outlook.{Outlook}
 use Rattle.early_limits.specs.Limit.{limitOfCycle, sumOf}
 use Rattle.early_limits.specs.Ahead.{forecastAt, earliestLimits, segmentsOf, eventsOf}
-
--- the least cycle of a ready thread below t
-unfoldable pub floorBelow : ℕ → List Thread → Bound
-floorBelow t ts = leastBelow t (λ k. readyCycle (threadAt ts k .state))
 
 unfoldable pub crewOf : ℕ → List Thread → Crew
 crewOf t ts = record { segments = segmentsOf t ts; events = eventsOf t ts }

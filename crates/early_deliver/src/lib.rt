@@ -14,11 +14,12 @@ ghost use mathlib.Core.Path.{_≡_};
 ghost use mathlib.Core.Bool.{false};
 ghost use Rattle.clock.specs.Wait.{waitEnds};
 ghost use Rattle.model.specs.Record.{awaitedBy, stateAfter};
+ghost use Rattle.plain.specs.Wake.{floorBelow};
 ghost use Rattle.early.specs.Log.{logOf};
 ghost use Rattle.early.specs.Deliver.{heardBy, lookedBy, sweptBy, settledBy};
 ghost use Rattle.early_limits.specs.Limit.{sumOf, atMost};
 ghost use Rattle.early_limits.specs.Ahead.{eventAwaited};
-ghost use Rattle.early_deliver.specs.Awake.{floorBelow, crewOf, boundLimit, firstLimit, firstLimits, soonerAt, soonerOn, outlookOf};
+ghost use Rattle.early_deliver.specs.Awake.{crewOf, boundLimit, firstLimit, firstLimits, soonerAt, soonerOn, outlookOf};
 
 // A limit that stands for never, and the least that does so in a sum.
 const NEVER: u64 = 18446744073709551615;

@@ -23,7 +23,7 @@ use Rattle.model.specs.declared.Thread.{Thread}
 use Rattle.model.specs.Record.{threadAt, isLive, readyCycle, Awaited, nothing, awaits, awaitedBy}
 use Rattle.model.specs.Footprint.{notifiesIn}
 use Rattle.tables.specs.Word.{distanceIn}
-use Rattle.plain.specs.Wake.{floorOf}
+use Rattle.plain.specs.Wake.{floorBelow, floorOf}
 use Rattle.early.specs.declared.Notification.{Notification}
 use Rattle.early.specs.declared.Site.{Site}
 use Rattle.early.specs.Log.{leastHeard}
@@ -52,7 +52,7 @@ module _ (m : Model) (ts us : List Thread) (agree : Agree m ts us) where
       (anyBelow-same (m .t) (λ k. not (isFitThread m k (threadAt ts k))) (λ k. not (isFitThread m k (threadAt us k))) (λ k h. ap (λ (t : Thread). not (isFitThread m k t)) (agree .same k h)))
 
   pub floorOf-same : floorOf m ts ≡ floorOf m us
-  unfolding floorOf
+  unfolding floorBelow
   floorOf-same = leastBelow-same (m .t) (λ k. readyCycle (threadAt ts k .state)) (λ k. readyCycle (threadAt us k .state)) (λ k h. ap (λ (t : Thread). readyCycle (t .state)) (agree .same k h))
 
   module _ (ws ys : List ℕ) (from : SameFrom m ws ys us) where

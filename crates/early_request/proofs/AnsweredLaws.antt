@@ -23,6 +23,7 @@ use Rattle.model.specs.Statement.{notifiedBy}
 use Rattle.model.specs.Record.{noThread, threadAt, readyCycle, cycleOf}
 use Rattle.model.specs.Effect.{effectIn, heldEvents, heldEffect}
 use Rattle.model_effect.proofs.FrameLaws.{effectIn-begins}
+use Rattle.plain.specs.Wake.{floorBelow}
 use Rattle.early.specs.declared.Notification.{Notification}
 use Rattle.early.specs.declared.Site.{Site}
 use Rattle.early.specs.declared.Answer.the-variants.{Granted}
@@ -39,7 +40,7 @@ use Rattle.early_limits.proofs.PlaceLaws.{atMost-is}
 use Rattle.early_log.specs.Noted.{notedOf}
 use Rattle.early_log.proofs.NotedLaws.{notedOf-fits}
 use Rattle.early_deliver.specs.declared.Outlook.{Outlook}
-use Rattle.early_deliver.specs.Awake.{floorBelow, crewOf, aheadOf, soonerOn, outlookOf}
+use Rattle.early_deliver.specs.Awake.{crewOf, aheadOf, soonerOn, outlookOf}
 use Rattle.early_request.specs.After.{afterOf}
 use Rattle.early_request.specs.Answered.{hazardOn, numberOn, effectFrom, grantOn, runOn, answeredOn}
 

@@ -25,7 +25,7 @@ use Rattle.model.specs.Record.{threadAt, readyCycle, cycleOf}
 use Rattle.model.specs.Effect.{Effect, effectOf, heldEffect}
 use Rattle.model.specs.Footprint.{listedIn}
 use Rattle.model_effect.proofs.EffectLaws.{heldThread-small}
-use Rattle.plain.specs.Wake.{floorOf}
+use Rattle.plain.specs.Wake.{floorBelow, floorOf}
 use Rattle.early.specs.declared.Site.{Site}
 use Rattle.early.specs.Log.{logOf}
 use Rattle.early.specs.Deliver.{settled}
@@ -40,15 +40,10 @@ use Rattle.early_limits.specs.Ahead.{reachOf}
 use Rattle.early_limits.proofs.StateLaws.{FitState, isUnfit→FitState, fit-counts, fit-threads, fit-segment, ready-fit}
 use Rattle.early_limits.proofs.AheadLaws.{hazard-limit}
 use Rattle.early_limits.proofs.DeliverLaws.{granted-fit}
-use Rattle.early_deliver.specs.Awake.{floorBelow}
 use Rattle.early_deliver.proofs.SettledLaws.{aheadOf-is, settledBy-is}
 use Rattle.early_request.specs.After.{afterOf}
 use Rattle.early_request.specs.Answered.{hazardOn, numberOn, effectFrom, grantOn, runOn, answeredOn}
 use Rattle.early_request.proofs.AnsweredLaws.{heldEvents-taken}
-
-floor-is : (m : Model) (ts : List Thread) → floorBelow (m .t) ts ≡ floorOf m ts
-unfolding floorBelow floorOf
-floor-is m ts = refl
 
 -- a request on a fit state
 module _ (m : Model) (marks : List (List Bool)) (ws : List ℕ) (site : Site) (ts : List Thread) (fit : FitState m ws (logOf site) ts) (k : ℕ) where
@@ -66,7 +61,7 @@ module _ (m : Model) (marks : List (List Bool)) (ws : List ℕ) (site : Site) (t
         (λ h. record {
           ready = refl;
           hazards = λ c ready _. hazard-is c h ready;
-          floors = floor-is m ts;
+          floors = refl;
           listed = ap (λ (x : Segment). notifiedBy (bodyOf x)) (same h);
         })
 
@@ -89,7 +84,7 @@ module _ (m : Model) (marks : List (List Bool)) (ws : List ℕ) (site : Site) (t
       granted-is =
           let l = logAfter m site ts k c in
           let us = closedThreads m site ts k c in
-          rw (settledBy-is m ws l us closed-fit, floor-is m (settled m ws l us)) refl
+          rw (settledBy-is m ws l us closed-fit) refl
 
       run-is : afterOf (runOn (reachOf m ws) (m .t) g site ts k) ≡ afterOf (grantedTo m ws site ts k (cycleOf (threadAt ts k .state)))
       unfolding runOn effectAt effectOf

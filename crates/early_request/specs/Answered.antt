@@ -12,13 +12,14 @@ use Rattle.model.specs.Values.{bodyOf}
 use Rattle.model.specs.Statement.{notifiedBy}
 use Rattle.model.specs.Record.{threadAt, cycleOf}
 use Rattle.model.specs.Effect.{Effect, effectIn, heldEffect}
+use Rattle.plain.specs.Wake.{floorBelow}
 use Rattle.early.specs.declared.Notification.{Notification}
 use Rattle.early.specs.declared.Site.{Site}
 use Rattle.early.specs.Log.{logOf}
 use Rattle.early.specs.Deliver.{settledBy}
 use Rattle.early.specs.Request.{numberFor, Requested, grantedBy, answeredBy}
 use Rattle.early_limits.specs.Ahead.{hazardAt, segmentsOf}
-use Rattle.early_deliver.specs.Awake.{floorBelow, aheadOf, soonerOn}
+use Rattle.early_deliver.specs.Awake.{aheadOf, soonerOn}
 
 -- whether a hazard stands for thread k at a cycle, on limits
 unfoldable pub hazardOn : ℕ → ℕ → List (List Bool) → List ℕ → List ℕ → List Notification → List Thread → ℕ → Cycle → Bool

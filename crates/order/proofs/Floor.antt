@@ -15,7 +15,7 @@ use Rattle.model.specs.declared.Model.{Model}
 use Rattle.model.specs.declared.Thread.{Thread}
 use Rattle.model.specs.Record as view
 use Rattle.model.specs.Record.{threadAt, readyCycle, readyCycleOf, View, viewOf}
-use Rattle.plain.specs.Wake.{floorOf}
+use Rattle.plain.specs.Wake.{floorBelow, floorOf}
 use Rattle.plain_laws.proofs.WakeLaws.{floorOf-≼}
 
 -- of two cycles one is not after the other
@@ -46,7 +46,7 @@ floor-below m ts k c below r = subst (λ (b : Bound). floorOf m ts ≼ b) (ap re
 -- a bound that is not after any ready thread is not after the floor
 pub floor-glb : (m : Model) (ts : List Thread) (low : Bound)
     → ((k : ℕ) (c : Cycle) → k < m .t → viewOf (threadAt ts k .state) ≡ view.ready c → low ≼ At c) → low ≼ floorOf m ts
-unfolding floorOf
+unfolding floorBelow
 floor-glb m ts low h = leastBelow-glb low (m .t) (λ k. readyCycle (threadAt ts k .state)) (λ k below. go k below (viewOf (threadAt ts k .state)) refl)
   where
     go : (k : ℕ) → k < m .t → (v : View) → viewOf (threadAt ts k .state) ≡ v → low ≼ readyCycleOf v

@@ -6,19 +6,13 @@ ghost use Rattle.io.specs.Counts.{Counts};
 // No part is so long: what the length is where the file has ended.
 const ENDED: usize = 65536;
 
-fn wide(x: u8) -> usize
-    ensures { λ r. ⌜ (r ≡ x) × (r < 256) ⌝ }
-{
-    x as usize
-}
-
 // The two bytes of a length, or of a count.
 pub fn read_length(fd: i32) -> usize {
     let mut head = [0u8; 2];
     if io::read_full(fd, &mut head) < 2 {
         return ENDED;
     }
-    wide(head[0]) + wide(head[1]) * 256
+    buffers::wide(head[0]) + buffers::wide(head[1]) * 256
 }
 
 // Reads n bytes to the front of the buffer, and answers how many came: none where there is no room for them.

@@ -32,9 +32,12 @@ wokenThread es c t = record { segment = t .segment; state = wokenState es c (t .
 unfoldable pub woken : List ℕ → Cycle → List Thread → List Thread
 woken es c ts = map (wokenThread es c) ts
 
--- "The next cycle is the least among ready threads." In document 01's "Early issue" this is the floor.
-unfoldable pub floorOf : Model → List Thread → Bound
-floorOf m ts = leastBelow (m .t) (λ k. liveCycle (threadAt ts k .state))
+-- "The next cycle is the least among ready threads": those below t. In document 01's "Early issue" this is the floor.
+unfoldable pub floorBelow : ℕ → List Thread → Bound
+floorBelow t ts = leastBelow t (λ k. liveCycle (threadAt ts k .state))
+
+abbrev pub floorOf : Model → List Thread → Bound
+floorOf m ts = floorBelow (m .t) ts
 
 -- whether some thread is ready before the horizon
 unfoldable pub someReady : Model → List Thread → Bool

@@ -30,7 +30,7 @@ use Rattle.model.specs.Limits.{isBeforeHorizon, isBoundBeforeHorizon}
 use Rattle.model.specs.Record as view
 use Rattle.model.specs.Record.{threadAt, readyCycle, awaitedBy, stateAfter, View, viewOf, awaitedOf, readyCycleOf}
 use Rattle.model.specs.Footprint.{has}
-use Rattle.plain.specs.Wake.{isWoken, wokenState, wokenThread, woken, floorOf, someReady}
+use Rattle.plain.specs.Wake.{isWoken, wokenState, wokenThread, woken, floorBelow, floorOf, someReady}
 use Rattle.plain_laws.proofs.RecordLaws.{thread-path, threadAt-map, readyCycle→ready, readyCycle-before, before-readyCycle, stateAfter-ready}
 
 -- a state where the events es were notified in cycle c
@@ -108,7 +108,7 @@ woken-none c (t ∷ ts) = let same : wokenThread [] c t ≡ t = thread-path refl
 
 module _ (m : Model) (ts : List Thread) where
   pub floorOf-≼ : (k : ℕ) → k < m .t → floorOf m ts ≼ readyCycle (threadAt ts k .state)
-  unfolding floorOf
+  unfolding floorBelow
   floorOf-≼ k h = leastBelow-≼ (m .t) (λ j. readyCycle (threadAt ts j .state)) k h
 
   -- no ready thread is before the floor
@@ -117,7 +117,7 @@ module _ (m : Model) (ts : List Thread) where
 
   -- some thread is ready at it
   pub floorOf-attained : (f : Cycle) → floorOf m ts ≡ At f → (k : ℕ) × (k < m .t) × (viewOf (threadAt ts k .state) ≡ view.ready f)
-  unfolding floorOf
+  unfolding floorBelow
   floorOf-attained f e = go (leastBelow-one (m .t) (λ j. readyCycle (threadAt ts j .state)))
     where
       go : (floorOf m ts ≡ Never) ⊎ ((k : ℕ) × (k < m .t) × (floorOf m ts ≡ readyCycle (threadAt ts k .state)))

@@ -20,7 +20,7 @@ use Rattle.model.specs.declared.Thread.{Thread}
 use Rattle.model.specs.Limits.{isBeforeHorizon, isBoundBeforeHorizon}
 use Rattle.model.specs.Record.{threadAt, readyCycle}
 use Rattle.plain.specs.Start.{Place}
-use Rattle.plain.specs.Wake.{floorOf, someReady}
+use Rattle.plain.specs.Wake.{floorBelow, floorOf, someReady}
 use Rattle.plain.specs.Step.{begun, closedOn, stepped}
 use Rattle.plain.specs.Run.{isDone, isOut, runFor}
 use Rattle.plain_laws.proofs.RecordLaws.{horizon-mono}
@@ -35,7 +35,7 @@ isBoundBeforeHorizon-mono m (At a) (At b) h t = horizon-mono m h t
 
 module _ (m : Model) (ts : List Thread) where
   pub floorOf-one : (floorOf m ts ≡ Never) ⊎ ((k : ℕ) × (k < m .t) × (floorOf m ts ≡ readyCycle (threadAt ts k .state)))
-  unfolding floorOf
+  unfolding floorBelow
   floorOf-one = leastBelow-one (m .t) _
 
   -- the floor is not before the horizon, so no thread is ready before it

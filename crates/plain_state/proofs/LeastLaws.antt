@@ -24,7 +24,7 @@ use Rattle.model.specs.declared.State.the-variants.{Ready}
 use Rattle.model.specs.declared.Thread.{Thread}
 use Rattle.model.specs.Limits.{isBeforeHorizon, isBoundBeforeHorizon}
 use Rattle.model.specs.Record.{threadAt, viewOf, readyCycle}
-use Rattle.plain.specs.Wake.{floorOf}
+use Rattle.plain.specs.Wake.{floorBelow, floorOf}
 use Rattle.plain_words.proofs.ReachLaws.{lesserOf-≤}
 use Rattle.plain_state.specs.Words.{span, keyOf, limitOf, wordOf, leastWord}
 use Rattle.plain_laws.proofs.RecordLaws.{readyCycle→ready, ready→state}
@@ -86,7 +86,7 @@ module _ (m : Model) (small : limitOf m ≤ span) (ws : List ℕ) (us : List Thr
 
   pub floor-word : leastWord (m .t) ws < limitOf m →
       (c : Cycle) × (floorOf m us ≡ At c) × (keyOf c ≡ leastWord (m .t) ws) × Small c × T (isBeforeHorizon m c)
-  unfolding floorOf
+  unfolding floorBelow
   floor-word h = go (leastWord-one (m .t) ws)
     where
       found : (k : ℕ) → k < m .t → leastWord (m .t) ws ≡ getD ws k 0 → (c : Cycle) × (threadAt us k .state ≡ Ready c) →

@@ -17,12 +17,6 @@ pub struct Replayed {
     pub threads: Threads,
 }
 
-fn wide(x: u8) -> usize
-    ensures { λ r. ⌜ (r ≡ x) × (r < 256) ⌝ }
-{
-    x as usize
-}
-
 // Beside a number all else is zero, as the fresh state of a zero model is.
 fn refused(number: u8) -> Replayed
     ensures { λ r. ⌜ r ≡ refusedWith number ⌝ }
@@ -62,7 +56,7 @@ pub fn replay(file: &[u8], words: &mut [u64], ks: &[u8], answers: &mut [u64]) ->
     let site = fresh.site;
     let threads = fresh.threads;
     let marks = tables_conflict::conflict_marks(m);
-    let n = wide(m.n);
+    let n = buffers::wide(m.n);
     let size = n * n;
     let left = early_request::requests(m, marks, &words[..size], site, threads, ks, answers);
     let site = left.site;

@@ -5,7 +5,7 @@ use native.Mathlib.Omega.{arith}
 use borrow.Author.Needs.{needs}
 use Rattle.clock.specs.Advance.{least}
 use Rattle.early_limits.specs.Limit.{atMost}
-use Rattle.early_deliver.specs.Awake.{floorBelow}
+use Rattle.plain.specs.Wake.{floorBelow}
 use Rattle.early_deliver.proofs.CrewLaws.{floor-none, floor-more}
 use Rattle.early_deliver.proofs.floor_of.Statement.{statement}
 use Rattle.early_deliver.proofs.floor_of.Tie as tie

@@ -7,13 +7,13 @@ use Rattle.early_fit.proofs.is_unfit_table.Statement.{statement}
 use Rattle.early_fit.proofs.is_unfit_table.Tie as tie
 
 mul-count : tie.Need-mul-count
-mul-count c = rw (c .wide .ensures) (let h = square-fits (c .before .before .args .n) (omega arith) in omega arith)
+mul-count c = rw (c .wide .ensures .0) (let h = square-fits (c .before .before .args .n) (omega arith) in omega arith)
 
 returns : tie.Need-returns
-returns c = λ m p. isUnfitWords-short m (c .before .before .before .args .words .now) (rw (p ∙ sym (c .before .wide .ensures)) (c .if1 .taken))
+returns c = λ m p. isUnfitWords-short m (c .before .before .before .args .words .now) (rw (p ∙ sym (c .before .wide .ensures .0)) (c .if1 .taken))
 
 returns-2 : tie.Need-returns-2
-returns-2 c = λ m p. c .is-unfit-words .ensures m (rw (p ∙ sym (c .before .before .wide .ensures)) refl)
+returns-2 c = λ m p. c .is-unfit-words .ensures m (rw (p ∙ sym (c .before .before .wide .ensures .0)) refl)
 
 pub is-unfit-table-spec : {M : Type 1} → statement M
 is-unfit-table-spec = tie.close (tie.spec (λ c κs. search needs) mul-count returns (λ c κs. search needs) returns-2)

@@ -31,7 +31,7 @@ loop-again c =
     let size = log-length (x .t1) _ (c .before .before .before .before .before .before .before .before .before .good .0) in
     let l = c .before .before .before .before .before .loop in
     let p =
-    dropped-stays (x .floor) (x .t1 .log) (l .log) noPair (l .i) (l .count) (omega arith) (omega arith) (l .inv .2) (l .inv .3) _ (c .wide .ensures) (sym (c .before .before .is-dropped .ensures) ∙ not-true _ (c .before .if1 .taken)) in
+    dropped-stays (x .floor) (x .t1 .log) (l .log) noPair (l .i) (l .count) (omega arith) (omega arith) (l .inv .2) (l .inv .3) _ (c .wide .ensures .0) (sym (c .before .before .is-dropped .ensures) ∙ not-true _ (c .before .if1 .taken)) in
     (omega arith, omega arith, p .0, p .1)
 
 loop-again-2 : tie.Need-loop-again-2 Inv-loop μ-loop

@@ -40,7 +40,7 @@ loop-again c =
     let size = events-length (x .t3) _ (c .before .before .before .before .before .before .before .before .before .before .good .1 .1 .0) in
     let t = c .before .before .before .before .before .before .before .before .before .cleared .result in
     let l = c .before .before .before .before .before .loop in
-    (omega arith, rw (withPairs-more (take (t .count) (t .log)) (x .c) (x .t3 .at) (l .j) (omega arith)) (holding-held _ (l .log) (l .count) (l .inv .1) _ _ (c .before .before .wide .ensures) (sym (c .if1 .taken) ∙ c .before .is-held .ensures)))
+    (omega arith, rw (withPairs-more (take (t .count) (t .log)) (x .c) (x .t3 .at) (l .j) (omega arith)) (holding-held _ (l .log) (l .count) (l .inv .1) _ _ (c .before .before .wide .ensures .0) (sym (c .if1 .taken) ∙ c .before .is-held .ensures)))
 
 loop-again-2 : tie.Need-loop-again-2 Inv-loop μ-loop
 loop-again-2 c =
@@ -48,7 +48,7 @@ loop-again-2 c =
     let size = events-length (x .t3) _ (c .before .before .before .before .before .before .before .before .before .before .before .good .1 .1 .0) in
     let t = c .before .before .before .before .before .before .before .before .before .before .cleared .result in
     let l = c .before .before .before .before .before .before .loop in
-    (omega arith, rw (withPairs-more (take (t .count) (t .log)) (x .c) (x .t3 .at) (l .j) (omega arith)) (holding-new _ (l .log) (l .count) (l .inv .1) _ _ (c .before .before .before .wide .ensures) (sym (c .before .if1 .left) ∙ c .before .before .is-held .ensures) (c .if2 .taken)))
+    (omega arith, rw (withPairs-more (take (t .count) (t .log)) (x .c) (x .t3 .at) (l .j) (omega arith)) (holding-new _ (l .log) (l .count) (l .inv .1) _ _ (c .before .before .before .wide .ensures .0) (sym (c .before .if1 .left) ∙ c .before .before .is-held .ensures) (c .if2 .taken)))
 
 loop-again-3 : tie.Need-loop-again-3 Inv-loop μ-loop
 loop-again-3 c =
@@ -56,7 +56,7 @@ loop-again-3 c =
     let size = events-length (x .t3) _ (c .before .before .before .before .before .before .before .before .before .before .before .good .1 .1 .0) in
     let t = c .before .before .before .before .before .before .before .before .before .before .cleared .result in
     let l = c .before .before .before .before .before .before .loop in
-    (omega arith, rw (withPairs-more (take (t .count) (t .log)) (x .c) (x .t3 .at) (l .j) (omega arith)) (holding-full _ (l .log) (l .count) (l .inv .1) _ _ (c .before .before .before .wide .ensures) (c .if2 .left)))
+    (omega arith, rw (withPairs-more (take (t .count) (t .log)) (x .c) (x .t3 .at) (l .j) (omega arith)) (holding-full _ (l .log) (l .count) (l .inv .1) _ _ (c .before .before .before .wide .ensures .0) (c .if2 .left)))
 
 returns : tie.Need-returns Inv-loop μ-loop
 returns c =

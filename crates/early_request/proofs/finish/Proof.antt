@@ -15,7 +15,7 @@ returns c =
     let i = c .before .before .before .before .before .before .before .before .before .before .wide in
     finish-made (x .reach .now) (x .t) (omega arith) (x .site) (x .t5 .at) (i .result) (x .at .cycle) (x .ran) (start .pre .1 .1) (c .before .before .before .note .result) (c .drop-before .result) (c .before .before .settle .result) (c .before .floor-of .result)
     (c .before .before .before .note .ensures) (c .before .before .settle .ensures) (c .before .floor-of .ensures) (c .drop-before .ensures)
-    ∙ ap (λ j. afterOf (grantOn (x .reach .now) (x .t) (x .site) (x .t5 .at) j (x .at .cycle) (effectFrom (x .ran)))) (i .ensures)
+    ∙ ap (λ j. afterOf (grantOn (x .reach .now) (x .t) (x .site) (x .t5 .at) j (x .at .cycle) (effectFrom (x .ran)))) (i .ensures .0)
 
 pub finish-spec : {M : Type 1} → statement M
 finish-spec =

@@ -9,12 +9,12 @@ finish-requires : tie.Need-finish-requires
 finish-requires c κs =
     let start = c .before .before .before .before .before .before in
     let x = start .args in
-    (omega arith, (omega arith, run-room (x .reach .now) (x .t) (x .g) (x .site) (x .t5 .at) (x .k .0) (c .before .before .before .before .wide .result) _ (c .before .before .cycle-of .result) _ (c .effect-in .result) (c .before .before .before .before .wide .ensures) (c .before .before .cycle-of .ensures) (c .effect-in .ensures) (start .pre .1 .1)))
+    (omega arith, (omega arith, run-room (x .reach .now) (x .t) (x .g) (x .site) (x .t5 .at) (x .k .0) (c .before .before .before .before .wide .result) _ (c .before .before .cycle-of .result) _ (c .effect-in .result) (c .before .before .before .before .wide .ensures .0) (c .before .before .cycle-of .ensures) (c .effect-in .ensures) (start .pre .1 .1)))
 
 returns : tie.Need-returns
 returns c =
     let x = c .before .before .before .before .before .before .before .args in
-    run-made (x .reach .now) (x .t) (x .g) (x .site) (x .t5 .at) (x .k .0) (c .before .before .before .before .before .wide .result) (c .before .before .before .cycle-of .result) (c .before .effect-in .result) (c .finish .result) (c .before .before .before .before .before .wide .ensures) (c .before .before .before .cycle-of .ensures) (c .before .effect-in .ensures) (c .finish .ensures)
+    run-made (x .reach .now) (x .t) (x .g) (x .site) (x .t5 .at) (x .k .0) (c .before .before .before .before .before .wide .result) (c .before .before .before .cycle-of .result) (c .before .effect-in .result) (c .finish .result) (c .before .before .before .before .before .wide .ensures .0) (c .before .before .before .cycle-of .ensures) (c .before .effect-in .ensures) (c .finish .ensures)
 
 pub run-grant-spec : {M : Type 1} → statement M
 run-grant-spec =

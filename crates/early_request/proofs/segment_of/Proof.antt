@@ -12,7 +12,7 @@ returns c = rw (le-ltb (c .before .args .k) (c .before .args .t) (omega arith)) 
 
 returns-2 : tie.Need-returns-2
 unfolding threadAt
-returns-2 c = rw (lt-ltb (c .before .before .before .before .args .k) (c .before .before .before .before .args .t) (omega arith), ← c .before .before .wide .ensures) (c .wide2 .ensures)
+returns-2 c = rw (lt-ltb (c .before .before .before .before .args .k) (c .before .before .before .before .args .t) (omega arith), ← c .before .before .wide .ensures .0) (c .wide2 .ensures .0)
 
 pub segment-of-spec : {M : Type 1} → statement M
 segment-of-spec =

@@ -30,7 +30,7 @@ returns c = let n = c .before .before in
     let i = n .before .before .wide in
     let a = n .before .before .before .args in
     let e : c .before .loop .j ≡ n .size-of .result = omega arith in
-    executeBy-as (a .code .now) _ (a .s) (i .result) _ _ (i .ensures) (rw e (n .size-of .ensures)) (c .before .loop .inv .1 .1)
+    executeBy-as (a .code .now) _ (a .s) (i .result) _ _ (i .ensures .0) (rw e (n .size-of .ensures)) (c .before .loop .inv .1 .1)
 
 pub execute-spec : {M : Type 1} → statement M
 execute-spec =

@@ -70,8 +70,8 @@ filled c =
     let size = is-size w in
     let kind = w .word-at2 .ensures .0 in
     ⊎-elim
-    (λ b. filled-with-segment ok f size kind (more w) _ _ _ _ _ _ (b .0 .taken) (b .1 .ensures) (b .2 .ensures) (b .3) (b .4) (b .5) (b .6))
-    (λ b. filled-with-thread ok f size kind (more w) _ _ _ _ _ (filled-thread ok f size kind (more w) (b .0 .left)) (b .1 .ensures) (b .3) (b .4) (b .5) (b .6))
+    (λ b. filled-with-segment ok f size kind (more w) _ _ _ _ _ _ (b .0 .taken) (b .1 .ensures .0) (b .2 .ensures) (b .3) (b .4) (b .5) (b .6))
+    (λ b. filled-with-thread ok f size kind (more w) _ _ _ _ _ (filled-thread ok f size kind (more w) (b .0 .left)) (b .1 .ensures .0) (b .3) (b .4) (b .5) (b .6))
     (c .if1 .came)
 
 -- the next record begins within the bytes
