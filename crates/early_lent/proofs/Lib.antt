@@ -2,3 +2,4 @@ mod MovedLaws
 mod LendLaws
 mod WalkLaws
 pub mod Edges
+pub mod FrontLaws

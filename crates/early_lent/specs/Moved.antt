@@ -1,5 +1,5 @@
 -- How the code moves the records between the lent slice and the records by value: one after the other, from the first.
-use Prim.Native.Nat.{ℕ, zero, suc}
+use Prim.Native.Nat.{ℕ, zero, suc, min}
 use mathlib.Core.Bool.{Bool, cond}
 use mathlib.Core.List.{List}
 use lib.Dec.{ltb}
@@ -33,12 +33,9 @@ stored ts (suc i) from = set (stored ts i from) i (takenAt from i)
 abbrev pub noThreads : Threads
 noThreads = record { at = replicate 32 noThread }
 
-abbrev pub smallerOf : ℕ → ℕ → ℕ
-smallerOf a b = cond (ltb a b) a b
-
 -- how many records are moved: one for each thread, and no more than are lent or held by value
 abbrev pub movedOf : ℕ → ℕ → ℕ
-movedOf lent t = smallerOf lent (smallerOf t 32)
+movedOf lent t = min lent (min t 32)
 
 -- a request on records by value, of which so many were lent: 11, "records below T"
 unfoldable pub requestLent : Model → List (List Bool) → List ℕ → Site → Threads → ℕ → ℕ → Requested

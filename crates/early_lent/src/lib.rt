@@ -1,21 +1,17 @@
 // Document 01, "Early issue": "the public request then works on a lent slice of thread records, at least as many as the
 // threads; records past those are neither read nor written".
-use clock::Cycle;
-use clock::Delta;
 use clock::ThreadNo;
-use clock::Time;
 use early::Answer;
 use early::Site;
 use model::Model;
-use model::State;
 use model::Thread;
 use model::Threads;
 ghost use mathlib.Core.Path.{_≡_};
 ghost use Prim.Native.Nat.{_<_, _≤_};
-ghost use lib.ListN.{length};
+ghost use lib.ListN.{length, take, drop};
 ghost use Rattle.early.specs.Request.{requestOf};
-ghost use Rattle.early_lent.specs.Answered.{askedOf};
-ghost use Rattle.early_lent.specs.Moved.{placedAt, takenAt, loaded, stored, noThreads, smallerOf, movedOf, requestLent, doneOf};
+ghost use Rattle.early_lent.specs.Answered.{askedOf, lentOf, requestFirst};
+ghost use Rattle.early_lent.specs.Moved.{placedAt, takenAt, loaded, stored, movedOf, requestLent, doneOf};
 
 // The answer of a request, and the state beside it; the records stand in the slice.
 pub struct Asked {
@@ -44,34 +40,11 @@ fn taken(from: Threads, i: usize) -> Thread
     from.at[i]
 }
 
-fn no_threads() -> Threads
-    ensures { λ r. ⌜ r ≡ noThreads ⌝ }
-{
-    let c = Cycle {
-        time: Time(0),
-        delta: Delta(0),
-    };
-    let t = Thread {
-        segment: 0,
-        state: State::Ended(c),
-    };
-    Threads { at: [t; 32] }
-}
-
-fn smaller(a: usize, b: usize) -> usize
-    ensures { λ r. ⌜ r ≡ smallerOf a b ⌝ }
-{
-    if a < b {
-        return a;
-    }
-    b
-}
-
 // How many records are moved: one for each thread, and no more than are lent or held by value.
 fn moved(lent: usize, t: u8) -> usize
     ensures { λ r. ⌜ r ≡ movedOf lent t ⌝ }
 {
-    smaller(lent, smaller(t as usize, 32))
+    buffers::least(lent, buffers::least(t as usize, 32))
 }
 
 // The first n records of ts, over those of to.
@@ -147,8 +120,50 @@ pub fn request(
 {
     let lent = threads.len();
     let n = moved(lent, m.t);
-    let before = load(threads, n, no_threads());
+    let before = load(threads, n, model_effect::no_threads());
     let done = request_of(m, marks, words, site, before, lent, k);
     store(threads, n, done.threads);
     done.asked
+}
+
+// What a request on some of 40 records leaves: the answer with the state, and all of the records.
+pub struct Lent {
+    pub asked: Asked,
+    pub records: [Thread; 40],
+}
+
+// The first so many records are lent to a request.
+fn lend(
+    m: Model,
+    marks: [[bool; 64]; 64],
+    words: &[u64],
+    site: Site,
+    records: [Thread; 40],
+    lent: usize,
+    k: ThreadNo,
+) -> Lent
+    requires { ⌜ lent ≤ 40 ⌝ }
+    ensures { λ r. ⌜ r ≡ lentOf (requestOf m marks (now (words .entry)) site (take lent records) (k .0)) (drop lent records) ⌝ }
+{
+    let mut held = records;
+    let asked = request(m, marks, words, site, &mut held[..lent], k);
+    Lent {
+        asked,
+        records: held,
+    }
+}
+
+// The request on a slice of the first so many of 40 records, or of all; the others stay. For callers that hold no slice of records.
+pub fn request_first(
+    m: Model,
+    marks: [[bool; 64]; 64],
+    words: &[u64],
+    site: Site,
+    records: [Thread; 40],
+    lent: usize,
+    k: ThreadNo,
+) -> Lent
+    ensures { λ r. ⌜ r ≡ requestFirst m marks (now (words .entry)) site records lent (k .0) ⌝ }
+{
+    lend(m, marks, words, site, records, buffers::least(lent, 40), k)
 }

@@ -76,10 +76,10 @@ use Rattle.early_lent.proofs.moved as moved′
 use Rattle.early_lent.proofs.moved.Symbol as moved-def
 use Rattle.early_lent.proofs.moved.Symbol.{name as #early-lent·moved}
 use Rattle.early_lent.proofs.moved.Met as moved-thm
-use Rattle.early_lent.proofs.no_threads as none′
-use Rattle.early_lent.proofs.no_threads.Symbol as none-def
-use Rattle.early_lent.proofs.no_threads.Symbol.{name as #early-lent·no-threads}
-use Rattle.early_lent.proofs.no_threads.Met as none-thm
+use Rattle.model_effect.proofs.no_threads as none′
+use Rattle.model_effect.proofs.no_threads.Symbol as none-def
+use Rattle.model_effect.proofs.no_threads.Symbol.{name as #model-effect·no-threads}
+use Rattle.model_effect.proofs.no_threads.Met as none-thm
 use Rattle.early_lent.proofs.load as load′
 use Rattle.early_lent.proofs.load.Symbol as load-def
 use Rattle.early_lent.proofs.load.Symbol.{name as #early-lent·load}
@@ -172,7 +172,7 @@ module _ {M : Type 1} (𝓤 : URA M) (H : Heap 𝓤) (A : Atoms 𝓤) (mem : Mem
   -- that the callees meet them
   record Known (C : Calls 𝓤 H) : Type 2 where
     moved : Triple 𝓤 (C #early-lent·moved) Moved
-    none : Triple 𝓤 (C #early-lent·no-threads) None
+    none : Triple 𝓤 (C #model-effect·no-threads) None
     load : Triple 𝓤 (C #early-lent·load) Load
     ask : Triple 𝓤 (C #early-lent·request-of) Ask
     store : Triple 𝓤 (C #early-lent·store) Store
@@ -473,7 +473,7 @@ request-spec 𝓤 H 𝓜 𝓖 𝓡 =
     (request-meets 𝓤 H (𝓖 .A) (givenOf 𝓤 H 𝓜 𝓖) (𝓜 .mem) (𝓡 .run) (tablesOf 𝓤 H 𝓜 (tables 𝓤 H 𝓜 𝓡 code.env))
     (record {
       moved = cited 𝓤 H (Moved 𝓤 H (𝓖 .A) (𝓜 .mem) (𝓡 .run)) 𝓜 𝓡 code.env #early-lent·moved moved-def.routine code.calls-early-lent·moved (moved-thm.met 𝓤 H 𝓜 𝓖 𝓡);
-      none = cited 𝓤 H (None 𝓤 H (𝓖 .A) (𝓜 .mem) (𝓡 .run)) 𝓜 𝓡 code.env #early-lent·no-threads none-def.routine code.calls-early-lent·no-threads (none-thm.met 𝓤 H 𝓜 𝓖 𝓡);
+      none = cited 𝓤 H (None 𝓤 H (𝓖 .A) (𝓜 .mem) (𝓡 .run)) 𝓜 𝓡 code.env #model-effect·no-threads none-def.routine code.calls-model-effect·no-threads (none-thm.met 𝓤 H 𝓜 𝓖 𝓡);
       load = cited 𝓤 H (Load 𝓤 H (𝓖 .A) (𝓜 .mem) (𝓡 .run)) 𝓜 𝓡 code.env #early-lent·load load-def.routine code.calls-early-lent·load (load-thm.met 𝓤 H 𝓜 𝓖 𝓡);
       ask = cited 𝓤 H (Ask 𝓤 H (𝓖 .A) (𝓜 .mem) (𝓡 .run)) 𝓜 𝓡 code.env #early-lent·request-of ask-def.routine code.calls-early-lent·request-of (ask-thm.met 𝓤 H 𝓜 𝓖 𝓡);
       store = cited 𝓤 H (Store 𝓤 H (𝓖 .A) (𝓜 .mem) (𝓡 .run)) 𝓜 𝓡 code.env #early-lent·store store-def.routine code.calls-early-lent·store (store-thm.met 𝓤 H 𝓜 𝓖 𝓡);
