@@ -48,12 +48,6 @@ module _ (text out : List ℕ) where
       let z : 0 + length text ≡ length text = zero-add (length text) in
       (rw z at (sets-eq text out 0 (omega arith))) ∙ sym (placedIn-room h)
 
-  -- the text that stood there already
-  pub placedIn-same : (n : ℕ) → n ≤ length out → text ≡ take n out → placedIn text out ≡ out
-  placedIn-same n h e =
-      let k : length text ≡ n = ap length e ∙ length-take-le n out h in
-      placedIn-room (omega arith) ∙ rw (k, e) (take-append-drop n out)
-
   -- copied byte by byte: one more
   pub copied-more :
       (i : ℕ) → i < length text → i < length out →

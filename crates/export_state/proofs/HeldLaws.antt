@@ -58,39 +58,40 @@ pub isLogHeld-short : (ws : List ℕ) → length ws < 385 → false ≡ isLogHel
 unfolding isLogHeld
 isLogHeld-short ws h = rw (lt-leb 385 (length ws) h) refl
 
-pub isLogHeld-count : (ws : List ℕ) → 385 ≤ length ws → 256 ≤ getD ws 0 0 → false ≡ isLogHeld ws
+pub isLogHeld-count : (ws : List ℕ) → 385 ≤ length ws → 128 < getD ws 0 0 → false ≡ isLogHeld ws
 unfolding isLogHeld
-isLogHeld-count ws h k = rw (le-leb 385 (length ws) h, le-ltb (getD ws 0 0) 256 k) refl
+isLogHeld-count ws h k = rw (le-leb 385 (length ws) h, lt-leb (getD ws 0 0) 128 k) refl
 
-pub isLogHeld-pair : (ws : List ℕ) (i : ℕ) → 385 ≤ length ws → getD ws 0 0 < 256 → i < 128 → isPairHeld ws i ≡ false → false ≡ isLogHeld ws
+pub isLogHeld-pair : (ws : List ℕ) (i : ℕ) → 385 ≤ length ws → getD ws 0 0 ≤ 128 → i < getD ws 0 0 → isPairHeld ws i ≡ false → false ≡ isLogHeld ws
 unfolding isLogHeld
-isLogHeld-pair ws i h k l e = rw (le-leb 385 (length ws) h, lt-ltb (getD ws 0 0) 256 k) (sym (all-fails 128 (isPairHeld ws) i l e))
+isLogHeld-pair ws i h k l e = rw (le-leb 385 (length ws) h, le-leb (getD ws 0 0) 128 k) (sym (all-fails (getD ws 0 0) (isPairHeld ws) i l e))
 
-pub isLogHeld-all : (ws : List ℕ) → 385 ≤ length ws → getD ws 0 0 < 256 → ((i : ℕ) → i < 128 → isPairHeld ws i ≡ true) → true ≡ isLogHeld ws
+pub isLogHeld-all : (ws : List ℕ) → 385 ≤ length ws → getD ws 0 0 ≤ 128 → ((i : ℕ) → i < getD ws 0 0 → isPairHeld ws i ≡ true) → true ≡ isLogHeld ws
 unfolding isLogHeld
-isLogHeld-all ws h k e = rw (le-leb 385 (length ws) h, lt-ltb (getD ws 0 0) 256 k) (sym (all-hold 128 (isPairHeld ws) e))
+isLogHeld-all ws h k e = rw (le-leb 385 (length ws) h, le-leb (getD ws 0 0) 128 k) (sym (all-hold (getD ws 0 0) (isPairHeld ws) e))
 
-pub areRecordsHeld-short : (ws : List ℕ) → length ws < 160 → false ≡ areRecordsHeld ws
-unfolding areRecordsHeld
-areRecordsHeld-short ws h = rw (lt-leb 160 (length ws) h) refl
+module _ (t : ℕ) (ws : List ℕ) where
+  pub areRecordsHeld-short : length ws < 5 * t → false ≡ areRecordsHeld t ws
+  unfolding areRecordsHeld
+  areRecordsHeld-short h = rw (lt-leb (5 * t) (length ws) h) refl
 
-pub areRecordsHeld-record : (ws : List ℕ) (k : ℕ) → 160 ≤ length ws → k < 32 → isRecordHeld ws k ≡ false → false ≡ areRecordsHeld ws
-unfolding areRecordsHeld
-areRecordsHeld-record ws k h l e = rw (le-leb 160 (length ws) h) (sym (all-fails 32 (isRecordHeld ws) k l e))
+  pub areRecordsHeld-record : (k : ℕ) → 5 * t ≤ length ws → k < t → isRecordHeld ws k ≡ false → false ≡ areRecordsHeld t ws
+  unfolding areRecordsHeld
+  areRecordsHeld-record k h l e = rw (le-leb (5 * t) (length ws) h) (sym (all-fails t (isRecordHeld ws) k l e))
 
-pub areRecordsHeld-all : (ws : List ℕ) → 160 ≤ length ws → ((k : ℕ) → k < 32 → isRecordHeld ws k ≡ true) → true ≡ areRecordsHeld ws
-unfolding areRecordsHeld
-areRecordsHeld-all ws h e = rw (le-leb 160 (length ws) h) (sym (all-hold 32 (isRecordHeld ws) e))
+  pub areRecordsHeld-all : 5 * t ≤ length ws → ((k : ℕ) → k < t → isRecordHeld ws k ≡ true) → true ≡ areRecordsHeld t ws
+  unfolding areRecordsHeld
+  areRecordsHeld-all h e = rw (le-leb (5 * t) (length ws) h) (sym (all-hold t (isRecordHeld ws) e))
 
-module _ (vs log records : List ℕ) where
-  pub areHeld-short : length vs < 64 → false ≡ areHeld vs log records
+module _ (t : ℕ) (vs log records : List ℕ) where
+  pub areHeld-short : length vs < 64 → false ≡ areHeld t vs log records
   unfolding areHeld
   areHeld-short h = rw (lt-leb 64 (length vs) h) refl
 
-  pub areHeld-log : (b : Bool) → 64 ≤ length vs → b ≡ isLogHeld log → b ≡ false → false ≡ areHeld vs log records
+  pub areHeld-log : (b : Bool) → 64 ≤ length vs → b ≡ isLogHeld log → b ≡ false → false ≡ areHeld t vs log records
   unfolding areHeld
   areHeld-log b h p e = rw (le-leb 64 (length vs) h, ← p, e) refl
 
-  pub areHeld-records : (b r : Bool) → 64 ≤ length vs → b ≡ isLogHeld log → b ≡ true → r ≡ areRecordsHeld records → r ≡ areHeld vs log records
+  pub areHeld-records : (b r : Bool) → 64 ≤ length vs → b ≡ isLogHeld log → b ≡ true → r ≡ areRecordsHeld t records → r ≡ areHeld t vs log records
   unfolding areHeld
   areHeld-records b r h p e q = rw (le-leb 64 (length vs) h, ← p, e, ← q) refl

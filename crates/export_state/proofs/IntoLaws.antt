@@ -1,5 +1,5 @@
 -- The words of a log and of thread records: how many there are, and that the loops store them all.
-use Prim.Native.Nat.{ℕ, _≤_}
+use Prim.Native.Nat.{ℕ, _*_, _≤_}
 use mathlib.Core.Path.{_≡_, refl, _∙_}
 use mathlib.Core.List.{List, _∷_}
 use native.Mathlib.Omega.{arith}
@@ -8,7 +8,6 @@ use lib.Seq.{sets, take-all}
 use Rattle.model.specs.declared.State.{State}
 use Rattle.model.specs.declared.State.the-variants.{Ended, Overrun, Ready, Waiting}
 use Rattle.model.specs.declared.Thread.{Thread}
-use Rattle.model.specs.declared.Threads.{Threads}
 use Rattle.buffers.specs.Write.{placedIn}
 use Rattle.buffers.proofs.WriteLaws.{placedIn-stored}
 use Rattle.early.specs.declared.Notification.{Notification}
@@ -32,9 +31,8 @@ pub logWords-length : (s : Site) → length (s .log) ≡ 128 → length (logWord
 unfolding logWords
 logWords-length s h = omega (arith, inTurn-length pairWords 3 pairWords-length (s .log))
 
-pub recordWords-length : (x : Threads) → length (x .at) ≡ 32 → length (recordWords x) ≡ 160
-unfolding recordWords
-recordWords-length x h = omega (arith, inTurn-length threadWords 5 threadWords-length (x .at))
+pub recordWords-length : (ts : List Thread) → length (recordWords ts) ≡ 5 * length ts
+recordWords-length ts = inTurn-length threadWords 5 threadWords-length ts
 
 -- the count, then each place
 pub log-stored :

@@ -17,15 +17,11 @@ use Rattle.model.specs.declared.Variables.{Variables}
 use Rattle.model.specs.declared.State.{State}
 use Rattle.model.specs.declared.State.the-variants.{Ended, Overrun, Ready, Waiting}
 use Rattle.model.specs.declared.Thread.{Thread}
-use Rattle.model.specs.declared.Threads.{Threads}
-use Rattle.model.specs.Record.{noThread, cycleOf}
+use Rattle.model.specs.Record.{cycleOf}
 use Rattle.model.proofs.Variables as variables
 use Rattle.model.proofs.Variables.Laws as variables′
 use Rattle.model.proofs.Thread as thread
 use Rattle.model.proofs.State as state
-use Rattle.model.proofs.Threads as threads
-use Rattle.model.proofs.Threads.Laws as threads′
-use Rattle.model_effect.proofs.LengthLaws.{threads-length}
 use Rattle.early.specs.declared.Notification.{Notification}
 use Rattle.early.specs.declared.Site.{Site}
 use Rattle.early.specs.Log.{pairOf}
@@ -51,10 +47,6 @@ pub record SiteRange (s : Site) : Type 0 where
   pub count : s .count < 2 ^ 8
   pub pairs : (i : ℕ) → i < 128 → PairRange (getD (s .log) i (pairOf 0 (cycleAt 0 0)))
 
-pub record ThreadsRange (x : Threads) : Type 0 where
-  pub places : length (x .at) ≡ 32
-  pub records : (k : ℕ) → k < 32 → ThreadRange (getD (x .at) k noThread)
-
 delta-range : (c : Cycle) {vs : List Val} → Is cycle.the-row c vs → c .delta .0 < 2 ^ 32
 delta-range c g = g .1 .1 .1 .0 .1 .1 .0 .1
 
@@ -62,7 +54,7 @@ pair-range : (x : Notification) (vs : List Val) → Is notification.the-row x vs
 pair-range x vs g = record { event = g .1 .1 .0 .1; delta = delta-range (x .cycle) (g .1 .1 .1 .0) }
 
 -- the cycle of each state, and the event of a waiting one
-thread-range : (x : Thread) (vs : List Val) → Is thread.the-row x vs → ThreadRange x
+pub thread-range : (x : Thread) (vs : List Val) → Is thread.the-row x vs → ThreadRange x
 thread-range x vs g = record { segment = g .1 .1 .0 .1; event = state-range (x .segment) (x .state) (g .1 .1 .1 .0) .0; delta = state-range (x .segment) (x .state) (g .1 .1 .1 .0) .1 }
   where
     state-range : (s : ℕ) (y : State) {vs : List Val} → Is state.the-row y vs → (getD (recordOf s y) 2 0 < 2 ^ 8) × (cycleOf y .delta .0 < 2 ^ 32)
@@ -89,13 +81,4 @@ site-range s vs g =
       places = size;
       count = o .1 .1 .0 .1;
       pairs = λ i h. pair-range _ _ (each-at _ _ (s .log) (o .1 .0 .0) i (pairOf 0 (cycleAt 0 0)) (o .1 .0 .1 .1) (omega arith) .1);
-    }
-
-pub threads-range : (x : Threads) (vs : List Val) → Is threads.the-row x vs → ThreadsRange x
-threads-range x vs g =
-    let o = LL.owed threads.the-type threads′.the-laws x vs g in
-    let size = threads-length x vs g in
-    record {
-      places = size;
-      records = λ k h. thread-range _ _ (each-at _ _ (x .at) (o .0 .0) k noThread (o .0 .1 .1) (omega arith) .1);
     }

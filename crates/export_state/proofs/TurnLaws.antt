@@ -59,23 +59,3 @@ module _ {A : Type 0} where
   inTurn-at f w size (x ∷ xs) rest d (suc i) j h k =
       let e : w * suc i + j ≡ length (f x) + (w * i + j) = omega (arith, size x) in
       rw (e, append-assoc) (getD-append-add (f x) (inTurn f xs ++ rest) (w * i + j) 0 ∙ inTurn-at f w size xs rest d i j (omega arith) k)
-
-  -- elements whose words are those of a list, w for each
-  inTurn-empty : (f : A → List ℕ) (g : ℕ → A) → inTurn f (tabulate 0 0 g) ≡ []
-  unfolding inTurn tabulate
-  inTurn-empty f g = refl
-
-  pub inTurn-take :
-      (f : A → List ℕ) (w n : ℕ) (g : ℕ → A) (ws : List ℕ) → ((i : ℕ) → i < n → f (g i) ≡ take w (drop (w * i) ws)) → inTurn f (tabulate n 0 g) ≡ take (w * n) ws
-  unfolding inTurn
-  inTurn-take f w zero g ws h = let e : w * 0 ≡ 0 = omega arith in rw e (inTurn-empty f g)
-  inTurn-take f w (suc n) g ws h =
-      let t : tabulate (suc n) 0 g ≡ tabulate n 0 g ++ (g n ∷ []) = tabulate-more n 0 g ∙ rw (zero-add n) refl in
-      let e : w * suc n ≡ w * n + w = omega arith in
-      rw (t, e, inTurn-append f (tabulate n 0 g) (g n ∷ []), inTurn-take f w n g ws (λ i k. h i (omega arith)), append-nil, take-add) (ap (λ (r : List ℕ). take (w * n) ws ++ r) (h n (omega arith)))
-
--- so many words from a place on
-pub take-words : (ws : List ℕ) (n w : ℕ) → n + w ≤ length ws → take w (drop n ws) ≡ tabulate w 0 (λ j. getD ws (n + j) 0)
-take-words ws n w h =
-    let l : length (take w (drop n ws)) ≡ w = length-take-le w (drop n ws) (omega (arith, length-drop n ws)) in
-    sym (tabulate-same 0 (take w (drop n ws)) w (λ j. getD ws (n + j) 0) l (λ i k. sym (getD-take w (drop n ws) i 0 k ∙ getD-drop n ws i 0)))

@@ -1,5 +1,5 @@
 -- A state and thread records as numbers in buffers, as a caller in C or Rust keeps them.
--- Variables: 64 words. Log: 385 words, the count, then 128 places of event, time, delta. Records: 160 words, 32 of segment, state, event, time, delta.
+-- Variables: 64 words. Log: 385 words, the count, then 128 places of event, time, delta. Records: five words for each thread: segment, state, event, time, delta.
 use Prim.Native.Nat.{ℕ, _+_, _*_, _%_, _^_}
 use mathlib.Core.Bool.{Bool, cond, not, _&&_}
 use mathlib.Core.List.{List, [], _∷_, _++_}
@@ -12,10 +12,10 @@ use Rattle.model.specs.declared.Variables.{Variables}
 use Rattle.model.specs.declared.State.{State}
 use Rattle.model.specs.declared.State.the-variants.{Ended, Overrun, Ready, Waiting}
 use Rattle.model.specs.declared.Thread.{Thread}
-use Rattle.model.specs.declared.Threads.{Threads}
+use Rattle.model.specs.Record.{noThread}
 use Rattle.early.specs.declared.Notification.{Notification}
 use Rattle.early.specs.declared.Site.{Site}
-use Rattle.early.specs.Log.{pairOf}
+use Rattle.early.specs.Log.{places, pairOf}
 
 -- what is written: event, time, delta
 abbrev pub pairWords : Notification → List ℕ
@@ -40,8 +40,8 @@ inTurn f (x ∷ xs) = f x ++ inTurn f xs
 unfoldable pub logWords : Site → List ℕ
 logWords s = s .count ∷ inTurn pairWords (s .log)
 
-unfoldable pub recordWords : Threads → List ℕ
-recordWords x = inTurn threadWords (x .at)
+abbrev pub recordWords : List Thread → List ℕ
+recordWords ts = inTurn threadWords ts
 
 -- what is read: the place numbered i of a log, an event modulo 2 ^ 8 and a delta modulo 2 ^ 32
 unfoldable pub pairAt : List ℕ → ℕ → Notification
@@ -63,11 +63,20 @@ threadFrom ws k =
 unfoldable pub variablesFrom : List ℕ → Variables
 variablesFrom vs = record { at = tabulate 64 0 (λ i. getD vs i 0) }
 
-unfoldable pub siteFrom : List ℕ → List ℕ → Site
-siteFrom vs ws = record { variables = variablesFrom vs; log = tabulate 128 0 (pairAt ws); count = getD ws 0 0 % 2 ^ 8 }
+-- places past the log's count are not read, and are 0
+unfoldable pub placeFrom : List ℕ → ℕ → Notification
+placeFrom ws i = cond (ltb i (getD ws 0 0)) (pairAt ws i) (pairOf 0 (cycleAt 0 0))
 
-unfoldable pub threadsFrom : List ℕ → Threads
-threadsFrom ws = record { at = tabulate 32 0 (threadFrom ws) }
+unfoldable pub siteFrom : List ℕ → List ℕ → Site
+siteFrom vs ws = record { variables = variablesFrom vs; log = tabulate 128 0 (placeFrom ws); count = getD ws 0 0 % 2 ^ 8 }
+
+-- the records of the first t threads; none past them is read
+unfoldable pub threadsFrom : List ℕ → ℕ → List Thread
+threadsFrom ws t = tabulate t 0 (threadFrom ws)
+
+-- the same at the front of 40 records by value, of which the others are 0
+unfoldable pub heldThreads : List ℕ → ℕ → List Thread
+heldThreads ws t = tabulate 40 0 (λ k. cond (ltb k t) (threadFrom ws k) noThread)
 
 -- whether the numbers are those of a state, each in its range: event and delta of a place
 unfoldable pub isPairHeld : List ℕ → ℕ → Bool
@@ -82,12 +91,13 @@ isRecordHeld ws k =
     ltb (getD ws (5 * k) 0) (2 ^ 8) &&
     (ltb (getD ws (5 * k + 1) 0) 4 && (isEventHeld (getD ws (5 * k + 1) 0) (getD ws (5 * k + 2) 0) && ltb (getD ws (5 * k + 4) 0) (2 ^ 32)))
 
--- long enough, the count and every place
+-- long enough, no "log count above 128", and every place below the count
 unfoldable pub isLogHeld : List ℕ → Bool
-isLogHeld ws = leb 385 (length ws) && (ltb (getD ws 0 0) (2 ^ 8) && not (anyBelow 128 (λ i. not (isPairHeld ws i))))
+isLogHeld ws = leb 385 (length ws) && (leb (getD ws 0 0) places && not (anyBelow (getD ws 0 0) (λ i. not (isPairHeld ws i))))
 
-unfoldable pub areRecordsHeld : List ℕ → Bool
-areRecordsHeld ws = leb 160 (length ws) && not (anyBelow 32 (λ k. not (isRecordHeld ws k)))
+-- as many as the threads, and every one of those: "records below T"
+unfoldable pub areRecordsHeld : ℕ → List ℕ → Bool
+areRecordsHeld t ws = leb (5 * t) (length ws) && not (anyBelow t (λ k. not (isRecordHeld ws k)))
 
-unfoldable pub areHeld : List ℕ → List ℕ → List ℕ → Bool
-areHeld vs log records = leb 64 (length vs) && (isLogHeld log && areRecordsHeld records)
+unfoldable pub areHeld : ℕ → List ℕ → List ℕ → List ℕ → Bool
+areHeld t vs log records = leb 64 (length vs) && (isLogHeld log && areRecordsHeld t records)

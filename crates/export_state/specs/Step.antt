@@ -1,13 +1,13 @@
 -- A state that the caller keeps as numbers, from call to call: what each call answers, and what it leaves of the lent buffers.
-use Prim.Native.Nat.{ℕ}
+use Prim.Native.Nat.{ℕ, _*_}
 use mathlib.Core.Path.{_≡_}
 use mathlib.Core.Bool.{Bool, cond, _&&_}
 use mathlib.Core.List.{List}
 use lib.Dec.{leb, eqb}
-use lib.ListN.{length}
+use lib.ListN.{length, take}
 use Rattle.base.specs.Index.{orElse}
 use Rattle.model.specs.declared.Model.{Model}
-use Rattle.model.specs.declared.Threads.{Threads}
+use Rattle.model.specs.declared.Thread.{Thread}
 use Rattle.model.specs.Refusal.{accepted, unfit}
 use Rattle.model.specs.Rules.{unless}
 use Rattle.reader.specs.File.{readFile}
@@ -22,7 +22,7 @@ use Rattle.early.specs.declared.Answer.the-variants.{Granted, Refused}
 use Rattle.early.specs.Answer.{numberOf, valuesOf}
 use Rattle.early.specs.Request.{Requested, requestOf, freshSite}
 use Rattle.order.specs.Claim.{afterList, Claim}
-use Rattle.replay.specs.Replay.{replayedOf, wordsAfter, answersAfter}
+use Rattle.replay.specs.Replay.{replayedOn, wordsOn, answersOn}
 use Rattle.export_state.specs.Numbers.{logWords, recordWords, siteFrom, threadsFrom, areHeld}
 
 -- the buffers of a state
@@ -34,66 +34,74 @@ pub record Kept : Type 0 where
 abbrev pub keeps : List ℕ → List ℕ → List ℕ → Kept
 keeps vs ws rs = record { variables = vs; log = ws; records = rs }
 
--- 64, 385 and 160 words
-unfoldable pub hasRoom : Kept → Bool
-hasRoom b = leb 64 (length (b .variables)) && (leb 385 (length (b .log)) && leb 160 (length (b .records)))
+-- 64 and 385 words, and 5 for each of t threads
+unfoldable pub hasRoom : ℕ → Kept → Bool
+hasRoom t b = leb 64 (length (b .variables)) && (leb 385 (length (b .log)) && leb (5 * t) (length (b .records)))
 
--- the buffers with a state and its records in them
-unfoldable pub holding : Site → Threads → Kept → Kept
-holding site threads b =
-    keeps (placedIn (site .variables .at) (b .variables)) (placedIn (logWords site) (b .log)) (placedIn (recordWords threads) (b .records))
+-- the buffers with a state and so many records in them
+unfoldable pub holding : Site → List Thread → Kept → Kept
+holding site ts b =
+    keeps (placedIn (site .variables .at) (b .variables)) (placedIn (logWords site) (b .log)) (placedIn (recordWords ts) (b .records))
 
--- fresh: the file's number, then 11 for a short buffer
+-- One order of tests in all calls: the file's number; 11 for a buffer of the state or of the answers; 16; then the request's own.
+-- fresh
 unfoldable pub freshNumber : List ℕ → Kept → ℕ
-freshNumber file b = orElse (readFile file .number) (unless (hasRoom b) unfit)
+freshNumber file b = orElse (readFile file .number) (unless (hasRoom (readFile file .model .t) b) unfit)
+
+-- the records of all threads
+abbrev pub ownRecords : Model → List Thread → List Thread
+ownRecords m ts = take (m .t) ts
 
 unfoldable pub freshKept : List ℕ → Kept → Kept
-freshKept file b = cond (eqb (freshNumber file b) accepted) (holding freshSite (record { at = freshThreads (readFile file .model) }) b) b
+freshKept file b =
+    let m = readFile file .model in
+    cond (eqb (freshNumber file b) accepted) (holding freshSite (ownRecords m (freshThreads m)) b) b
 
 -- a request: the file's number, then 11 where the numbers are not those of a state or the answer has no room
 unfoldable pub askedNumber : List ℕ → Kept → List ℕ → ℕ
 askedNumber file b answer =
-    orElse (readFile file .number) (unless (areHeld (b .variables) (b .log) (b .records) && leb 3 (length answer)) unfit)
+    orElse (readFile file .number) (unless (areHeld (readFile file .model .t) (b .variables) (b .log) (b .records) && leb 3 (length answer)) unfit)
 
--- the request of thread k, on the file's own marks
+-- the request of thread k, on the file's own marks and the records of its threads
 unfoldable pub requestBy : List ℕ → List ℕ → Kept → ℕ → Requested
 requestBy file words b k =
     let m = readFile file .model in
-    requestOf m (conflictMarks m) words (siteFrom (b .variables) (b .log)) (threadsFrom (b .records) .at) k
+    requestOf m (conflictMarks m) words (siteFrom (b .variables) (b .log)) (threadsFrom (b .records) (m .t)) k
 
 unfoldable pub requestNumber : List ℕ → List ℕ → Kept → ℕ → List ℕ → ℕ
 requestNumber file words b k answer = orElse (askedNumber file b answer) (numberOf (requestBy file words b k .answer))
 
 -- what a grant leaves; on a refusal the buffers are as they were
-abbrev pub keptBy : Answer → Site → Threads → Kept → Kept
-keptBy (Granted s c) site threads b = holding site threads b
-keptBy (Refused n) site threads b = b
+abbrev pub keptBy : Answer → Site → List Thread → Kept → Kept
+keptBy (Granted s c) site ts b = holding site ts b
+keptBy (Refused n) site ts b = b
 
 unfoldable pub requestKept : List ℕ → List ℕ → Kept → ℕ → List ℕ → Kept
 requestKept file words b k answer =
     let r = requestBy file words b k in
-    cond (eqb (askedNumber file b answer) accepted) (keptBy (r .answer) (r .site) (record { at = r .threads }) b) b
+    cond (eqb (askedNumber file b answer) accepted) (keptBy (r .answer) (r .site) (r .threads) b) b
 
 -- segment, time and delta of a grant
 unfoldable pub requestAnswer : List ℕ → List ℕ → Kept → ℕ → List ℕ → List ℕ
 requestAnswer file words b k answer =
     cond (eqb (askedNumber file b answer) accepted) (placedIn (valuesOf (requestBy file words b k .answer)) answer) answer
 
--- a whole list of requests from the fresh state on: 11 for a short buffer of the state, then replay's number
+-- a whole list of requests from the fresh state on: the file's number, 11 for a short buffer of the state, then replay's on the model
 unfoldable pub replayNumber : List ℕ → List ℕ → List ℕ → List ℕ → Kept → ℕ
-replayNumber file words ks answers b = orElse (unless (hasRoom b) unfit) (replayedOf file words ks answers .number)
+replayNumber file words ks answers b = orElse (freshNumber file b) (replayedOn (readFile file .model) words ks answers .number)
 
 unfoldable pub replayKept : List ℕ → List ℕ → List ℕ → List ℕ → Kept → Kept
 replayKept file words ks answers b =
-    let r = replayedOf file words ks answers in
-    cond (eqb (replayNumber file words ks answers b) accepted) (holding (r .site) (r .threads) b) b
+    let m = readFile file .model in
+    let r = replayedOn m words ks answers in
+    cond (eqb (replayNumber file words ks answers b) accepted) (holding (r .site) (ownRecords m (r .threads .at)) b) b
 
 -- the table and the answers, as replay leaves them
 unfoldable pub replayWords : List ℕ → List ℕ → List ℕ → List ℕ → Kept → List ℕ
-replayWords file words ks answers b = cond (hasRoom b) (wordsAfter file words ks answers) words
+replayWords file words ks answers b = cond (eqb (freshNumber file b) accepted) (wordsOn (readFile file .model) words ks answers) words
 
 unfoldable pub replayAnswers : List ℕ → List ℕ → List ℕ → List ℕ → Kept → List ℕ
-replayAnswers file words ks answers b = cond (hasRoom b) (answersAfter file words ks answers) answers
+replayAnswers file words ks answers b = cond (eqb (freshNumber file b) accepted) (answersOn (readFile file .model) words ks answers) answers
 
 -- what a call ensures: its number r, and what it leaves. A fresh state
 pub record Freshens (file : List ℕ) (b : Kept) (r : ℕ) (kept : Kept) : Type 0 where
@@ -108,7 +116,7 @@ pub record Requests (file words : List ℕ) (b : Kept) (k : ℕ) (answer : List 
 
 -- Demand 3, of a list that was made: the buffers hold the state and the records of the whole list, of which the claim speaks
 pub record HoldsList (m : Model) (ks : List ℕ) (b kept : Kept) : Type 0 where
-  pub state : kept ≡ holding (afterList m ks .site) (record { at = afterList m ks .threads }) b
+  pub state : kept ≡ holding (afterList m ks .site) (ownRecords m (afterList m ks .threads)) b
   pub claim : Claim m (marksOf m) (wordsOf m) (freshThreads m) ks
 
 -- a list of requests, of which the claim is said where it was made

@@ -4,10 +4,11 @@ use clock::Cycle;
 use clock::Delta;
 use clock::ThreadNo;
 use clock::Time;
-use early::After;
 use early::Answer;
 use early::Notification;
 use early::Site;
+use early_lent::Lent;
+use model::Model;
 use model::State;
 use model::Thread;
 use model::Threads;
@@ -15,24 +16,22 @@ use model::Variables;
 use reader::Read;
 ghost use Prim.Native.Nat.{_+_, _<_, _≤_, _%_, _^_};
 ghost use mathlib.Core.Path.{_≡_};
-ghost use mathlib.Core.Bool.{_&&_};
+ghost use mathlib.Core.Bool.{cond, _&&_};
 ghost use mathlib.Core.List.{[], _∷_};
-ghost use lib.Dec.{leb};
-ghost use lib.ListN.{length, getD};
+ghost use lib.Dec.{ltb, leb};
+ghost use lib.ListN.{length, getD, take};
 ghost use lib.Seq.{sets};
-ghost use Rattle.base.specs.Index.{tabulate, orElse};
+ghost use Rattle.base.specs.Index.{tabulate};
 ghost use Rattle.clock.specs.Cycle.{cycleAt};
-ghost use Rattle.model.specs.Refusal.{unfit};
-ghost use Rattle.model.specs.Rules.{unless};
+ghost use Rattle.model.specs.Record.{noThread};
 ghost use Rattle.reader.specs.File.{readFile};
 ghost use Rattle.tables.specs.Outcome.{conflictMarks};
 ghost use Rattle.buffers.specs.Write.{placedIn};
 ghost use Rattle.early.specs.Answer.{valuesOf, numberOf};
-ghost use Rattle.early.specs.Request.{requestOf};
-ghost use Rattle.early_request.specs.After.{afterOf};
 ghost use Rattle.early_request.specs.Fresh.{freshOf};
-ghost use Rattle.export_state.specs.Numbers.{pairWords, threadWords, inTurn, logWords, recordWords, pairAt, stateFrom, threadFrom, variablesFrom, siteFrom, threadsFrom, isPairHeld, isEventHeld, isRecordHeld, isLogHeld, areRecordsHeld, areHeld};
-ghost use Rattle.export_state.specs.Step.{keeps, hasRoom, holding, keptBy, Freshens, Requests, Replays};
+ghost use Rattle.early_lent.specs.Answered.{requestFirst};
+ghost use Rattle.export_state.specs.Numbers.{pairWords, threadWords, inTurn, logWords, recordWords, pairAt, stateFrom, threadFrom, variablesFrom, placeFrom, siteFrom, heldThreads, isPairHeld, isEventHeld, isRecordHeld, isLogHeld, areRecordsHeld, areHeld};
+ghost use Rattle.export_state.specs.Step.{keeps, hasRoom, holding, freshNumber, askedNumber, keptBy, Freshens, Requests, Replays};
 
 // A word modulo 2 ^ 8, and modulo 2 ^ 32.
 fn byte_at(words: &[u64], i: usize) -> u8
@@ -57,7 +56,7 @@ fn cycle_at(words: &[u64], time: usize, delta: usize) -> Cycle
     }
 }
 
-// The place numbered i of a log.
+// What the place numbered i of a log says.
 fn pair_at(log: &[u64], i: usize) -> Notification
     requires { ⌜ i < 128 ⌝ }
     ensures { λ r. ⌜ r ≡ pairAt (now (log .entry)) i ⌝ }
@@ -85,9 +84,24 @@ fn state_from(number: u64, event: u8, c: Cycle) -> State
     State::Waiting(event, c)
 }
 
+// The place numbered i of a log: those from its count on are not read.
+fn place_from(log: &[u64], i: usize) -> Notification
+    requires { ⌜ i < 128 ⌝ }
+    ensures { λ r. ⌜ r ≡ placeFrom (now (log .entry)) i ⌝ }
+{
+    if (i as u64) < buffers::word_at(log, 0) {
+        return pair_at(log, i);
+    }
+    let c = Cycle {
+        time: Time(0),
+        delta: Delta(0),
+    };
+    Notification { event: 0, cycle: c }
+}
+
 // The record of thread k.
 fn thread_from(records: &[u64], k: usize) -> Thread
-    requires { ⌜ k < 32 ⌝ }
+    requires { ⌜ k < 40 ⌝ }
     ensures { λ r. ⌜ r ≡ threadFrom (now (records .entry)) k ⌝ }
 {
     let p = 5 * k;
@@ -112,12 +126,12 @@ fn variables_from(values: &[u32]) -> Variables
 }
 
 fn places_from(log: &[u64]) -> [Notification; 128]
-    ensures { λ r. ⌜ r ≡ tabulate 128 0 (pairAt (now (log .entry))) ⌝ }
+    ensures { λ r. ⌜ r ≡ tabulate 128 0 (placeFrom (now (log .entry))) ⌝ }
 {
-    let mut places = [pair_at(log, 0); 128];
+    let mut places = [place_from(log, 0); 128];
     let mut i = 0;
     while i < 128 {
-        places[i] = pair_at(log, i);
+        places[i] = place_from(log, i);
         i += 1;
     }
     places
@@ -133,16 +147,48 @@ pub fn site_from(variables: &[u32], log: &[u64]) -> Site
     }
 }
 
-pub fn threads_from(records: &[u64]) -> Threads
-    ensures { λ r. ⌜ r ≡ threadsFrom (now (records .entry)) ⌝ }
+// The record of thread k, 0 where it is not below t.
+fn held_thread(records: &[u64], t: u8, k: usize) -> Thread
+    requires { ⌜ k < 40 ⌝ }
+    ensures { λ r. ⌜ r ≡ cond (ltb k t) (threadFrom (now (records .entry)) k) noThread ⌝ }
 {
-    let mut at = [thread_from(records, 0); 32];
+    if k < buffers::wide(t) {
+        return thread_from(records, k);
+    }
+    let c = Cycle {
+        time: Time(0),
+        delta: Delta(0),
+    };
+    Thread {
+        segment: 0,
+        state: State::Ended(c),
+    }
+}
+
+// The records of t threads, at the front of 40.
+pub fn threads_from(records: &[u64], t: u8) -> [Thread; 40]
+    ensures { λ r. ⌜ r ≡ heldThreads (now (records .entry)) t ⌝ }
+{
+    let mut held = [held_thread(records, t, 0); 40];
     let mut k = 0;
-    while k < 32 {
-        at[k] = thread_from(records, k);
+    while k < 40 {
+        held[k] = held_thread(records, t, k);
         k += 1;
     }
-    Threads { at }
+    held
+}
+
+// The first 32 of 40 records.
+pub fn first_threads(held: [Thread; 40]) -> Threads
+    ensures { λ r. ⌜ r .at ≡ take 32 held ⌝ }
+{
+    let mut threads = model_effect::no_threads();
+    let mut k = 0;
+    while k < 32 {
+        threads.at[k] = held[k];
+        k += 1;
+    }
+    threads
 }
 
 // An event or a segment, and a cycle.
@@ -233,32 +279,35 @@ pub fn site_into(site: Site, variables: &mut [u32], log: &mut [u64])
     log_into(site, log);
 }
 
-pub fn threads_into(threads: Threads, records: &mut [u64])
-    ensures { λ _. ⌜ now (records .exit) ≡ placedIn (recordWords threads) (now (records .entry)) ⌝ }
+// The records of the first t threads.
+pub fn threads_into(threads: Threads, t: u8, records: &mut [u64])
+    ensures { λ _. ⌜ now (records .exit) ≡ placedIn (recordWords (take t (threads .at))) (now (records .entry)) ⌝ }
 {
-    if records.len() < 160 {
+    let n = buffers::least(buffers::wide(t), 32);
+    if records.len() < 5 * n {
         return;
     }
     let mut k = 0;
-    while k < 32 {
+    while k < n {
         let words = thread_words(threads.at[k]);
         put_words(records, 5 * k, &words);
         k += 1;
     }
 }
 
-// A state and its records in the caller's buffers.
+// A state and the records of its t threads in the caller's buffers.
 fn put_state(
     site: Site,
     threads: Threads,
+    t: u8,
     variables: &mut [u32],
     log: &mut [u64],
     records: &mut [u64],
 )
-    ensures { λ _. ⌜ keeps (now (variables .exit)) (now (log .exit)) (now (records .exit)) ≡ holding site threads (keeps (now (variables .entry)) (now (log .entry)) (now (records .entry))) ⌝ }
+    ensures { λ _. ⌜ keeps (now (variables .exit)) (now (log .exit)) (now (records .exit)) ≡ holding site (take t (threads .at)) (keeps (now (variables .entry)) (now (log .entry)) (now (records .entry))) ⌝ }
 {
     site_into(site, variables, log);
-    threads_into(threads, records);
+    threads_into(threads, t, records);
 }
 
 // Segment, time and delta of a grant.
@@ -286,9 +335,9 @@ fn put_answer(a: Answer, answer: &mut [u64]) -> u8
     }
 }
 
-// Whether the buffers of a state are long enough.
-fn has_room(variables: &[u32], log: &[u64], records: &[u64]) -> bool
-    ensures { λ r. ⌜ r ≡ hasRoom (keeps (now (variables .entry)) (now (log .entry)) (now (records .entry))) ⌝ }
+// Whether the buffers of a state of t threads are long enough.
+fn has_room(variables: &[u32], log: &[u64], records: &[u64], t: u8) -> bool
+    ensures { λ r. ⌜ r ≡ hasRoom t (keeps (now (variables .entry)) (now (log .entry)) (now (records .entry))) ⌝ }
 {
     if variables.len() < 64 {
         return false;
@@ -296,7 +345,7 @@ fn has_room(variables: &[u32], log: &[u64], records: &[u64]) -> bool
     if log.len() < 385 {
         return false;
     }
-    160 <= records.len()
+    5 * buffers::wide(t) <= records.len()
 }
 
 fn is_pair_held(log: &[u64], i: usize) -> bool
@@ -321,7 +370,7 @@ fn is_event_held(number: u64, event: u64) -> bool
 }
 
 fn is_record_held(records: &[u64], k: usize) -> bool
-    requires { ⌜ k < 32 ⌝ }
+    requires { ⌜ k < 256 ⌝ }
     ensures { λ r. ⌜ r ≡ isRecordHeld (now (records .entry)) k ⌝ }
 {
     let p = 5 * k;
@@ -344,11 +393,13 @@ fn is_log_held(log: &[u64]) -> bool
     if log.len() < 385 {
         return false;
     }
-    if log[0] >= 256 {
+    let count = log[0];
+    if count > 128 {
         return false;
     }
+    let n = count as usize;
     let mut i = 0;
-    while i < 128 {
+    while i < n {
         if !is_pair_held(log, i) {
             return false;
         }
@@ -357,14 +408,15 @@ fn is_log_held(log: &[u64]) -> bool
     true
 }
 
-fn are_records_held(records: &[u64]) -> bool
-    ensures { λ r. ⌜ r ≡ areRecordsHeld (now (records .entry)) ⌝ }
+fn are_records_held(records: &[u64], t: u8) -> bool
+    ensures { λ r. ⌜ r ≡ areRecordsHeld t (now (records .entry)) ⌝ }
 {
-    if records.len() < 160 {
+    let n = buffers::wide(t);
+    if records.len() < 5 * n {
         return false;
     }
     let mut k = 0;
-    while k < 32 {
+    while k < n {
         if !is_record_held(records, k) {
             return false;
         }
@@ -373,95 +425,125 @@ fn are_records_held(records: &[u64]) -> bool
     true
 }
 
-// Whether the numbers are those of a state, each in its range, in buffers that are long enough.
-pub fn are_held(variables: &[u32], log: &[u64], records: &[u64]) -> bool
-    ensures { λ r. ⌜ r ≡ areHeld (now (variables .entry)) (now (log .entry)) (now (records .entry)) ⌝ }
+// Whether the numbers are those of a state of t threads, each in its range, in buffers that are long enough.
+pub fn are_held(variables: &[u32], log: &[u64], records: &[u64], t: u8) -> bool
+    ensures { λ r. ⌜ r ≡ areHeld t (now (variables .entry)) (now (log .entry)) (now (records .entry)) ⌝ }
 {
     if variables.len() < 64 {
         return false;
     }
     if is_log_held(log) {
-        return are_records_held(records);
+        return are_records_held(records, t);
     }
     false
 }
 
 // Whether the numbers are those of a state, and the answer has room.
-fn may_ask(variables: &[u32], log: &[u64], records: &[u64], answer: &[u64]) -> bool
-    ensures { λ r. ⌜ r ≡ areHeld (now (variables .entry)) (now (log .entry)) (now (records .entry)) && leb 3 (length (now (answer .entry))) ⌝ }
+fn may_ask(variables: &[u32], log: &[u64], records: &[u64], t: u8, answer: &[u64]) -> bool
+    ensures { λ r. ⌜ r ≡ areHeld t (now (variables .entry)) (now (log .entry)) (now (records .entry)) && leb 3 (length (now (answer .entry))) ⌝ }
 {
-    if are_held(variables, log, records) {
+    if are_held(variables, log, records, t) {
         return 3 <= answer.len();
     }
     false
 }
 
-// The file, with 11 where it is accepted and what the caller keeps is not fit.
-fn opened(file: &[u8], fit: bool) -> Read
-    ensures number { λ r. ⌜ r .number ≡ orElse (readFile (now (file .entry)) .number) (unless fit unfit) ⌝ }
+// The file, with 11 where it is accepted and a buffer of its state is too short.
+fn with_room(file: &[u8], variables: &[u32], log: &[u64], records: &[u64]) -> Read
+    ensures number { λ r. ⌜ r .number ≡ freshNumber (now (file .entry)) (keeps (now (variables .entry)) (now (log .entry)) (now (records .entry))) ⌝ }
     ensures read { λ r. ⌜ (r .number ≡ 0 → r ≡ readFile (now (file .entry))) ⌝ }
 {
     let read = reader_file::read_file(file);
     if read.number != 0 {
         return read;
     }
-    if fit {
+    let m = read.model;
+    if has_room(variables, log, records, m.t) {
+        return read;
+    }
+    reader_file::refused(11)
+}
+
+// The file, with 11 where it is accepted and the numbers are not those of a state of it, or the answer has no room.
+fn with_state(file: &[u8], variables: &[u32], log: &[u64], records: &[u64], answer: &[u64]) -> Read
+    ensures number { λ r. ⌜ r .number ≡ askedNumber (now (file .entry)) (keeps (now (variables .entry)) (now (log .entry)) (now (records .entry))) (now (answer .entry)) ⌝ }
+    ensures read { λ r. ⌜ (r .number ≡ 0 → r ≡ readFile (now (file .entry))) ⌝ }
+{
+    let read = reader_file::read_file(file);
+    if read.number != 0 {
+        return read;
+    }
+    let m = read.model;
+    if may_ask(variables, log, records, m.t, answer) {
         return read;
     }
     reader_file::refused(11)
 }
 
 // The fresh state of a model, in the caller's buffers.
-fn put_fresh(read: Read, variables: &mut [u32], log: &mut [u64], records: &mut [u64])
-    ensures { λ _. ⌜ keeps (now (variables .exit)) (now (log .exit)) (now (records .exit)) ≡ holding (freshOf (read .model) .site) (freshOf (read .model) .threads) (keeps (now (variables .entry)) (now (log .entry)) (now (records .entry))) ⌝ }
+fn put_fresh(m: Model, variables: &mut [u32], log: &mut [u64], records: &mut [u64])
+    ensures { λ _. ⌜ keeps (now (variables .exit)) (now (log .exit)) (now (records .exit)) ≡ holding (freshOf m .site) (take (m .t) (freshOf m .threads .at)) (keeps (now (variables .entry)) (now (log .entry)) (now (records .entry))) ⌝ }
 {
-    let fresh = early_request::fresh(read.model);
-    put_state(fresh.site, fresh.threads, variables, log, records);
+    let fresh = early_request::fresh(m);
+    put_state(fresh.site, fresh.threads, m.t, variables, log, records);
 }
 
-// A file's fresh state in the caller's buffers: the number, 0 where it is there. 11 where a buffer is too short.
+// A file's fresh state in the caller's buffers: the number, 0 where it is there.
 pub fn fresh_into(file: &[u8], variables: &mut [u32], log: &mut [u64], records: &mut [u64]) -> u8
     ensures { λ r. ⌜ Freshens (now (file .entry)) (keeps (now (variables .entry)) (now (log .entry)) (now (records .entry))) r (keeps (now (variables .exit)) (now (log .exit)) (now (records .exit))) ⌝ }
 {
-    let read = opened(file, has_room(variables, log, records));
+    let read = with_room(file, variables, log, records);
     if read.number != 0 {
         return read.number;
     }
-    put_fresh(read, variables, log, records);
+    put_fresh(read.model, variables, log, records);
     0
 }
 
-// A request on the state that the numbers say.
+// A request on the state that the numbers say: the lent request, on as many records as there are threads.
 fn request_on(
-    read: Read,
+    m: Model,
     words: &[u64],
     variables: &[u32],
     log: &[u64],
     records: &[u64],
     thread: u8,
-) -> After
-    ensures { λ r. ⌜ r ≡ afterOf (requestOf (read .model) (conflictMarks (read .model)) (now (words .entry)) (siteFrom (now (variables .entry)) (now (log .entry))) (threadsFrom (now (records .entry)) .at) thread) ⌝ }
+) -> Lent
+    ensures { λ r. ⌜ r ≡ requestFirst m (conflictMarks m) (now (words .entry)) (siteFrom (now (variables .entry)) (now (log .entry))) (heldThreads (now (records .entry)) (m .t)) (m .t) thread ⌝ }
 {
-    let m = read.model;
+    let t = m.t;
     let marks = tables_conflict::conflict_marks(m);
     let site = site_from(variables, log);
-    let threads = threads_from(records);
-    early_request::request(m, marks, words, site, threads, ThreadNo(thread))
+    let held = threads_from(records, t);
+    early_lent::request_first(
+        m,
+        marks,
+        words,
+        site,
+        held,
+        buffers::wide(t),
+        ThreadNo(thread),
+    )
 }
 
 // What a request left, in the caller's buffers: on a refusal nothing is written.
-fn put_after(after: After, variables: &mut [u32], log: &mut [u64], records: &mut [u64])
-    ensures { λ _. ⌜ keeps (now (variables .exit)) (now (log .exit)) (now (records .exit)) ≡ keptBy (after .answer) (after .site) (after .threads) (keeps (now (variables .entry)) (now (log .entry)) (now (records .entry))) ⌝ }
+fn put_after(left: Lent, t: u8, variables: &mut [u32], log: &mut [u64], records: &mut [u64])
+    ensures { λ _. ⌜ keeps (now (variables .exit)) (now (log .exit)) (now (records .exit)) ≡ keptBy (left .asked .answer) (left .asked .site) (take t (take 32 (left .records))) (keeps (now (variables .entry)) (now (log .entry)) (now (records .entry))) ⌝ }
 {
-    let a = after.answer;
+    let asked = left.asked;
+    let a = asked.answer;
     match a {
-        Answer::Granted(_, _) => put_state(after.site, after.threads, variables, log, records),
+        Answer::Granted(_, _) => {
+            let held = left.records;
+            let threads = first_threads(held);
+            put_state(asked.site, threads, t, variables, log, records);
+        }
         Answer::Refused(_) => {}
     }
 }
 
 // One request of a thread on the state that the caller keeps, with the file's words: the number, 0 where it is granted, and then segment, time and delta in the answer.
-// 11 where the numbers are not those of a state or the answer has fewer than 3 words. On a refusal every buffer is as it was.
+// On a refusal every buffer is as it was.
 pub fn request_into(
     file: &[u8],
     words: &[u64],
@@ -473,18 +555,19 @@ pub fn request_into(
 ) -> u8
     ensures { λ r. ⌜ Requests (now (file .entry)) (now (words .entry)) (keeps (now (variables .entry)) (now (log .entry)) (now (records .entry))) thread (now (answer .entry)) r (keeps (now (variables .exit)) (now (log .exit)) (now (records .exit))) (now (answer .exit)) ⌝ }
 {
-    let read = opened(file, may_ask(variables, log, records, answer));
+    let read = with_state(file, variables, log, records, answer);
     if read.number != 0 {
         return read.number;
     }
-    let after = request_on(read, words, variables, log, records, thread);
-    let a = after.answer;
-    put_after(after, variables, log, records);
+    let m = read.model;
+    let left = request_on(m, words, variables, log, records, thread);
+    let asked = left.asked;
+    let a = asked.answer;
+    put_after(left, m.t, variables, log, records);
     put_answer(a, answer)
 }
 
 // A list of requests from the file's fresh state on, its answers in four words each and its tables in the words, and the state that it leaves in the caller's buffers.
-// The number: 11 where a buffer of the state is too short, then replay's.
 pub fn replay_into(
     file: &[u8],
     words: &mut [u64],
@@ -496,13 +579,15 @@ pub fn replay_into(
 ) -> u8
     ensures { λ r. ⌜ Replays (now (file .entry)) (now (words .entry)) (now (threads .entry)) (now (answers .entry)) (keeps (now (variables .entry)) (now (log .entry)) (now (records .entry))) r (keeps (now (variables .exit)) (now (log .exit)) (now (records .exit))) (now (words .exit)) (now (answers .exit)) ⌝ }
 {
-    if !has_room(variables, log, records) {
-        return 11;
+    let read = with_room(file, variables, log, records);
+    if read.number != 0 {
+        return read.number;
     }
-    let done = replay::replay(file, words, threads, answers);
+    let m = read.model;
+    let done = replay::replay_on(m, words, threads, answers);
     if done.number != 0 {
         return done.number;
     }
-    put_state(done.site, done.threads, variables, log, records);
+    put_state(done.site, done.threads, m.t, variables, log, records);
     0
 }

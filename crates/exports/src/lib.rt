@@ -1,8 +1,13 @@
 // The kit for programs in C and Rust: numbers, and slices of numbers as a pointer and a count.
+// One order of tests in all calls: the file's number; 11 for a buffer of the state or of the answers, or for numbers that are none of a
+// state; 16; then a request's own numbers.
 ghost use mathlib.Core.Path.{_≡_};
+ghost use Prim.Native.Nat.{_≤_};
+ghost use lib.ListN.{length};
 ghost use Rattle.reader.specs.File.{readFile};
 ghost use Rattle.reader_load.specs.Load.{loadOf, loadBuffer};
 ghost use Rattle.buffers.specs.Write.{Writes};
+ghost use Rattle.sheet.specs.Sheet.{longestSheet};
 ghost use Rattle.sheet_file.specs.Report.{printed};
 ghost use Rattle.export_state.specs.Step.{keeps, Freshens, Requests, Replays};
 
@@ -24,15 +29,17 @@ pub extern "C" fn teaselauger_load(file: &[u8], words: &mut [u64]) -> u8
     loaded.number
 }
 
-// The sheet of a file's plain run with a budget, or the line of its refusal: how many bytes of the buffer it takes. A buffer that is too short stays, and the answer is 0.
+// The sheet of a file's plain run with a budget, or the line of its refusal: how many bytes of the buffer it takes. A buffer that is too short stays, and the answer is 0;
+// none is too short that has 6,429 bytes.
 #[no_mangle]
 pub extern "C" fn teaselauger_sheet(file: &[u8], budget: u64, out: &mut [u8]) -> usize
     ensures { λ r. ⌜ Writes (now (out .entry)) (now (out .exit)) r (printed budget (now (file .entry))) ⌝ }
+    ensures { λ _. ⌜ length (printed budget (now (file .entry))) ≤ longestSheet ⌝ }
 {
     sheet_file::plain_sheet(file, budget, out)
 }
 
-// A file's fresh state in the caller's buffers: the number, 0 where it is there. 11 where a buffer is too short.
+// A file's fresh state in the caller's buffers: the number, 0 where it is there.
 #[no_mangle]
 pub extern "C" fn teaselauger_fresh(
     file: &[u8],
@@ -46,7 +53,7 @@ pub extern "C" fn teaselauger_fresh(
 }
 
 // One request of a thread on the state that the caller keeps, with the file's words: the number, 0 where it is granted, and then segment, time and delta in the answer.
-// 11 where the numbers are not those of a state or the answer has fewer than 3 words. On a refusal every buffer is as it was.
+// On a refusal every buffer is as it was.
 #[no_mangle]
 pub extern "C" fn teaselauger_request(
     file: &[u8],
@@ -63,7 +70,6 @@ pub extern "C" fn teaselauger_request(
 }
 
 // A list of requests from the file's fresh state on, its answers in four words each and its tables in the words, and the state that it leaves in the caller's buffers.
-// The number: 11 where a buffer of the state is too short, then replay's.
 #[no_mangle]
 pub extern "C" fn teaselauger_replay(
     file: &[u8],

@@ -51,10 +51,7 @@ pub freshThreads-below : (m : Model) → FreshBelow m (freshThreads m)
 unfolding placeAt startOf
 freshThreads-below m = record { enough = shape m 0 .enough; fresh = λ k h. refl }
 
--- so of a list on values
-pub order-independence-fresh : (bytes : List ℕ) → readFile bytes .number ≡ accepted → (ks : List ℕ) →
-    let m = readFile bytes .model in
-    Claim m (marksOf m) (wordsOf m) (freshThreads m) ks
-order-independence-fresh bytes e ks =
-    let m = readFile bytes .model in
-    order-independence bytes e (wordsOf m) (wordsOf-below m) (freshThreads m) (freshThreads-below m) ks
+-- so of a list on values, of a held model
+pub claim-fresh : (m : Model) → modelFault m ≡ 0 → (ks : List ℕ) → Claim m (marksOf m) (wordsOf m) (freshThreads m) ks
+claim-fresh m fit ks =
+    claim-with m fit (marksOf m) (marksOf-needed m fit) (wordsOf m) (table-begins m (wordsOf m) (wordsOf-below m)) (freshThreads m) (freshThreads-below m) ks

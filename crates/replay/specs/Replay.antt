@@ -1,17 +1,18 @@
--- A file's bytes, a table buffer, a list of thread numbers and a buffer for the answers: what is left of them.
+-- A model or a file's bytes, a table buffer, a list of thread numbers and a buffer for the answers: what is left of them.
 -- "The first gets the fresh state, each later one the state and thread records that the last one left".
 use Prim.Native.Nat.{ℕ, _*_}
 use mathlib.Core.Path.{_≡_}
-use mathlib.Core.Bool.{cond, not, _||_}
+use mathlib.Core.Bool.{cond}
 use mathlib.Core.List.{List, _++_}
 use lib.Dec.{eqb}
 use lib.ListN.{length, drop, replicate}
 use Rattle.model.specs.declared.Model.{Model}
 use Rattle.model.specs.Refusal.{accepted, unfit}
 use Rattle.model.specs.Record.{noThread}
+use Rattle.reader.specs.File.{readFile}
 use Rattle.tables.specs.Conflict.{marksOf}
 use Rattle.tables.specs.Word.{wordsOf}
-use Rattle.reader_load.specs.Load.{loadOf, loadBuffer}
+use Rattle.tables.specs.Outcome.{distancesNumber, distancesBuffer}
 use Rattle.plain.specs.Start.{freshThreads}
 use Rattle.early.specs.Request.{freshSite}
 use Rattle.early_request.specs.Answers.{answersWords, grantedIn, isShort}
@@ -29,23 +30,39 @@ doneOn m ks =
     let r = afterList m ks in
     record { number = accepted; granted = grantedIn (r .answers); v = m .v; t = m .t; site = r .site; threads = record { at = r .threads } }
 
--- 11 for a short buffer of answers, before the file is looked at; then the file's numbers
-unfoldable pub replayedOf : List ℕ → List ℕ → List ℕ → List ℕ → Replayed
-replayedOf file words ks answers =
-    let read = loadOf file words in
-    cond (isShort ks answers) (refusedWith unfit)
-    (cond (eqb (read .number) accepted) (doneOn (read .model) ks) (refusedWith (read .number)))
+-- of a held model: 11 for a short buffer of answers, then 11 and 16 of the tables
+unfoldable pub numberOn : Model → List ℕ → List ℕ → List ℕ → ℕ
+numberOn m words ks answers = cond (isShort ks answers) unfit (distancesNumber m words)
+
+unfoldable pub replayedOn : Model → List ℕ → List ℕ → List ℕ → Replayed
+replayedOn m words ks answers =
+    let n = numberOn m words ks answers in
+    cond (eqb n accepted) (doneOn m ks) (refusedWith n)
 
 -- the table buffer at the end
-unfoldable pub wordsAfter : List ℕ → List ℕ → List ℕ → List ℕ → List ℕ
-wordsAfter file words ks answers = cond (isShort ks answers) words (loadBuffer file words)
+unfoldable pub wordsOn : Model → List ℕ → List ℕ → List ℕ → List ℕ
+wordsOn m words ks answers = cond (isShort ks answers) words (distancesBuffer m words)
 
 -- the answers at the end, four words each; words past them are not touched, and none beside a number
+unfoldable pub answersOn : Model → List ℕ → List ℕ → List ℕ → List ℕ
+answersOn m words ks answers =
+    cond (eqb (numberOn m words ks answers) accepted) (answersWords (afterList m ks .answers) ++ drop (4 * length ks) answers) answers
+
+-- of a file: its number, then the same of its model
+unfoldable pub replayedOf : List ℕ → List ℕ → List ℕ → List ℕ → Replayed
+replayedOf file words ks answers =
+    let read = readFile file in
+    cond (eqb (read .number) accepted) (replayedOn (read .model) words ks answers) (refusedWith (read .number))
+
+unfoldable pub wordsAfter : List ℕ → List ℕ → List ℕ → List ℕ → List ℕ
+wordsAfter file words ks answers =
+    let read = readFile file in
+    cond (eqb (read .number) accepted) (wordsOn (read .model) words ks answers) words
+
 unfoldable pub answersAfter : List ℕ → List ℕ → List ℕ → List ℕ → List ℕ
 answersAfter file words ks answers =
-    let read = loadOf file words in
-    cond (isShort ks answers || not (eqb (read .number) accepted)) answers
-    (answersWords (afterList (read .model) ks .answers) ++ drop (4 * length ks) answers)
+    let read = readFile file in
+    cond (eqb (read .number) accepted) (answersOn (read .model) words ks answers) answers
 
 -- Demand 3, of what was left: the state and the records are those of the whole list, of which the claim speaks
 pub record Keeps (m : Model) (ks : List ℕ) (r : Replayed) : Type 0 where

@@ -1,10 +1,10 @@
-// A file's bytes and a list of requests: loaded, and all of the list made on the fresh state.
+// A list of requests, all of it made on the fresh state: of a held model, and of a file's bytes.
 use early::Site;
+use model::Model;
 use model::Threads;
-ghost use Prim.Native.Nat.{_<_};
 ghost use mathlib.Core.Path.{_≡_};
 ghost use Rattle.reader.specs.File.{readFile};
-ghost use Rattle.replay.specs.Replay.{refusedWith, replayedOf, wordsAfter, answersAfter, Keeps};
+ghost use Rattle.replay.specs.Replay.{refusedWith, replayedOn, wordsOn, answersOn, replayedOf, wordsAfter, answersAfter, Keeps};
 
 // What a replay leaves: the number of the refusal or 0, how many requests were granted, the counts of variables and threads, the state
 // and the records.
@@ -36,22 +36,21 @@ fn refused(number: u8) -> Replayed
     }
 }
 
-// 11 for a buffer of fewer than 4 words for each request; then the file's numbers. Else every request of the list, the first on the
-// fresh state, each later one on what the last one left. Demand 3 is said of what is left.
-pub fn replay(file: &[u8], words: &mut [u64], ks: &[u8], answers: &mut [u64]) -> Replayed
-    ensures outcome { λ r. ⌜ r ≡ replayedOf (now (file .entry)) (now (words .entry)) (now (ks .entry)) (now (answers .entry)) ⌝ }
-    ensures tables { λ _. ⌜ now (words .exit) ≡ wordsAfter (now (file .entry)) (now (words .entry)) (now (ks .entry)) (now (answers .entry)) ⌝ }
-    ensures written { λ _. ⌜ now (answers .exit) ≡ answersAfter (now (file .entry)) (now (words .entry)) (now (ks .entry)) (now (answers .entry)) ⌝ }
-    ensures keeps { λ r. ⌜ (r .number ≡ 0 → Keeps (readFile (now (file .entry)) .model) (now (ks .entry)) r) ⌝ }
+// Every request of the list, the first on the fresh state of a held model, each later one on what the last one left: 11 for a buffer of
+// fewer than 4 words for each request, then 11 and 16 of the tables. Demand 3 is said of what is left.
+pub fn replay_on(m: Model, words: &mut [u64], ks: &[u8], answers: &mut [u64]) -> Replayed
+    ensures outcome { λ r. ⌜ r ≡ replayedOn m (now (words .entry)) (now (ks .entry)) (now (answers .entry)) ⌝ }
+    ensures tables { λ _. ⌜ now (words .exit) ≡ wordsOn m (now (words .entry)) (now (ks .entry)) (now (answers .entry)) ⌝ }
+    ensures written { λ _. ⌜ now (answers .exit) ≡ answersOn m (now (words .entry)) (now (ks .entry)) (now (answers .entry)) ⌝ }
+    ensures keeps { λ r. ⌜ (r .number ≡ 0 → Keeps m (now (ks .entry)) r) ⌝ }
 {
     if answers.len() / 4 < ks.len() {
         return refused(11);
     }
-    let read = reader_load::load(file, words);
-    if read.number != 0 {
-        return refused(read.number);
+    let number = tables_distance::distances(m, words);
+    if number != 0 {
+        return refused(number);
     }
-    let m = read.model;
     let fresh = early_request::fresh(m);
     let site = fresh.site;
     let threads = fresh.threads;
@@ -69,4 +68,19 @@ pub fn replay(file: &[u8], words: &mut [u64], ks: &[u8], answers: &mut [u64]) ->
         site,
         threads,
     }
+}
+
+// The same from a file's bytes: the file's number first.
+pub fn replay(file: &[u8], words: &mut [u64], ks: &[u8], answers: &mut [u64]) -> Replayed
+    ensures outcome { λ r. ⌜ r ≡ replayedOf (now (file .entry)) (now (words .entry)) (now (ks .entry)) (now (answers .entry)) ⌝ }
+    ensures tables { λ _. ⌜ now (words .exit) ≡ wordsAfter (now (file .entry)) (now (words .entry)) (now (ks .entry)) (now (answers .entry)) ⌝ }
+    ensures written { λ _. ⌜ now (answers .exit) ≡ answersAfter (now (file .entry)) (now (words .entry)) (now (ks .entry)) (now (answers .entry)) ⌝ }
+    ensures keeps { λ r. ⌜ (r .number ≡ 0 → Keeps (readFile (now (file .entry)) .model) (now (ks .entry)) r) ⌝ }
+{
+    let read = reader_file::read_file(file);
+    if read.number != 0 {
+        return refused(read.number);
+    }
+    let m = read.model;
+    replay_on(m, words, ks, answers)
 }

@@ -2,6 +2,8 @@
 use Prim.Native.Nat.{ℕ, _*_, _≤_, _<_}
 use mathlib.Core.Path.{_≡_, refl, sym, _∙_}
 use mathlib.Core.List.{List}
+use native.Mathlib.Omega.{arith}
+use native.Mathlib.Decide.{ℕ-discrete, decLe}
 use lib.ListN.{length}
 use borrow.Author.Tests.{lt-ltb, le-ltb, eq-eqb, ne-eqb}
 use Rattle.model.specs.declared.Model.{Model}
@@ -41,3 +43,18 @@ module _ (m : Model) where
     unfolding distancesNumber distancesBuffer isShort
     distances-stored us e h f =
         (sym (ifHeld-yes m _ 11 e ∙ rw (le-ltb (length ws) (m .n * m .n) h) refl), f ∙ sym (ifHeld-yes m _ ws e ∙ rw (le-ltb (length ws) (m .n * m .n) h) refl))
+
+    -- and back: where the number is 0, the model keeps the file rules and the words are stored
+    pub distances-kept : distancesNumber m ws ≡ 0 → modelFault m ≡ 0
+    distances-kept z = go (ℕ-discrete (modelFault m) 0)
+      where
+        go : Dec (modelFault m ≡ 0) → modelFault m ≡ 0
+        go (yes e) = e
+        go (no other) = absurd (omega (arith, distances-unfit other .0))
+
+    pub distances-made : distancesNumber m ws ≡ 0 → distancesBuffer m ws ≡ stored m ws
+    distances-made z = go (decLe (m .n * m .n) (length ws))
+      where
+        go : Dec (m .n * m .n ≤ length ws) → distancesBuffer m ws ≡ stored m ws
+        go (yes h) = sym (distances-stored (stored m ws) (distances-kept z) h refl .1)
+        go (no h) = absurd (omega (arith, distances-short (distances-kept z) (omega arith) .0))

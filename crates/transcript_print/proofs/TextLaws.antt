@@ -11,19 +11,18 @@ use lib.ListN.{length, take, drop, length-append, length-drop, length-map}
 use lib.Seq.{take-at}
 use borrow.Author.Tests.{lt-ltb, le-ltb, eq-eqb, ne-eqb}
 use Rattle.base.proofs.BoolLaws.{T-case, eq→eqb}
-use Rattle.base.proofs.IndexLaws.{orElse-none, orElse-some}
 use Rattle.model.specs.declared.Model.{Model}
 use Rattle.model_rules.proofs.RuleLaws.{modelFault-counts}
 use Rattle.reader.specs.File.{readFile}
 use Rattle.reader_laws.proofs.Accepted.{accepted-kept}
-use Rattle.tables.specs.Outcome.{isShort}
-use Rattle.reader_load.specs.Load.{loadNumber, loadOf}
+use Rattle.tables.specs.Outcome.{isShort, distancesNumber}
+use Rattle.tables.proofs.OutcomeLaws.{ifHeld-yes}
 use Rattle.sheet.specs.Sheet.{refusedLine}
 use Rattle.early_request.specs.Answers as list
 use Rattle.early_request.specs.Answers.{answersWords}
 use Rattle.order.specs.Claim.{afterList}
 use Rattle.replay.specs.declared.Replayed.{Replayed}
-use Rattle.replay.specs.Replay.{doneOn, replayedOf, answersAfter}
+use Rattle.replay.specs.Replay.{doneOn, numberOn, replayedOn, answersOn, replayedOf, answersAfter}
 use Rattle.transcript.specs.Label.{threadOf}
 use Rattle.transcript.specs.Transcript.{mostRequests, transcriptOf}
 use Rattle.transcript_print.specs.Text.{replayText}
@@ -40,40 +39,25 @@ isShort-never m words few room =
     le-ltb (length words) (m .n * m .n) (omega arith)
 
 module _ (file words : List ℕ) (room : 4096 ≤ length words) where
-  loadNumber-accepted : readFile file .number ≡ 0 → loadNumber (readFile file) words ≡ 0
-  unfolding loadNumber
-  loadNumber-accepted z =
-      let few = modelFault-counts (readFile file .model) (accepted-kept file z) .segments in
-      orElse-none (readFile file .number) _ z ∙ rw (isShort-never (readFile file .model) words few room) refl
-
-  loadNumber-refused : (readFile file .number ≡ 0 → ⊥) → loadNumber (readFile file) words ≡ readFile file .number
-  unfolding loadNumber
-  loadNumber-refused h = orElse-some (readFile file .number) _ h
-
-  load-accepted : readFile file .number ≡ 0 → loadOf file words ≡ record { number = 0; model = readFile file .model }
-  unfolding loadOf
-  load-accepted z = rw (loadNumber-accepted z) refl
-
-  load-refused : (readFile file .number ≡ 0 → ⊥) → loadOf file words .number ≡ readFile file .number
-  unfolding loadOf
-  load-refused h = rw (loadNumber-refused h, ne-eqb (readFile file .number) 0 h) refl
-
   module _ (ks answers : List ℕ) (fits : 4 * length ks ≤ length answers) where
-    fits-no : list.isShort ks answers ≡ false
-    unfolding list.isShort
-    fits-no = le-ltb (length answers) (4 * length ks) fits
+    number-accepted : readFile file .number ≡ 0 → numberOn (readFile file .model) words ks answers ≡ 0
+    unfolding numberOn distancesNumber list.isShort
+    number-accepted z =
+        let kept = accepted-kept file z in
+        rw (le-ltb (length answers) (4 * length ks) fits)
+        (ifHeld-yes (readFile file .model) _ _ kept ∙ rw (isShort-never (readFile file .model) words (modelFault-counts (readFile file .model) kept .segments) room) refl)
 
     replayed-accepted : readFile file .number ≡ 0 → replayedOf file words ks answers ≡ doneOn (readFile file .model) ks
-    unfolding replayedOf
-    replayed-accepted z = rw (fits-no, load-accepted z) refl
+    unfolding replayedOf replayedOn
+    replayed-accepted z = rw (eq-eqb (readFile file .number) 0 z, number-accepted z) refl
 
     answers-accepted : readFile file .number ≡ 0 → answersAfter file words ks answers ≡ answersWords (afterList (readFile file .model) ks .answers) ++ drop (4 * length ks) answers
-    unfolding answersAfter
-    answers-accepted z = rw (fits-no, load-accepted z) refl
+    unfolding answersAfter answersOn
+    answers-accepted z = rw (eq-eqb (readFile file .number) 0 z, number-accepted z) refl
 
     replayed-refused : (readFile file .number ≡ 0 → ⊥) → replayedOf file words ks answers .number ≡ readFile file .number
     unfolding replayedOf
-    replayed-refused h = rw (fits-no, load-refused h, ne-eqb (readFile file .number) 0 h) refl
+    replayed-refused h = rw (ne-eqb (readFile file .number) 0 h) refl
 
     -- the number is the reader's
     replayed-number : replayedOf file words ks answers .number ≡ readFile file .number

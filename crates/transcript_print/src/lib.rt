@@ -185,9 +185,11 @@ pub fn transcript(
     buffers::copy_in(&text[..n], out)
 }
 
-// What is printed of a file and of labels, at the front of out; how many bytes. A buffer that is too short stays, and the answer is 0.
+// What is printed of a file and of labels, at the front of out; how many bytes. A buffer that is too short stays, and the answer is 0;
+// none is too short that has 110,976 bytes.
 pub fn replay_text(file: &[u8], labels: &[u64], out: &mut [u8]) -> usize
     ensures { λ r. ⌜ Writes (now (out .entry)) (now (out .exit)) r (replayText (now (file .entry)) (now (labels .entry))) ⌝ }
+    ensures { λ _. ⌜ length (replayText (now (file .entry)) (now (labels .entry))) ≤ longestTranscript ⌝ }
 {
     if 1024 < labels.len() {
         return sheet_print::refusal(11, out);

@@ -8,17 +8,18 @@ use Rattle.export_state.proofs.fresh_into.Tie as tie
 
 returns : tie.Need-returns
 returns c =
-    let x = c .before .before .before .before .before .before .before .before .before .before .before .args in
-    fresh-refused (x .file .now) (keeps (x .variables .now) (x .log .now) (x .records .now)) (c .before .before .opened .result) _ (c .before .before .before .has-room .ensures) (c .before .before .opened .ensures .0) (c .if1 .taken)
+    let x = c .before .before .before .before .before .before .before .before .before .before .args in
+    let o = c .before .before .with-room in
+    fresh-refused (x .file .now) (keeps (x .variables .now) (x .log .now) (x .records .now)) (o .result) (o .ensures .0) (c .if1 .taken)
 
 returns-2 : tie.Need-returns-2
 returns-2 c =
-    let o = c .before .before .before .before .before .before .before .before .before .before .before .before in
-    let x = o .before .before .before .before .before .before .before .before .before .args in
-    fresh-done (x .file .now) (keeps (x .variables .now) (x .log .now) (x .records .now)) _ _ (o .before .has-room .ensures) (o .opened .ensures .0) (o .opened .ensures .1) (c .before .before .before .before .before .before .before .before .before .before .if1 .left) _ refl _ (c .before .before .before .before .before .before .put-fresh .ensures)
+    let x = c .before .before .before .before .before .before .before .before .before .before .before .before .before .before .before .before .before .before .before .before .args in
+    let o = c .before .before .before .before .before .before .before .before .before .before .before .before .with-room in
+    fresh-done (x .file .now) (keeps (x .variables .now) (x .log .now) (x .records .now)) (o .result) (o .ensures .0) (o .ensures .1) (c .before .before .before .before .before .before .before .before .before .before .if1 .left) _ (c .before .before .before .before .before .before .put-fresh .ensures)
 
 pub fresh-into-spec : {M : Type 1} → statement M
 fresh-into-spec =
     tie.close
-    (tie.spec (λ c κs. search needs) (λ c κs. search needs) (λ c. search needs) (λ c. search needs) (λ c. search needs)
-    returns (λ c κs. search needs) (λ c. search needs) (λ c. search needs) (λ c. search needs) returns-2)
+    (tie.spec (λ c κs. search needs) (λ c. search needs) (λ c. search needs) (λ c. search needs) returns
+    (λ c κs. search needs) (λ c. search needs) (λ c. search needs) (λ c. search needs) returns-2)

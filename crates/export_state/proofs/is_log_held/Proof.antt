@@ -12,10 +12,10 @@ use Rattle.export_state.proofs.is_log_held.Statement.{statement}
 use Rattle.export_state.proofs.is_log_held.Tie as tie
 
 abbrev Inv-loop : tie.InvT-loop
-Inv-loop log i₀ i = (i ≤ 128) × ((k : ℕ) → k < i → isPairHeld log k ≡ true)
+Inv-loop log count n i₀ i = (i ≤ n) × ((k : ℕ) → k < i → isPairHeld log k ≡ true)
 
 abbrev μ-loop : tie.MeasureT-loop
-μ-loop log i₀ i = 128 - i
+μ-loop log count n i₀ i = n - i
 
 returns : tie.Need-returns Inv-loop μ-loop
 returns c = isLogHeld-short (c .before .before .args .log .now) (c .if1 .taken)

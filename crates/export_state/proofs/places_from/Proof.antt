@@ -6,12 +6,12 @@ use lib.Seq.{sets}
 use borrow.Author.Needs.{needs}
 use Rattle.base.specs.Index.{tabulate}
 use Rattle.buffers.proofs.StoreLaws.{tabulate-none, tabulate-stored, tabulate-whole}
-use Rattle.export_state.specs.Numbers.{pairAt}
+use Rattle.export_state.specs.Numbers.{placeFrom}
 use Rattle.export_state.proofs.places_from.Statement.{statement}
 use Rattle.export_state.proofs.places_from.Tie as tie
 
 abbrev Inv-loop : tie.InvT-loop
-Inv-loop log places₀ i₀ places i = (i ≤ 128) × (places ≡ sets places₀ 0 (tabulate i 0 (pairAt log)))
+Inv-loop log places₀ i₀ places i = (i ≤ 128) × (places ≡ sets places₀ 0 (tabulate i 0 (placeFrom log)))
 
 abbrev μ-loop : tie.MeasureT-loop
 μ-loop log places₀ i₀ places i = 128 - i
@@ -20,12 +20,12 @@ loop-holds : tie.Need-loop-holds Inv-loop μ-loop
 loop-holds c = (omega arith, tabulate-none _ _)
 
 loop-again : tie.Need-loop-again Inv-loop μ-loop
-loop-again c = (omega arith, tabulate-stored _ (c .before .before .loop .places) (c .before .before .loop .i) (pairAt (c .before .before .before .before .before .args .log .now)) _ (c .before .before .loop .inv .1) (c .pair-at2 .ensures))
+loop-again c = (omega arith, tabulate-stored _ (c .before .before .loop .places) (c .before .before .loop .i) (placeFrom (c .before .before .before .before .before .args .log .now)) _ (c .before .before .loop .inv .1) (c .place-from2 .ensures))
 
 returns : tie.Need-returns Inv-loop μ-loop
 returns c =
     let l = c .before .loop in
-    tabulate-whole _ (l .places) 128 (l .i) (pairAt (c .before .before .before .before .args .log .now)) (omega arith) (l .inv .1)
+    tabulate-whole _ (l .places) 128 (l .i) (placeFrom (c .before .before .before .before .args .log .now)) (omega arith) (l .inv .1)
 
 pub places-from-spec : {M : Type 1} → statement M
 places-from-spec =

@@ -4,11 +4,8 @@ use borrow.Author.Needs.{needs}
 use Rattle.export_state.proofs.put_after.Statement.{statement}
 use Rattle.export_state.proofs.put_after.Tie as tie
 
-enum-told : tie.Need-enum-told
-enum-told c = search needs
-
 returns : tie.Need-returns
-returns c = rw (c .before .before .before .before .before .before .before .before .before .before .enum-told .given .1) (c .before .before .before .before .before .before .put-state .ensures)
+returns c = rw (c .before .before .before .before .before .before .before .before .before .before .before .before .enum-told .given .1, ← c .before .before .before .before .before .before .before .before .before .before .first-threads .ensures) (c .before .before .before .before .before .before .put-state .ensures)
 
 returns-2 : tie.Need-returns-2
 returns-2 c = rw (c .enum-told2 .given .1) refl
@@ -16,5 +13,5 @@ returns-2 c = rw (c .enum-told2 .given .1) refl
 pub put-after-spec : {M : Type 1} → statement M
 put-after-spec =
     tie.close
-    (tie.spec enum-told (λ c κs. search needs) (λ c. search needs) (λ c. search needs) (λ c. search needs)
-    (λ c. search needs) returns returns-2)
+    (tie.spec (λ c. search needs) (λ c κs. search needs) (λ c κs. search needs) (λ c. search needs) (λ c. search needs)
+    (λ c. search needs) (λ c. search needs) returns returns-2)

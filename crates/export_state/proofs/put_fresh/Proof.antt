@@ -6,7 +6,9 @@ use Rattle.export_state.proofs.put_fresh.Statement.{statement}
 use Rattle.export_state.proofs.put_fresh.Tie as tie
 
 returns : tie.Need-returns
-returns c = let x = c .before .before .before .before .before .before .before .before .before .before .before .before .before .before .args in holding-same _ _ (keeps (x .variables .now) (x .log .now) (x .records .now)) _ (c .before .before .before .before .before .before .before .before .before .before .fresh .ensures) (c .before .before .before .before .before .before .put-state .ensures)
+returns c =
+    let x = c .before .before .before .before .before .before .before .before .before .before .before .before .before .before .args in
+    holding-same _ _ (x .m .t) (keeps (x .variables .now) (x .log .now) (x .records .now)) _ (c .before .before .before .before .before .before .before .before .before .before .fresh .ensures) (c .before .before .before .before .before .before .put-state .ensures)
 
 pub put-fresh-spec : {M : Type 1} → statement M
 put-fresh-spec =

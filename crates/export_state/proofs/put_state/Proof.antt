@@ -1,4 +1,5 @@
 -- `export_state::put_state` meets its contract.
+use lib.ListN.{take}
 use borrow.Author.Needs.{needs}
 use Rattle.export_state.specs.Step.{keeps}
 use Rattle.export_state.proofs.StepLaws.{holding-stored}
@@ -9,7 +10,7 @@ returns : tie.Need-returns
 returns c =
     let x = c .before .before .before .before .before .before .before .before .before .before .before .before .before .before .args in
     let s = c .before .before .before .before .before .before .before .before .site-into .ensures in
-    holding-stored (x .site) (x .threads) (keeps (x .variables .now) (x .log .now) (x .records .now)) _ _ _ (s .0) (s .1) (c .before .before .threads-into .ensures)
+    holding-stored (x .site) (take (x .t) (x .threads .at)) (keeps (x .variables .now) (x .log .now) (x .records .now)) _ _ _ (s .0) (s .1) (c .before .before .threads-into .ensures)
 
 pub put-state-spec : {M : Type 1} → statement M
 put-state-spec =

@@ -1,28 +1,32 @@
 -- `export_state::replay_into` meets its contract.
-use borrow.Author.Tests.{not-true, not-false}
 use borrow.Author.Needs.{needs}
 use Rattle.export_state.specs.Step.{keeps}
-use Rattle.export_state.proofs.StepLaws.{replay-short, replay-refused, replay-done}
+use Rattle.export_state.proofs.StepLaws.{replay-unopened, replay-refused, replay-done}
 use Rattle.export_state.proofs.replay_into.Statement.{statement}
 use Rattle.export_state.proofs.replay_into.Tie as tie
 
 returns : tie.Need-returns
 returns c =
-    let x = c .before .before .before .before .before .before .before .before .before .before .before .before .args in
-    replay-short (x .file .now) (x .words .now) (x .threads .now) (x .answers .now) (keeps (x .variables .now) (x .log .now) (x .records .now)) _ (c .before .has-room .ensures) (not-true _ (c .if1 .taken))
+    let x = c .before .before .before .before .before .before .before .before .before .before .before .before .before .args in
+    let o = c .before .before .with-room in
+    replay-unopened (x .file .now) (x .words .now) (x .threads .now) (x .answers .now) (keeps (x .variables .now) (x .log .now) (x .records .now)) (o .result) (o .ensures .0) (c .if1 .taken)
 
 returns-2 : tie.Need-returns-2
 returns-2 c =
-    let d = c .before .before .before .before .before .before in
-    let x = d .before .before .before .before .before .before .before .before .before .before .before .before .before .before .before .args in
-    replay-refused (x .file .now) (x .words .now) (x .threads .now) (x .answers .now) (keeps (x .variables .now) (x .log .now) (x .records .now)) _ (d .before .before .before .before .has-room .ensures) (not-false _ (d .before .before .before .if1 .left)) _ (d .replay .ensures .0) _ _ (d .replay .ensures .1 .0) (d .replay .ensures .1 .1 .0) (c .if2 .taken)
+    let x = c .before .before .before .before .before .before .before .before .before .before .before .before .before .before .before .before .before .before .before .before .before .before .before .args in
+    let o = c .before .before .before .before .before .before .before .before .before .before .before .before .with-room in
+    let d = c .before .before .before .before .before .before .replay-on in
+    replay-refused (x .file .now) (x .words .now) (x .threads .now) (x .answers .now) (keeps (x .variables .now) (x .log .now) (x .records .now)) (o .result) (o .ensures .0) (o .ensures .1) (c .before .before .before .before .before .before .before .before .before .before .if1 .left)
+    (d .result) (d .ensures .0) _ _ (d .ensures .1 .0) (d .ensures .1 .1 .0) (c .if2 .taken)
 
 returns-3 : tie.Need-returns-3
 returns-3 c =
-    let d = c .before .before .before .before .before .before .before .before .before .before .before .before .before .before .before .before in
-    let x = d .before .before .before .before .before .before .before .before .before .before .before .before .before .before .before .args in
+    let x = c .before .before .before .before .before .before .before .before .before .before .before .before .before .before .before .before .before .before .before .before .before .before .before .before .before .before .before .before .before .before .before .before .before .args in
+    let o = c .before .before .before .before .before .before .before .before .before .before .before .before .before .before .before .before .before .before .before .before .before .before .with-room in
+    let d = c .before .before .before .before .before .before .before .before .before .before .before .before .before .before .before .before .replay-on in
     let z = c .before .before .before .before .before .before .before .before .before .before .if2 .left in
-    replay-done (x .file .now) (x .words .now) (x .threads .now) (x .answers .now) (keeps (x .variables .now) (x .log .now) (x .records .now)) _ (d .before .before .before .before .has-room .ensures) (not-false _ (d .before .before .before .if1 .left)) _ (d .replay .ensures .0) _ _ (d .replay .ensures .1 .0) (d .replay .ensures .1 .1 .0) z (d .replay .ensures .1 .1 .1 z) _ (c .before .before .before .before .before .before .put-state .ensures)
+    replay-done (x .file .now) (x .words .now) (x .threads .now) (x .answers .now) (keeps (x .variables .now) (x .log .now) (x .records .now)) (o .result) (o .ensures .0) (o .ensures .1) (c .before .before .before .before .before .before .before .before .before .before .before .before .before .before .before .before .before .before .before .before .if1 .left)
+    (d .result) (d .ensures .0) _ _ (d .ensures .1 .0) (d .ensures .1 .1 .0) z (d .ensures .1 .1 .1 z) _ (c .before .before .before .before .before .before .put-state .ensures)
 
 pub replay-into-spec : {M : Type 1} → statement M
 replay-into-spec =

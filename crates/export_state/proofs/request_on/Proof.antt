@@ -5,9 +5,9 @@ use Rattle.export_state.proofs.request_on.Statement.{statement}
 use Rattle.export_state.proofs.request_on.Tie as tie
 
 returns : tie.Need-returns
-returns c = (c .request .ensures) ∙ rw (c .before .before .before .conflict-marks .ensures, c .before .before .site-from .ensures, c .before .threads-from .ensures) refl
+returns c = c .request-first .ensures ∙ rw (c .before .wide .ensures .0, c .before .before .threads-from .ensures, c .before .before .before .site-from .ensures, c .before .before .before .before .conflict-marks .ensures) refl
 
 pub request-on-spec : {M : Type 1} → statement M
 request-on-spec =
     tie.close
-    (tie.spec (λ c κs. search needs) (λ c κs. search needs) (λ c κs. search needs) (λ c κs. search needs) returns)
+    (tie.spec (λ c κs. search needs) (λ c κs. search needs) (λ c κs. search needs) (λ c κs. search needs) (λ c κs. search needs) returns)

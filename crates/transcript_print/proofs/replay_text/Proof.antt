@@ -9,6 +9,7 @@ use Rattle.buffers.proofs.WriteLaws.{writes-same}
 use Rattle.replay.specs.Replay.{replayedOf, answersAfter}
 use Rattle.transcript.specs.Label.{threadOf}
 use Rattle.transcript_print.proofs.LabelLaws.{threads-front}
+use Rattle.transcript_print.proofs.TranscriptLaws.{held-line}
 use Rattle.transcript_print.proofs.TextLaws.{text-long, text-refused, text-done}
 use Rattle.transcript_print.proofs.replay_text.Statement.{statement}
 use Rattle.transcript_print.proofs.replay_text.Tie as tie
@@ -17,7 +18,7 @@ returns : tie.Need-returns
 returns c =
     let k = c .before .before .before .before in
     let a = k .before .before .before .before .args in
-    writes-same (text-long (a .file .now) (a .labels .now) (k .if1 .taken)) (c .before .before .refusal .ensures .0)
+    held-line (text-long (a .file .now) (a .labels .now) (k .if1 .taken)) (c .before .before .refusal .ensures)
 
 slice-aggregate-replay-2 : tie.Need-slice-aggregate-replay-2
 slice-aggregate-replay-2 c = sym (length-take-le _ _ (omega arith))
@@ -31,7 +32,7 @@ returns-2 c =
     let k = threads-front (a .labels .now) (replicate 1024 0) _ (omega arith) (f .fill-threads .ensures) in
     let e : r .result ≡ replayedOf (a .file .now) (replicate 4096 0) (map threadOf (a .labels .now)) (replicate 4096 0) = rw k at (r .ensures .0) in
     let t = text-refused (a .file .now) (a .labels .now) (replicate 4096 0) (replicate 4096 0) (f .before .before .if1 .left) (omega arith) (omega arith) (r .result) e (h .if2 .taken) in
-    writes-same t (c .before .before .refusal2 .ensures .0)
+    held-line t (c .before .before .refusal2 .ensures)
 
 slice-aggregate-transcript : tie.Need-slice-aggregate-transcript
 slice-aggregate-transcript c = sym (length-take-le _ _ (omega arith))
@@ -46,7 +47,8 @@ returns-3 c =
     let e : r .result ≡ replayedOf (a .file .now) (replicate 4096 0) (map threadOf (a .labels .now)) (replicate 4096 0) = rw k at (r .ensures .0) in
     let b : _ ≡ answersAfter (a .file .now) (replicate 4096 0) (map threadOf (a .labels .now)) (replicate 4096 0) = rw k at (r .ensures .1 .1 .0) in
     let t = text-done (a .file .now) (a .labels .now) (replicate 4096 0) (replicate 4096 0) (f .before .before .if1 .left) (omega arith) (omega arith) (r .result) e (h .if2 .left) _ b (r .kept .1 .1 .1 .0) in
-    writes-same t (c .before .before .transcript .ensures .0)
+    let e = c .before .before .transcript .ensures in
+    (writes-same t (e .0), rw (← t) (e .1))
 
 pub replay-text-spec : {M : Type 1} → statement M
 replay-text-spec =
