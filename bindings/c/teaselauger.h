@@ -1,8 +1,10 @@
 /* Teaselauger for C: a model file's number, tables and sheet, and requests one at a time or as a list.
  *
  * Every call answers for every argument. A number of refusal is 1 to 16 (docs/REFUSALS.md lists them, docs/RULES.md says exactly
- * when each applies); 0 says that there is none. Of several that apply the first is answered, in the order given beside the call
- * after the word ORDER. On a refusal every buffer holds what it held.
+ * when each applies); 0 says that there is none. Of several that apply the first is answered, in one order in all calls: the reader's
+ * number of the file (1 to 9); 11 for a buffer of the state, of the answer or of the answers that is too short, or for numbers that are
+ * none of a state; 16 for too few words of a table that is to be made; then a request's own numbers, 11, 10, 12, 13, 14, 15. Beside
+ * each call stands after the word ORDER which of these it has. On a refusal every buffer holds what it held.
  *
  * +-----------------------------------------------------------------------------------------------------------------------------+
  * | WORDS AND A STATE ARE USED AS GIVEN. A request does NOT know which file they were made from: of words and state it tests    |
@@ -37,10 +39,11 @@ extern "C" {
 #define TEASELAUGER_WORDS 4096
 /* Variables, whatever their number in the model; those past it are 0 in a fresh state and are not touched. */
 #define TEASELAUGER_VARIABLES 64
-/* The log: the count, then 128 places of three words: event, time, delta. Places past the count are 0 after a grant. */
+/* The log: the count, then 128 places of three words: event, time, delta. Places past the count are not looked at, and are 0 after a
+ * grant. */
 #define TEASELAUGER_LOG 385
-/* Records of 32 threads, five words each: segment, state, event (0 unless waiting), time, delta. Those past the model's threads
- * are 0 in a fresh state: ended, in segment 0, at (0, 0). */
+/* Records of threads, five words each: segment, state, event (0 unless waiting), time, delta. A model of T threads needs 5 x T
+ * words, and no call looks at words past them or writes to them; these are enough for every model. */
 #define TEASELAUGER_RECORDS 160
 /* Bytes that are enough for every sheet. */
 #define TEASELAUGER_SHEET 8192
@@ -61,7 +64,7 @@ uint8_t teaselauger_load(const uint8_t *file, size_t file_count, uint64_t *words
  * it takes. If out is too short it is not written, and the answer is 0. It is never a number of refusal. */
 size_t teaselauger_sheet(const uint8_t *file, size_t file_count, uint64_t budget, uint8_t *out, size_t out_count);
 
-/* The fresh state of a model file, in 64 variables, 385 words of log and 160 words of records: 0 where it is there.
+/* The fresh state of a model file, in 64 variables, 385 words of log and 5 words of records for each thread: 0 where it is there.
  * ORDER: the reader's number; 11 for a buffer that is too short. */
 uint8_t teaselauger_fresh(const uint8_t *file, size_t file_count, uint32_t *variables, size_t variables_count, uint64_t *log,
                           size_t log_count, uint64_t *records, size_t records_count);
@@ -69,9 +72,9 @@ uint8_t teaselauger_fresh(const uint8_t *file, size_t file_count, uint32_t *vari
 /* One request by a thread, on the state in variables, log and records, with the file's own conflict marks and the words that
  * teaselauger_load made of the same file. WORDS AND STATE ARE USED AS GIVEN (see above). 0 where it is granted: answer has segment,
  * time and delta (3 words), and the buffers the state after it.
- * ORDER: the reader's number; 11 for a buffer that is too short, or for a number that no state has (a state above 3, an event
- * beside a state that does not wait, a segment, event or count above 255, a delta above 4,294,967,295, in any place of the log and
- * in any record); the request's own 11 (fewer than N x N words among them), 10, 12, 13, 14, 15. */
+ * ORDER: the reader's number; 11 for a buffer that is too short, for a count of the log above 128, or for a number that no state has in
+ * the record of a thread or in a place below the count (a state above 3, an event beside a state that does not wait, a segment or
+ * event above 255, a delta above 4,294,967,295); the request's own 11 (fewer than N x N words among them), 10, 12, 13, 14, 15. */
 uint8_t teaselauger_request(const uint8_t *file, size_t file_count, const uint64_t *words, size_t words_count, uint32_t *variables,
                             size_t variables_count, uint64_t *log, size_t log_count, uint64_t *records, size_t records_count,
                             uint8_t thread, uint64_t *answer, size_t answer_count);
@@ -79,7 +82,7 @@ uint8_t teaselauger_request(const uint8_t *file, size_t file_count, const uint64
 /* A list of requests from the fresh state on. 0 where the list was made: answers has 4 words for each request (its number, 0 where it
  * was granted, then segment, time and delta, 0 where it was refused), words the distance table, and the other buffers the state after
  * the list.
- * ORDER: 11 for a buffer of the state that is too short, or for fewer than 4 words of answers for each request; the reader's number;
+ * ORDER: the reader's number; 11 for a buffer of the state that is too short, or for fewer than 4 words of answers for each request;
  * 16 for fewer than N x N words. */
 uint8_t teaselauger_replay(const uint8_t *file, size_t file_count, uint64_t *words, size_t words_count, const uint8_t *threads,
                            size_t threads_count, uint64_t *answers, size_t answers_count, uint32_t *variables,

@@ -44,7 +44,7 @@ ORDER = {
     "load": [FILE, (("words",), 16)],
     "fresh": [FILE, (STATE, 11)],
     "request": [FILE, (STATE + ("answer", "words"), 11)],
-    "replay": [(STATE + ("answers",), 11), FILE, (("words",), 16)],
+    "replay": [FILE, (STATE + ("answers",), 11), (("words",), 16)],
 }
 
 
@@ -201,7 +201,7 @@ def check_longer(c, name, exact, after):
 
 def check_replay(c, file, t, threads):
     """A list against replayrun, and the words against load: the buffers, exactly long enough, before and after."""
-    exact = {**UNUSED, "words": filled("words", 9, segments(file) ** 2), "threads": threads}
+    exact = {**UNUSED, "words": filled("words", 9, segments(file) ** 2), "records": filled("records", 9, 5 * t), "threads": threads}
     exact["answers"] = filled("answers", 9, 4 * len(threads))
     after = c.made("replay", exact, "exact buffers")
     lines = [*answer_lines(threads, after["answers"]), *state_lines(file[8], t, *[after[p] for p in STATE])]
@@ -241,14 +241,18 @@ def check_requests(c, words, fresh, threads, after):
     return states, numbers
 
 
-def no_states(r, state):
-    """Numbers that no state has, in any place of the log and in any record."""
-    i, k = r.randrange(128), r.randrange(32)
+def no_states(r, t, state):
+    """Numbers that no state has, in a place of the log below its count and in a record below T."""
+    k, count = r.randrange(t), state["log"][0]
     waits = state["records"][5 * k + 1] == 3
-    for p, at, least in [
-        ("log", 0, 2**8), ("log", 3 * i + 1, 2**8), ("log", 3 * i + 3, 2**32), ("records", 5 * k, 2**8), ("records", 5 * k + 1, 4),
-        ("records", 5 * k + 2, 2**8 if waits else 1), ("records", 5 * k + 4, 2**32),
-    ]:
+    numbers = [
+        ("log", 0, 129), ("records", 5 * k, 2**8), ("records", 5 * k + 1, 4), ("records", 5 * k + 2, 2**8 if waits else 1),
+        ("records", 5 * k + 4, 2**32),
+    ]
+    if count:
+        i = r.randrange(count)
+        numbers += [("log", 3 * i + 1, 2**8), ("log", 3 * i + 3, 2**32)]
+    for p, at, least in numbers:
         for value in {least, r.randrange(least, 2**64), NEVER}:
             yield p, at, value
 
@@ -268,16 +272,15 @@ def edges(r, file, n, t, state):
 
 
 def unjudged(r, n, t, state):
-    """Numbers of a state that lie past T, past the count and past N x N, and so are not judged."""
+    """Places of a state and of the words that lie past T, past the count and past N x N, and so are not looked at: any number may stand there."""
     count = state["log"][0]
-    if t < 32:
-        k = r.randrange(t, 32)
-        yield from [("records", 5 * k, 255), ("records", 5 * k + 3, NEVER), ("records", 5 * k + 4, 2**32 - 1)]
+    places = [("records", 5 * t + j) for j in range(5)] + [("words", n * n)]
     if count < 128:
         i = r.randrange(count, 128)
-        yield from [("log", 3 * i + 1, 255), ("log", 3 * i + 2, NEVER), ("log", 3 * i + 3, 2**32 - 1)]
-    if n * n < 4096:
-        yield "words", n * n, NEVER - 1
+        places += [("log", 3 * i + j) for j in (1, 2, 3)]
+    for p, at in places:
+        for value in {r.randrange(2**64), NEVER}:
+            yield p, at, value
 
 
 def changed(given, p, at, value):
@@ -289,7 +292,7 @@ def changed(given, p, at, value):
 def check_out_of_range(c, r, file, t, given):
     """What is refused with 11 whatever the thread; just below it a number is used as given. How many calls."""
     least = [*edges(r, file, segments(file), t, given)]
-    wrong = [*no_states(r, given), *least, ("log", 0, 255), ("words", r.randrange(segments(file) ** 2), NEVER - 1)]
+    wrong = [*no_states(r, t, given), *least, ("log", 0, 255), ("words", r.randrange(segments(file) ** 2), NEVER - 1)]
     for p, at, value in wrong:
         for k in [given["thread"], 255]:
             c.refused("request", 11, {**changed(given, p, at, value), "thread": k}, "%s %d is %d" % (p, at, value))
@@ -302,7 +305,7 @@ def check_out_of_range(c, r, file, t, given):
 
 def check_unjudged(c, r, file, t, given):
     """What lies past the model's own changes no answer, and stays; a grant alone sets places past the log's count. How many calls."""
-    given = {**given, "words": given["words"] + filled("words", 0, 1)}
+    given = {**given, "words": given["words"] + filled("words", 0, 1), "records": given["records"] + filled("records", 0, 5)}
     (number, after), trials = c.call("request", given), [*unjudged(r, segments(file), t, given)]
     for p, at, value in trials:
         answered, left = c.call("request", changed(given, p, at, value))

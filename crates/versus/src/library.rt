@@ -1,8 +1,13 @@
 // The library's side: its functions on models in files and on states as words, laid out as in `second::layout`.
+use clock::Cycle;
+use clock::Delta;
 use clock::ThreadNo;
+use clock::Time;
 use early::Answer;
 use early::Site;
 use model::Model;
+use model::State;
+use model::Thread;
 use model::Threads;
 use second::issue::Reply;
 use second::layout;
@@ -52,10 +57,18 @@ fn hold_site(held: &mut [u64], site: Site, values: &mut [u32; 64]) {
     }
 }
 
+// The same, with the first t of 40 records.
+fn hold_front(held: &mut [u64; 640], site: Site, records: [Thread; 40], t: u8) {
+    let mut values = [0u32; 64];
+    hold_site(held, site, &mut values);
+    export_state::threads_into(export_state::first_threads(records), t, held);
+    hold_values(held, &values);
+}
+
 fn hold_state(held: &mut [u64; 640], site: Site, threads: Threads) {
     let mut values = [0u32; 64];
     hold_site(held, site, &mut values);
-    export_state::threads_into(threads, held);
+    export_state::threads_into(threads, 32, held);
     hold_values(held, &values);
 }
 
@@ -66,7 +79,7 @@ pub fn run(m: Model, budget: u64, held: &mut [u64; 640]) {
     let values = variables.at;
     let threads = r.threads;
     hold_values(held, &values);
-    export_state::threads_into(threads, held);
+    export_state::threads_into(threads, 32, held);
     held[layout::ANSWER] = number::wide(r.number);
     held[layout::RAN] = r.n;
     held[layout::SPENT] = if r.spent { 1 } else { 0 };
@@ -89,18 +102,74 @@ fn reply_of(a: Answer) -> Reply {
     }
 }
 
-// A request of thread k. The model is read again: whoever hands it on is dear to prove.
-pub fn ask(file: &[u8], words: &[u64; 4096], held: &mut [u64; 640], k: u64) -> Reply {
+// A record that no model has: what is lent past the threads.
+fn junk() -> Thread {
+    let c = Cycle {
+        time: Time(18446744073709551615),
+        delta: Delta(4294967295),
+    };
+    Thread {
+        segment: 255,
+        state: State::Waiting(255, c),
+    }
+}
+
+// The records of t threads, and junk past them.
+fn records_in(held: &[u64; 640], t: u8) -> [Thread; 40] {
+    let mut records = export_state::threads_from(held, t);
+    let mut k = buffers::wide(t);
+    while k < 40 {
+        records[k] = junk();
+        k += 1;
+    }
+    records
+}
+
+// The first 32 of 40 records as words.
+fn words_of(records: [Thread; 40]) -> [u64; 160] {
+    let mut words = [0u64; 160];
+    export_state::threads_into(export_state::first_threads(records), 32, &mut words);
+    words
+}
+
+// Whether two lists of records are the same from thread t on.
+fn are_same_past(a: &[u64; 160], b: &[u64; 160], t: u8) -> bool {
+    let mut i = 5 * buffers::wide(t);
+    while i < 160 {
+        if a[i] != b[i] {
+            return false;
+        }
+        i += 1;
+    }
+    true
+}
+
+// A request of thread k on a slice of so many records, of which those past the threads are junk. The model is read again: whoever hands
+// it on is dear to prove. An answer of 255 tells that junk was written to.
+pub fn ask(file: &[u8], words: &[u64; 4096], held: &mut [u64; 640], k: u64, lent: usize) -> Reply {
     let m = model_in(file);
+    let t = m.t;
     let marks = tables_conflict::conflict_marks(m);
     let site = site_in(held);
-    let threads = export_state::threads_from(held);
-    let after = early_request::request(m, marks, words, site, threads, ThreadNo((k % 256) as u8));
-    let answer = after.answer;
-    let left = after.site;
-    let records = after.threads;
-    hold_state(held, left, records);
-    reply_of(answer)
+    let records = records_in(held, t);
+    let before = words_of(records);
+    let left = early_lent::request_first(
+        m,
+        marks,
+        words,
+        site,
+        records,
+        lent,
+        ThreadNo((k % 256) as u8),
+    );
+    let asked = left.asked;
+    let answer = asked.answer;
+    let after = left.records;
+    hold_front(held, asked.site, after, t);
+    if are_same_past(&before, &words_of(after), t) {
+        return reply_of(answer);
+    }
+    reply(255, 0, 0, 0)
 }
 
 // A list of requests in one call, with its number and how many were granted.
@@ -114,7 +183,7 @@ pub fn ask_all(
     let m = model_in(file);
     let marks = tables_conflict::conflict_marks(m);
     let site = site_in(held);
-    let threads = export_state::threads_from(held);
+    let threads = export_state::first_threads(export_state::threads_from(held, 32));
     let o = early_request::requests(m, marks, words, site, threads, ks, answers);
     let left = o.site;
     let records = o.threads;

@@ -161,6 +161,16 @@ fn issue_next(
     r
 }
 
+// How many records are lent to the n-th request of a model with t threads: t, one more, or 40.
+fn lent(t: u64, n: u64) -> usize {
+    let few = (t % 33) as usize;
+    match n % 3 {
+        0 => few,
+        1 => few + 1,
+        _ => 40,
+    }
+}
+
 // Both answers and both states.
 fn hold_turn(
     totals: &mut [u64; 16],
@@ -204,7 +214,13 @@ fn turn(
         return end;
     }
     let b = issue_next(totals, file, g, desk, word);
-    let a = library::ask(file, words, held, word);
+    let a = library::ask(
+        file,
+        words,
+        held,
+        word,
+        lent(at(desk, simulator::THREADS, 0), l.made),
+    );
     ks[(l.made % 4096) as usize] = (word % 256) as u8;
     note(answers, l.made, b);
     after(l, word, b.number, hold_turn(totals, l, desk, held, a, b))
@@ -295,7 +311,7 @@ fn hold_ending(
         hold_ended(totals, file, held, l);
         return;
     }
-    let r = library::ask(file, words, held, least);
+    let r = library::ask(file, words, held, least, 40);
     compare::hold_number(totals, l.seed, l.number, l.made, r.number, 0);
     crate::add(totals, WENT_ON, 1);
 }
@@ -359,11 +375,21 @@ fn spoil_pair(held: &mut [u64; 640], way: u64, e: u64) {
     }
 }
 
+// Places past the log's count are 0.
+fn clear_log(held: &mut [u64; 640]) {
+    let mut i: u64 = 0;
+    while i < 385 {
+        number::put(held, layout::LOG as u64, i, 0);
+        i += 1;
+    }
+}
+
 // A state that is not fit: by its first thread, its first notification, or the log's count.
 fn spoil(held: &mut [u64; 640], way: u64, n: u64, e: u64) {
     match way % 3 {
         0 => spoil_thread(held, way / 3, n, e),
         1 => {
+            clear_log(held);
             spoil_pair(held, way / 3, e);
             held[layout::LOG] = 1;
         }
@@ -371,7 +397,7 @@ fn spoil(held: &mut [u64; 640], way: u64, n: u64, e: u64) {
     }
 }
 
-// An unfit state is refused with 11, and stays.
+// An unfit state, or too few records, are refused with 11, and all stays.
 fn refuse(
     totals: &mut [u64; 16],
     seed: u64,
@@ -379,9 +405,10 @@ fn refuse(
     words: &[u64; 4096],
     held: &mut [u64; 640],
     k: u64,
+    lent: usize,
 ) {
     let same = *held;
-    let r = library::ask(file, words, held, k);
+    let r = library::ask(file, words, held, k, lent);
     tally(totals, 11, 0, 0);
     compare::hold_number(totals, seed, 6, 0, r.number, 11);
     compare::hold(totals, seed, 6, 0, held, &same, layout::ALL);
@@ -394,12 +421,22 @@ fn hold_unfit(totals: &mut [u64; 16], seed: u64, file: &[u8], words: &[u64; 4096
     let mut held = layout::words_of(&desk);
     if seed % 4 == 0 {
         let far = [1024000000000u64; 4096];
-        refuse(totals, seed, file, &far, &mut held, k);
+        refuse(totals, seed, file, &far, &mut held, k, 40);
         return;
     }
     let n = at(&desk, simulator::SEGMENTS, 0);
     spoil(&mut held, seed / 4, n, simulator::byte(file, 9, 0));
-    refuse(totals, seed, file, words, &mut held, k);
+    refuse(totals, seed, file, words, &mut held, k, 40);
+}
+
+// The fresh state with no thread records lent, or one too few.
+fn hold_short(totals: &mut [u64; 16], seed: u64, file: &[u8], words: &[u64; 4096]) {
+    let mut desk = [0u64; 640];
+    let t = start::set_up(file, seed, 0, &mut desk);
+    let mut held = layout::words_of(&desk);
+    let few = if seed % 2 == 0 { 0 } else { number::less(t) };
+    let k = any_thread(seed, t);
+    refuse(totals, seed, file, words, &mut held, k, few as usize);
 }
 
 // The fresh state.
@@ -430,5 +467,6 @@ pub fn hold_lists(totals: &mut [u64; 16], seed: u64, bytes: &[u8; 16384], size: 
     library::fill_words(file, &mut words);
     hold_fresh(totals, seed, file, &desk);
     hold_unfit(totals, seed, file, &words);
+    hold_short(totals, seed, file, &words);
     hold_all(totals, seed, file, &words, &g);
 }
