@@ -1,5 +1,6 @@
 -- Document 01, "Early issue" and "Numbers of refusal": a request, and a list of requests. "Requests: 11, 10, 12, 13, 14, 15."
 use Prim.Native.Nat.{ℕ}
+use mathlib.Core.Path.{_≡_}
 use mathlib.Core.Bool.{Bool, false, cond, not, _&&_, _||_}
 use mathlib.Core.List.{List, [], _∷_, _++_}
 use lib.Dec.{ltb, eqb}
@@ -21,6 +22,7 @@ use Rattle.early.specs.declared.Notification.{Notification}
 use Rattle.early.specs.declared.Site.{Site}
 use Rattle.early.specs.declared.Answer.{Answer}
 use Rattle.early.specs.declared.Answer.the-variants.{Granted, Refused}
+use Rattle.early.specs.Answer.{numberOf, valuesOf}
 use Rattle.early.specs.Log.{places, logOf, siteOf, placesWith, countedPlaces}
 use Rattle.early.specs.Hazard.{hazard}
 use Rattle.early.specs.Fit.{isUnfit}
@@ -90,6 +92,20 @@ requestFit m marks ws site ts k =
 unfoldable pub requestOf : Model → List (List Bool) → List ℕ → Site → List Thread → ℕ → Requested
 requestOf m marks ws site ts k =
     cond (isUnfit m ws site ts) (refusedWith unfit site ts) (requestFit m marks ws site ts k)
+
+-- The promises of the answer, by "this paper's number and values for each of its cases": the first number that applies, 0 for a grant, and
+-- "the segment run with its cycle".
+unfoldable pub answerNumber : Model → List (List Bool) → List ℕ → Site → List Thread → ℕ → ℕ
+answerNumber m marks ws site ts k = cond (isUnfit m ws site ts) unfit (numberIn m marks ws site ts k)
+
+unfoldable pub answerValues : Model → List (List Bool) → List ℕ → Site → List Thread → ℕ → List ℕ
+answerValues m marks ws site ts k =
+    let t = threadAt ts k in
+    cond (eqb (answerNumber m marks ws site ts k) accepted) (valuesOf (Granted (t .segment) (cycleOf (t .state)))) []
+
+pub record Answers (m : Model) (marks : List (List Bool)) (ws : List ℕ) (site : Site) (ts : List Thread) (k : ℕ) (a : Answer) : Type 0 where
+  pub number : numberOf a ≡ answerNumber m marks ws site ts k
+  pub values : valuesOf a ≡ answerValues m marks ws site ts k
 
 -- "The fresh state, thread records included, is the plain run's start with an empty log"
 unfoldable pub freshSite : Site

@@ -2,13 +2,14 @@
 -- state, for a thread ready before the horizon and with places left, it is granted exactly where no hazard stands.
 use Prim.Native.Nat.{ℕ, _<_}
 use mathlib.Core.Path.{_≡_, refl, ap, sym, subst, fun-ext}
-use mathlib.Core.Logic.{_↔_}
-use mathlib.Core.Bool.{Bool, true, false}
+use mathlib.Core.Logic.{_↔_, _⊎_, inl, inr}
+use mathlib.Core.Bool.{Bool, true, false, not}
 use mathlib.Core.List.{List, [], _∷_, _++_, append-assoc, append-nil}
+use native.Mathlib.Decide.{ℕ-discrete}
 use native.Mathlib.Omega.{arith}
-use lib.Dec.{T-not}
+use lib.Dec.{T, T-not}
 use borrow.Author.Tests.{ne-eqb}
-use Rattle.base.proofs.BoolLaws.{cond-case, T→true, T→false, true→T, false→T}
+use Rattle.base.proofs.BoolLaws.{cond-case, T-case, T→true, T→false, true→T, false→T}
 use Rattle.clock.specs.declared.Cycle.{Cycle}
 use Rattle.clock.specs.declared.Bound.the-variants.{At}
 use Rattle.model.specs.declared.Model.{Model}
@@ -25,7 +26,7 @@ use Rattle.early.specs.Log.{logOf, countedPlaces}
 use Rattle.early.specs.Hazard.{hazard}
 use Rattle.early.specs.Fit.{isUnfit}
 use Rattle.early.specs.Answer.{numberOf}
-use Rattle.early.specs.Request.{isFull, numberIn, Requested, refusedWith, grantedTo, answeredBy, requestFit, requestOf, requestsOf}
+use Rattle.early.specs.Request.{isFull, numberIn, Requested, refusedWith, grantedTo, answeredBy, requestFit, requestOf, answerNumber, answerValues, Answers, requestsOf}
 use Rattle.early_laws.proofs.NumberLaws.{readyCycle→cycle, Decided, refuses, passes, numberFor-decided, passed→numberFor}
 
 module _ (m : Model) (marks : List (List Bool)) (ws : List ℕ) (site : Site) (ts : List Thread) (k : ℕ) where
@@ -61,6 +62,21 @@ module _ (m : Model) (marks : List (List Bool)) (ws : List ℕ) (site : Site) (t
       go fit (passes c p) =
           rw (readyCycle→cycle (threadAt ts k .state) c (p .ready))
           (granted c (record { fit = fit; thread = p .thread; ready = p .ready; before-horizon = p .in-time; no-hazard = p .no-hazard; room = p .room }))
+
+  -- the answer by its number and its values
+  pub requestOf-answers : Answers m marks ws site ts k (requestOf m marks ws site ts k .answer)
+  unfolding requestOf requestFit answeredBy grantedTo answerNumber answerValues
+  requestOf-answers = go (T-case (isUnfit m ws site ts)) (ℕ-discrete (numberIn m marks ws site ts k) accepted)
+    where
+      go : T (isUnfit m ws site ts) ⊎ T (not (isUnfit m ws site ts)) → Dec (numberIn m marks ws site ts k ≡ accepted) → Answers m marks ws site ts k (requestOf m marks ws site ts k .answer)
+      go (inl t) d = let e = T→true (isUnfit m ws site ts) t in record { number = rw e refl; values = rw e refl }
+      go (inr t) (yes z) =
+          let e = T→false (isUnfit m ws site ts) t in
+          record { number = rw (e, z) refl; values = rw (e, z) refl }
+      go (inr t) (no other) =
+          let e = T→false (isUnfit m ws site ts) t in
+          let n = ne-eqb (numberIn m marks ws site ts k) accepted other in
+          record { number = rw (e, n) refl; values = rw (e, n) refl }
 
   -- "A refused request returns the number with state and thread records as handed in."
   pub requestOf-refused : (numberOf (requestOf m marks ws site ts k .answer) ≡ 0 → ⊥)

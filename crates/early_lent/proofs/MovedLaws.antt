@@ -23,9 +23,10 @@ use Rattle.model_rules.proofs.RuleLaws.{modelFault-counts}
 use Rattle.early.specs.declared.Site.{Site}
 use Rattle.early.specs.declared.After.{After}
 use Rattle.early.specs.declared.Answer.the-variants.{Refused}
-use Rattle.early.specs.Request.{Requested, refusedWith, requestOf}
+use Rattle.early.specs.Request.{Requested, refusedWith, requestOf, Answers}
 use Rattle.early_laws.proofs.AgreeLaws.{Agree}
 use Rattle.early_laws.proofs.AlikeLaws.{AlikeAfter, requestOf-unread, requestOf-unwritten, requestOf-length, requestOf-short, requestOf-faulty}
+use Rattle.early_laws.proofs.RequestLaws.{requestOf-answers}
 use Rattle.early_request.specs.After.{afterOf}
 use Rattle.early_lent.specs.declared.Done.{Done}
 use Rattle.early_lent.specs.Answered.{askedOf}
@@ -154,6 +155,9 @@ module _ (m : Model) (marks : List (List Bool)) (ws : List ℕ) (site : Site) (t
   pub moved-back : stored ts n (doneOf (requestLent m marks ws site before (length ts) k) .threads) ≡ requestOf m marks ws site ts k .threads
   unfolding doneOf
   moved-back = lent-right .back
+
+  pub moved-answers : Answers m marks ws site ts k (doneOf (requestLent m marks ws site before (length ts) k) .asked .answer)
+  moved-answers = rw moved-asked (requestOf-answers m marks ws site ts k)
 
 -- the exits of the core on a slice of so many records
 module _ (m : Model) (marks : List (List Bool)) (ws : List ℕ) (site : Site) (before : Threads) (lent k : ℕ) where

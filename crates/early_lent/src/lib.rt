@@ -9,7 +9,7 @@ use model::Threads;
 ghost use mathlib.Core.Path.{_≡_};
 ghost use Prim.Native.Nat.{_<_, _≤_};
 ghost use lib.ListN.{length, take, drop};
-ghost use Rattle.early.specs.Request.{requestOf};
+ghost use Rattle.early.specs.Request.{requestOf, Answers};
 ghost use Rattle.early_lent.specs.Answered.{askedOf, lentOf, requestFirst};
 ghost use Rattle.early_lent.specs.Moved.{placedAt, takenAt, loaded, stored, movedOf, requestLent, doneOf};
 
@@ -116,7 +116,8 @@ pub fn request(
     k: ThreadNo,
 ) -> Asked
     ensures { λ r. ⌜ (r ≡ askedOf (requestOf m marks (now (words .entry)) site (now (threads .entry)) (k .0)))
-        × (now (threads .exit) ≡ requestOf m marks (now (words .entry)) site (now (threads .entry)) (k .0) .threads) ⌝ }
+        × (now (threads .exit) ≡ requestOf m marks (now (words .entry)) site (now (threads .entry)) (k .0) .threads)
+        × Answers m marks (now (words .entry)) site (now (threads .entry)) (k .0) (r .answer) ⌝ }
 {
     let lent = threads.len();
     let n = moved(lent, m.t);

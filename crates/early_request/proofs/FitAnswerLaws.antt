@@ -30,12 +30,14 @@ use Rattle.early.specs.declared.Site.{Site}
 use Rattle.early.specs.Log.{logOf}
 use Rattle.early.specs.Deliver.{settled}
 use Rattle.early.specs.Hazard.{hazard}
+use Rattle.early.specs.declared.After.{After}
 use Rattle.early.specs.Grant.{effectAt, logAfter, closedThreads}
-use Rattle.early.specs.Request.{numberIn, grantedTo, refusedWith, answeredBy, requestFit, requestOf}
+use Rattle.early.specs.Request.{numberIn, grantedTo, refusedWith, answeredBy, requestFit, requestOf, Answers}
 use Rattle.early.specs.Fit.{isUnfit}
 use Rattle.early_laws.proofs.FitLaws.{isFitThread→, isUnfitThreads→}
 use Rattle.early_laws.proofs.NumberLaws.{readyCycle→cycle, numberFor→passed, numberFor-same}
 use Rattle.early_laws.proofs.GrantLaws.{closedThreads-self}
+use Rattle.early_laws.proofs.RequestLaws.{requestOf-answers}
 use Rattle.early_limits.specs.Ahead.{reachOf}
 use Rattle.early_limits.proofs.StateLaws.{FitState, isUnfit→FitState, fit-counts, fit-threads, fit-segment, ready-fit}
 use Rattle.early_limits.proofs.AheadLaws.{hazard-limit}
@@ -107,6 +109,11 @@ module _ (m : Model) (marks : List (List Bool)) (ws : List ℕ) (site : Site) (t
 
 -- the request, 11 first
 module _ (m : Model) (marks : List (List Bool)) (ws : List ℕ) (site : Site) (ts : List Thread) (k : ℕ) where
+  -- what a request returns, with its answer by number and values
+  pub after-answers : {a : After} → a ≡ afterOf (requestOf m marks ws site ts k) → (a ≡ afterOf (requestOf m marks ws site ts k)) × Answers m marks ws site ts k (a .answer)
+  unfolding afterOf
+  after-answers e = (e, rw e (requestOf-answers m marks ws site ts k))
+
   pub request-unfit : isUnfit m ws site ts ≡ true → afterOf (refusedWith 11 site ts) ≡ afterOf (requestOf m marks ws site ts k)
   unfolding requestOf
   request-unfit e = rw e refl

@@ -31,7 +31,7 @@ ghost use Rattle.plain.specs.Start.{freshThreads};
 ghost use Rattle.plain.specs.Wake.{floorBelow};
 ghost use Rattle.early.specs.Log.{logOf, placesWith};
 ghost use Rattle.early.specs.Fit.{isUnfit};
-ghost use Rattle.early.specs.Request.{isFullBy, numberReady, refusedWith, freshSite, requestOf, requestsOf};
+ghost use Rattle.early.specs.Request.{isFullBy, numberReady, refusedWith, freshSite, requestOf, Answers, requestsOf};
 ghost use Rattle.early_limits.specs.Ahead.{reachOf};
 ghost use Rattle.early_request.specs.Answered.{hazardOn, numberOn, effectFrom, grantOn, runOn, answeredOn};
 ghost use Rattle.early_request.specs.After.{afterOf};
@@ -310,7 +310,8 @@ pub fn request(
     threads: Threads,
     k: ThreadNo,
 ) -> After
-    ensures { λ r. ⌜ r ≡ afterOf (requestOf m marks (now (words .entry)) site (threads .at) (k .0)) ⌝ }
+    ensures left { λ r. ⌜ r ≡ afterOf (requestOf m marks (now (words .entry)) site (threads .at) (k .0)) ⌝ }
+    ensures answers { λ r. ⌜ Answers m marks (now (words .entry)) site (threads .at) (k .0) (r .answer) ⌝ }
 {
     if early_fit::is_unfit(m, words, site, threads) {
         return refused(11, site, threads);

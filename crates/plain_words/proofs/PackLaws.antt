@@ -2,20 +2,22 @@
 --     part-none, part-more, part-before     what a loop stores from a place on; what stands before it is kept
 --     segment-read     a segment is read past no end
 --     isCode-none, isCode-more     no segment, and one segment more
-use Prim.Native.Nat.{ℕ, _+_, _*_, _<_}
-use mathlib.Core.Path.{_≡_, refl, _∙_}
+--     isCode-codeOf     all 64 segments: the model's words, and no others
+use Prim.Native.Nat.{ℕ, zero, suc, _+_, _*_, _/_, _%_, _<_}
+use mathlib.Core.Path.{_≡_, refl, ap, _∙_}
 use mathlib.Core.List.{List, []}
 use native.Mathlib.Omega.{arith}
 use native.Mathlib.Decide.{ℕ-discrete}
 use lib.ListN.{length, getD, set, replicate, length-set}
 use lib.Seq.{getD-set-same, getD-set-other}
 use Rattle.base.proofs.ListLaws.{getD-any}
+use Rattle.base.proofs.IndexLaws.{tabulate-is}
 use Rattle.model.specs.declared.Model.{Model}
 use Rattle.model.specs.declared.Closer.the-variants.{End}
 use Rattle.model.specs.declared.Segment.{Segment}
 use Rattle.model.specs.Values.{noStatement, noSegment, segmentAt}
 use Rattle.plain_words.proofs.SetLaws.{set-case}
-use Rattle.plain_words.specs.Pack.{Held, packEnd, packChoice, IsCode}
+use Rattle.plain_words.specs.Pack.{Held, packEnd, packChoice, segmentWord, codeOf, IsCode}
 
 module _ (P : ℕ → ℕ → Type 0) where
   pub part-none : (xs : List ℕ) (base i : ℕ) → i < 0 → P i (getD xs (base + i) 0)
@@ -89,3 +91,14 @@ module _ (m : Model) (code xs : List ℕ) (s : ℕ) (room : s < 64) (is : IsCode
       held-at : (i j : ℕ) → i < s + 1 → j < 32 → Dec (i ≡ s) → Held (getD (segmentAt m i .statements) j noStatement .op) (getD xs (34 * i + 2 + j) 0)
       held-at i j h l (yes q) = rw (q, ← same) (held j l)
       held-at i j h l (no q) = rw (kept (34 * i + 2 + j) (omega arith)) (is .held i j (omega arith) l)
+
+pub isCode-codeOf : (m : Model) (code : List ℕ) → IsCode m 64 code → code ≡ codeOf m
+unfolding segmentWord
+isCode-codeOf m code is =
+    tabulate-is 0 code 2176 (λ i. segmentWord (segmentAt m (i / 34)) (i % 34)) (is .size)
+    (λ i h. let e : i ≡ 34 * (i / 34) + i % 34 = omega arith in ap (λ (k : ℕ). getD code k 0) e ∙ at (i / 34) (i % 34) (omega arith) (omega arith))
+  where
+    at : (s j : ℕ) → s < 64 → j < 34 → getD code (34 * s + j) 0 ≡ segmentWord (segmentAt m s) j
+    at s zero h l = ap (λ (k : ℕ). getD code k 0) (omega arith) ∙ is .end s h
+    at s (suc zero) h l = is .next s h
+    at s (suc (suc j)) h l = ap (λ (k : ℕ). getD code k 0) (omega arith) ∙ is .held s j h (omega arith) .word

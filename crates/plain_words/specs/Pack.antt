@@ -1,13 +1,15 @@
 -- A model's segments as words.
-use Prim.Native.Nat.{ℕ, _+_, _*_, _<_, _^_}
+use Prim.Native.Nat.{ℕ, zero, suc, _+_, _*_, _/_, _%_, _<_, _^_}
 use mathlib.Core.Path.{_≡_}
 use mathlib.Core.List.{List}
 use lib.ListN.{length, getD}
+use Rattle.base.specs.Index.{tabulate}
 use Rattle.model.specs.declared.Op.{Op}
 use Rattle.model.specs.declared.Op.the-variants.{Set, Add, Copy, AddVariable, SubVariable, Notify}
 use Rattle.model.specs.declared.Next.{Next}
 use Rattle.model.specs.declared.Closer.{Closer}
 use Rattle.model.specs.declared.Closer.the-variants.{End, Time, Event}
+use Rattle.model.specs.declared.Segment.{Segment}
 use Rattle.model.specs.declared.Model.{Model}
 use Rattle.model.specs.Values.{noStatement, segmentAt}
 
@@ -48,7 +50,17 @@ packChoice End = 0
 packChoice (Time k x) = packNext x
 packChoice (Event e x) = packNext x
 
--- the words of a model's first n segments, 34 for each
+-- the 34 words of a segment: how it closes, its next segments, its statements
+unfoldable pub segmentWord : Segment → ℕ → ℕ
+segmentWord g zero = packEnd (g .n) (g .closer)
+segmentWord g (suc zero) = packChoice (g .closer)
+segmentWord g (suc (suc j)) = packOp (getD (g .statements) j noStatement .op)
+
+-- the words of a model, of its 64 segments one after the other
+abbrev pub codeOf : Model → List ℕ
+codeOf m = tabulate 2176 0 (λ i. segmentWord (segmentAt m (i / 34)) (i % 34))
+
+-- words that hold the model's first n segments, and can be read back
 pub record IsCode (m : Model) (n : ℕ) (code : List ℕ) : Type 0 where
   pub size : length code ≡ 2176
   pub places : (s : ℕ) → s < n → length (segmentAt m s .statements) ≡ 32

@@ -8,7 +8,7 @@ ghost use mathlib.Core.Path.{_≡_};
 ghost use Prim.Native.Nat.{ℕ, _+_, _-_, _*_, _%_, _≤_, _<_, _^_};
 ghost use lib.ListN.{getD, length};
 ghost use Rattle.model.specs.Values.{noStatement};
-ghost use Rattle.plain_words.specs.Pack.{Held, packEnd, packNext, packChoice, IsCode};
+ghost use Rattle.plain_words.specs.Pack.{Held, packEnd, packNext, packChoice, codeOf, IsCode};
 ghost use Rattle.plain_words.specs.Unpack.{endBy, sizeBy, nextBy, followBy};
 ghost use Rattle.plain_words.specs.Reach.{lesserOf, greaterOf, widened};
 ghost use Rattle.plain_words.specs.Shared.{shared, executeWord, executeBy};
@@ -82,7 +82,8 @@ fn pack_statements(g: Segment, base: usize, code: &mut [u64; 2176])
 
 // The words of a model, whether it keeps the file rules or not.
 pub fn pack(m: Model) -> [u64; 2176]
-    ensures { λ r. ⌜ IsCode m 64 r ⌝ }
+    ensures words { λ r. ⌜ r ≡ codeOf m ⌝ }
+    ensures held { λ r. ⌜ IsCode m 64 r ⌝ }
 {
     let mut code = [0u64; 2176];
     let mut s = 0;

@@ -13,7 +13,7 @@ ghost use lib.ListN.{length};
 ghost use Rattle.clock.specs.Advance.{advanceOf};
 ghost use Rattle.model.specs.Refusal.{accepted, unfit, shortTable};
 ghost use Rattle.model.specs.Rules.{modelFault};
-ghost use Rattle.tables.specs.Word.{stored};
+ghost use Rattle.tables.specs.Word.{stored, HoldsDistances};
 ghost use Rattle.tables.specs.Outcome.{ifHeld, distancesNumber, distancesBuffer};
 ghost use Rattle.tables_distance.specs.Store.{far, heldWord, sumWord, stepsOf, directWord, directTo, directRows, relaxedTo, roundTo, roundsTo, cutTo};
 
@@ -206,10 +206,11 @@ fn refusal(m: Model, size: usize) -> u8
     0
 }
 
-// The distances of a held model, N × N words. On a refusal no word is written.
+// The distances of a held model, N × N words, each the least over all paths. On a refusal no word is written.
 pub fn distances(m: Model, words: &mut [u64]) -> u8
     ensures number { λ r. ⌜ r ≡ distancesNumber m (now (words .entry)) ⌝ }
     ensures buffer { λ _. ⌜ now (words .exit) ≡ distancesBuffer m (now (words .entry)) ⌝ }
+    ensures least { λ r. ⌜ (r ≡ accepted → HoldsDistances m (now (words .exit))) ⌝ }
 {
     let number = refusal(m, words.len());
     if number == 0 {

@@ -23,8 +23,8 @@ use Rattle.model.specs.Limits.{cutTime}
 use Rattle.model.specs.Rules.{modelFault}
 use Rattle.model_rules.proofs.RuleLaws.{modelFault-counts}
 use Rattle.tables.specs.Distance.{distanceTable, distanceOf, cell, cut}
-use Rattle.tables.specs.Word.{allOnes, wordOf, boundOf, joined, wordsOf, stored, distanceIn}
-use Rattle.tables_laws.proofs.DistanceLaws.{distanceOf-time, distanceOf-delta}
+use Rattle.tables.specs.Word.{allOnes, wordOf, boundOf, joined, wordsOf, stored, distanceIn, HoldsDistances}
+use Rattle.tables_laws.proofs.DistanceLaws.{distanceOf-is, distanceOf-time, distanceOf-delta}
 
 -- a packed cycle, taken apart again
 packed-time : (t d : ℕ) → d < 1024 → (t * 1024 + d) / 1024 ≡ t
@@ -134,6 +134,17 @@ module _ (m : Model) where
     pub distanceIn-wordsOf : (r s : ℕ) → r < m .n → s < m .n → distanceIn m (wordsOf m) r s ≡ distanceOf m r s
     unfolding distanceIn
     distanceIn-wordsOf r s h l = rw (wordsOf-at r s h l) (boundOf-wordOf (distanceOf-packed r s h l))
+
+    -- and so does a buffer that begins with them
+    pub stored-holds : (ws : List ℕ) → HoldsDistances m (stored m ws)
+    unfolding stored distanceIn
+    stored-holds ws =
+        record {
+          each = λ r s h l.
+              let inside : r * m .n + s < length (wordsOf m) = (let below : suc r * m .n ≤ m .n * m .n = mul-le-mul-right (m .n) h in omega (arith, wordsOf-length, suc-mul r (m .n))) in
+              let same : getD (wordsOf m ++ drop (m .n * m .n) ws) (r * m .n + s) 0 ≡ getD (wordsOf m) (r * m .n + s) 0 = List·getD-append (wordsOf m) (drop (m .n * m .n) ws) 0 (r * m .n + s) inside in
+              rw (same, distanceIn-wordsOf r s h l) (distanceOf-is m r s h l);
+        }
 
     pub wordsOf-word : (i : ℕ) → i < m .n * m .n → getD (wordsOf m) i 0 ≡ wordOf (distanceOf m (i / m .n) (i % m .n))
     wordsOf-word i h =

@@ -57,7 +57,7 @@ use Rattle.model.proofs.Model.Laws as Mod′
 use Rattle.model.proofs.Thread as T
 use Rattle.model.proofs.Thread.Laws as T′
 use Rattle.early.specs.declared.Site.{Site}
-use Rattle.early.specs.Request.{Requested, requestOf}
+use Rattle.early.specs.Request.{Requested, requestOf, Answers}
 use Rattle.early.proofs.Site as Sit
 use Rattle.early.proofs.Site.Laws as Sit′
 use Rattle.early_lent.specs.declared.Asked.{Asked}
@@ -277,8 +277,8 @@ module _ {M : Type 1} (𝓤 : URA M) (H : Heap 𝓤) (A : Atoms 𝓤) (W : Given
         (and-then ! (load ! (from ! (stop !)) (look ! 24 refl)) (and-then ! (load ! (from ! (stop !)) (look ! 22 refl)) (and-then ! (load ! (from ! (stop !)) (look ! 20 refl)) (and-then ! (load ! (from ! (stop !)) (look ! 18 refl)) (and-then ! (load ! (from ! (stop !)) (look ! 5 refl)) (and-then ! (load ! (from ! (stop !)) (look ! 12 refl)) (no-more !))))))) (λ v.
         use1 W (later (some (λ (r : Asked). ((‵ (flft κ q) ⊛ ‵ (flft (ν ∷ []) fullShare) ⊛ ‵ ftrue) ⊛ ‵ (Ans.the-row .own r (v ∷ []))) ⊛ raw (ensured 𝓤 H A request.ended (request.clauses 𝓤 H A mem run) (κ, (ν ∷ [], tt)) (given-args l₈ ν δ) tt r)))) (id⊢ 𝓤 _) $ await ! tt $ pick ! (λ r.
         split ! $ move ! (1 ∷ []) $
-        use1 W (some (λ (us : Unit {0} × (Unit {0} × (Unit {0} × (Unit {0} × (List Thread × (Unit {0} × Unit {0})))))). ‵ (lasts request.ended (κ, (ν ∷ [], tt)) (given-args l₈ ν δ) us) ⊛ raw (fact 𝓤 ((r ≡ askedOf asked) × (us .1 .1 .1 .1 .0 ≡ asked .threads))))) (id⊢ 𝓤 _) $ pick ! (λ us.
-        split ! $ move ! (1 ∷ []) $ heard ! ((r ≡ askedOf asked) × (us .1 .1 .1 .1 .0 ≡ asked .threads)) (λ e.
+        use1 W (some (λ (us : Unit {0} × (Unit {0} × (Unit {0} × (Unit {0} × (List Thread × (Unit {0} × Unit {0})))))). ‵ (lasts request.ended (κ, (ν ∷ [], tt)) (given-args l₈ ν δ) us) ⊛ raw (fact 𝓤 ((r ≡ askedOf asked) × (us .1 .1 .1 .1 .0 ≡ asked .threads) × Answers m marks (ds .now) site (take n xs) (k .0) (r .answer))))) (id⊢ 𝓤 _) $ pick ! (λ us.
+        split ! $ move ! (1 ∷ []) $ heard ! ((r ≡ askedOf asked) × (us .1 .1 .1 .1 .0 ≡ asked .threads) × Answers m marks (ds .now) site (take n xs) (k .0) (r .answer)) (λ e.
         -- [what is last of each argument; the tokens and the answer; the words; the front's claim; _12; …]
         fsplit ! $ drop ! $ fsplit ! $ drop ! $ fsplit ! $ drop ! $ fsplit ! $ drop ! $ fsplit ! $ fsplit ! $ move ! (1 ∷ []) $ feqL ! (λ long.
         move ! (2 ∷ []) $ split ! $ move ! (1 ∷ []) $ peeks ! Ans.the-row (Is Ans.the-row) (shows 𝓤 H A Ans.the-row) r (v ∷ []) (λ r-is. drop ! $

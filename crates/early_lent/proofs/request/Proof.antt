@@ -65,7 +65,7 @@ use Rattle.early.proofs.Site.Laws as Sit′
 use Rattle.early_lent.specs.declared.Asked.{Asked}
 use Rattle.early_lent.specs.declared.Done.{Done}
 use Rattle.early_lent.specs.Moved.{loaded, stored, noThreads, movedOf, requestLent, doneOf}
-use Rattle.early_lent.proofs.MovedLaws.{movedOf-le, moved-asked, moved-back}
+use Rattle.early_lent.proofs.MovedLaws.{movedOf-le, moved-asked, moved-back, moved-answers}
 use Rattle.early_lent.proofs.LendLaws.{Waiting, lent-out, given-back}
 use Rattle.early_lent.proofs.WalkLaws.{threadsVal, carry, threads-carry, clause}
 use Rattle.early_lent.proofs.Asked as Ans
@@ -286,7 +286,7 @@ module _ {M : Type 1} (𝓤 : URA M) (H : Heap 𝓤) (A : Atoms 𝓤) (W : Given
   exits us e long is =
       qed W (Ended us) ∵
       suffices ! _ (ends-at 𝓤 H A request.ended stayed (request.clauses 𝓤 H A mem run) W (((κ, (κ′, tt)), (q, (q′, tt)), tt, args, words), tt) (askedVal (left .asked)) (left .asked) (tt, (tt, (tt, (tt, (us, (tt, tt)))))) (tt, (tt, (tt, (tt, (long, (tt, tt))))))) $
-      says ! (moved-asked m marks (ds .now) site ts (k .0), e ∙ moved-back m marks (ds .now) site ts (k .0)) $
+      says ! (moved-asked m marks (ds .now) site ts (k .0), e ∙ moved-back m marks (ds .now) site ts (k .0), moved-answers m marks (ds .now) site ts (k .0)) $
       move ! (2 ∷ []) $ split ! $ move ! (0 ∷ 2 ∷ []) $ join ! $ frame ! $ drop ! $
       nothing ! $ owned ! No.the-row (Is No.the-row) (LL.makes No.the-type No′.the-plain 𝓤 H A) k _ k-is $ fjoin ! $ move ! (1 ∷ 0 ∷ []) $ fjoin ! $
       owned ! Sit.the-row (Is Sit.the-row) (LL.makes Sit.the-type Sit′.the-plain 𝓤 H A) site _ site-is $ fjoin ! $ move ! (1 ∷ 0 ∷ []) $ fjoin ! $

@@ -3,9 +3,6 @@ use denote.Ref.{now}
 use Rattle.early_lent.proofs.MovedLaws.{lent-short, lent-enough}
 use Rattle.early_lent.proofs.request_of.Statement.{statement}
 use Rattle.early_lent.proofs.request_of.Tie as tie
-use Rattle.early_lent.proofs.request_of.Reads as reads
-use Rattle.early_lent.proofs.request_of.Lts as lts
-use Rattle.early_request.proofs.request.Reads as request-reads
 
 -- fewer than the threads
 returns : tie.Need-returns
@@ -13,7 +10,7 @@ returns c = let a = c .before .before .args in lent-short (a .m) (a .marks) (now
 
 -- the request on the records
 returns-2 : tie.Need-returns-2
-returns-2 c = lent-enough _ _ _ _ _ _ _ _ (c .before .before .before .if1 .left) (c .before .before .request .ensures)
+returns-2 c = lent-enough _ _ _ _ _ _ _ _ (c .before .before .before .if1 .left) (c .before .before .request .ensures .0)
 
 pub request-of-spec : {M : Type 1} → statement M
 request-of-spec = tie.close (tie.spec (λ c. search needs) returns (λ c κs. search needs) returns-2)

@@ -5,30 +5,44 @@ use lib.ListN.{replicate, length-replicate}
 use borrow.Author.Needs.{needs}
 use Rattle.model_effect.proofs.LengthLaws.{segments-length}
 use Rattle.early_limits.proofs.PlaceLaws.{reachIn-all}
-use Rattle.early_request.proofs.FitAnswerLaws.{request-unfit, fit-threads-few, fit-segment-few, request-fit}
+use Rattle.early_request.proofs.FitAnswerLaws.{after-answers, request-unfit, fit-threads-few, fit-segment-few, request-fit}
 use Rattle.early_request.proofs.request.Statement.{statement}
 use Rattle.early_request.proofs.request.Tie as tie
 
 returns : tie.Need-returns
-returns c = c .refused .ensures ∙ request-unfit (c .before .before .before .before .args .t1) (c .before .before .before .before .args .marks) (c .before .before .before .before .args .words .now) (c .before .before .before .before .args .site) (c .before .before .before .before .args .threads .at) (c .before .before .before .before .args .k .0) (sym (c .before .before .is-unfit .ensures) ∙ c .before .if1 .taken)
+returns c =
+    let x = c .before .before .before .before .args in
+    after-answers (x .t1) (x .marks) (x .words .now) (x .site) (x .threads .at) (x .k .0)
+    (c .refused .ensures ∙ request-unfit (x .t1) (x .marks) (x .words .now) (x .site) (x .threads .at) (x .k .0) (sym (c .before .before .is-unfit .ensures) ∙ c .before .if1 .taken))
 
 segment-of-requires : tie.Need-segment-of-requires
-segment-of-requires c κs = fit-threads-few (c .before .before .before .before .before .before .before .args .t1) (c .before .before .before .before .before .before .before .args .marks) (c .before .before .before .before .before .before .before .args .words .now) (c .before .before .before .before .before .before .before .args .site) (c .before .before .before .before .before .before .before .args .threads .at) (c .before .before .before .before .before .before .before .args .k .0) (sym (c .before .before .before .before .before .is-unfit .ensures) ∙ c .before .before .before .before .if1 .left)
+segment-of-requires c κs =
+    let x = c .before .before .before .before .before .before .before .args in
+    fit-threads-few (x .t1) (x .marks) (x .words .now) (x .site) (x .threads .at) (x .k .0) (sym (c .before .before .before .before .before .is-unfit .ensures) ∙ c .before .before .before .before .if1 .left)
 
 mul-g : tie.Need-mul-g
-mul-g c = omega (arith, c .segment-of .ensures, fit-segment-few (c .before .before .before .before .before .before .before .before .args .t1) (c .before .before .before .before .before .before .before .before .args .marks) (c .before .before .before .before .before .before .before .before .args .words .now) (c .before .before .before .before .before .before .before .before .args .site) (c .before .before .before .before .before .before .before .before .args .threads .at) (c .before .before .before .before .before .before .before .before .args .k .0) (sym (c .before .before .before .before .before .before .is-unfit .ensures) ∙ c .before .before .before .before .before .if1 .left))
+mul-g c =
+    let x = c .before .before .before .before .before .before .before .before .args in
+    omega (arith, c .segment-of .ensures, fit-segment-few (x .t1) (x .marks) (x .words .now) (x .site) (x .threads .at) (x .k .0) (sym (c .before .before .before .before .before .before .is-unfit .ensures) ∙ c .before .before .before .before .before .if1 .left))
 
 element-copy-out-g : tie.Need-element-copy-out-g
-element-copy-out-g c = omega (arith, c .segment-of .ensures, fit-segment-few (c .before .before .before .before .before .before .before .before .args .t1) (c .before .before .before .before .before .before .before .before .args .marks) (c .before .before .before .before .before .before .before .before .args .words .now) (c .before .before .before .before .before .before .before .before .args .site) (c .before .before .before .before .before .before .before .before .args .threads .at) (c .before .before .before .before .before .before .before .before .args .k .0) (sym (c .before .before .before .before .before .before .is-unfit .ensures) ∙ c .before .before .before .before .before .if1 .left))
+element-copy-out-g c =
+    let x = c .before .before .before .before .before .before .before .before .args in
+    omega (arith, c .segment-of .ensures, fit-segment-few (x .t1) (x .marks) (x .words .now) (x .site) (x .threads .at) (x .k .0) (sym (c .before .before .before .before .before .before .is-unfit .ensures) ∙ c .before .before .before .before .before .if1 .left))
 
 answered-requires : tie.Need-answered-requires
-answered-requires c κs = fit-threads-few (c .before .before .before .before .before .before .before .before .before .before .args .t1) (c .before .before .before .before .before .before .before .before .before .before .args .marks) (c .before .before .before .before .before .before .before .before .before .before .args .words .now) (c .before .before .before .before .before .before .before .before .before .before .args .site) (c .before .before .before .before .before .before .before .before .before .before .args .threads .at) (c .before .before .before .before .before .before .before .before .before .before .args .k .0) (sym (c .before .before .before .before .before .before .before .before .is-unfit .ensures) ∙ c .before .before .before .before .before .before .before .if1 .left)
+answered-requires c κs =
+    let x = c .before .before .before .before .before .before .before .before .before .before .args in
+    fit-threads-few (x .t1) (x .marks) (x .words .now) (x .site) (x .threads .at) (x .k .0) (sym (c .before .before .before .before .before .before .before .before .is-unfit .ensures) ∙ c .before .before .before .before .before .before .before .if1 .left)
 
 returns-2 : tie.Need-returns-2
 returns-2 c =
-    let start = c .before .before .before .before .before .before .before .before .before .before .before in
-    c .answered .ensures ∙ request-fit (c .before .before .before .before .before .before .before .before .before .before .before .args .t1) (c .before .before .before .before .before .before .before .before .before .before .before .args .marks) (c .before .before .before .before .before .before .before .before .before .before .before .args .words .now) (c .before .before .before .before .before .before .before .before .before .before .before .args .site) (c .before .before .before .before .before .before .before .before .before .before .before .args .threads .at) (c .before .before .before .before .before .before .before .before .before .before .before .args .k .0) (sym (c .before .before .before .before .before .before .before .before .before .is-unfit .ensures) ∙ c .before .before .before .before .before .before .before .before .if1 .left) (c .before .before .before .segment-of .result) _ _ (c .before .before .before .segment-of .ensures)
-    (segments-length (start .args .t1) _ (start .good .0)) refl (c .before .before .before .before .before .before .fill-reach .ensures ∙ reachIn-all (start .args .t1) (start .args .words .now) (replicate 2048 0) (simp length-replicate))
+    let s = c .before .before .before .before .before .before .before .before .before .before .before in
+    let x = s .args in
+    let j = c .before .before .before .segment-of in
+    let reach = c .before .before .before .before .before .before .fill-reach .ensures ∙ reachIn-all (x .t1) (x .words .now) (replicate 2048 0) (simp length-replicate) in
+    after-answers (x .t1) (x .marks) (x .words .now) (x .site) (x .threads .at) (x .k .0)
+    (c .answered .ensures ∙ request-fit (x .t1) (x .marks) (x .words .now) (x .site) (x .threads .at) (x .k .0) (sym (c .before .before .before .before .before .before .before .before .before .is-unfit .ensures) ∙ c .before .before .before .before .before .before .before .before .if1 .left) (j .result) _ _ (j .ensures) (segments-length (x .t1) _ (s .good .0)) refl reach)
 
 pub request-spec : {M : Type 1} → statement M
 request-spec =

@@ -37,7 +37,7 @@ begun-here : (c : tie.At-loop Inv-loop μ-loop) → let first = c .before .befor
     Cycled (start .args .m) (start .args .budget) (first .before .pack .result) (c .loop .due .key) (locals (c .loop .v) (c .loop .state) (c .loop .segments) (c .loop .told) (c .loop .ranges) (c .loop .n)) (start .args .m .t) (c .loop .due .from) (c .loop .due .to)
 begun-here c = let first = c .before .before .before .before in
     let start = first .before .before .before .before in
-    begun-of c (start .args .m) (record { fit = start .pre; code = first .before .pack .ensures; threads = refl; limit = refl; first = first .first-segments .ensures .1 })
+    begun-of c (start .args .m) (record { fit = start .pre; code = first .before .pack .ensures .1; threads = refl; limit = refl; first = first .first-segments .ensures .1 })
 
 mul-limit : tie.Need-mul-limit Inv-loop μ-loop
 mul-limit c = omega (arith, modelFault-horizon (c .before .before .args .m) (c .before .before .pre) .1)

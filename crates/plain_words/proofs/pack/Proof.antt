@@ -6,7 +6,7 @@ use lib.ListN.{length-set}
 use borrow.Author.Needs.{needs}
 use Rattle.model_effect.proofs.LengthLaws.{segments-length}
 use Rattle.plain_words.specs.Pack.{IsCode}
-use Rattle.plain_words.proofs.PackLaws.{segment-read, isCode-none, isCode-more}
+use Rattle.plain_words.proofs.PackLaws.{segment-read, isCode-none, isCode-more, isCode-codeOf}
 use Rattle.plain_words.proofs.pack.Statement.{statement}
 use Rattle.plain_words.proofs.pack.Tie as tie
 
@@ -32,7 +32,10 @@ loop-again c = let m = c .before .before .before .before .before .before .before
     )
 
 returns : tie.Need-returns Inv-loop μ-loop
-returns c = let e : c .before .loop .s ≡ 64 = omega arith in rw (← e) (c .before .loop .inv .1)
+returns c =
+    let e : c .before .loop .s ≡ 64 = omega arith in
+    let is : IsCode (c .before .before .args .t1) 64 (c .before .loop .code) = rw (← e) (c .before .loop .inv .1) in
+    (isCode-codeOf _ _ is, is)
 
 pub pack-spec : {M : Type 1} → statement M
 pack-spec =

@@ -14,14 +14,14 @@ returns-2 c =
     let s = c .before .before .before .before .before .before .before .before .before .before .before .before in
     let r = c .before .before .before .before .before .before .before .before .before .read-file in
     let d = c .before .before .before .before .distances in
-    rw (c .refused .ensures) (load-short (s .args .bytes .now) (s .args .words .now) (r .result) (r .ensures) (c .before .before .before .before .before .before .before .if1 .left) (d .result) _ (d .ensures .0) (c .before .if2 .taken) (d .ensures .1))
+    rw (c .refused .ensures) (load-short (s .args .bytes .now) (s .args .words .now) (r .result) (r .ensures) (c .before .before .before .before .before .before .before .if1 .left) (d .result) _ (d .ensures .0) (c .before .if2 .taken) (d .ensures .1 .0))
 
 returns-3 : tie.Need-returns-3
 returns-3 c =
     let s = c .before .before .before .before .before .before .before .before .before .before .before in
     let r = c .before .before .before .before .before .before .before .before .read-file in
     let d = c .before .before .before .distances in
-    load-done (s .args .bytes .now) (s .args .words .now) (r .result) (r .ensures) (c .before .before .before .before .before .before .if1 .left) (d .result) _ (d .ensures .0) (c .if2 .left) (d .ensures .1)
+    load-done (s .args .bytes .now) (s .args .words .now) (r .result) (r .ensures) (c .before .before .before .before .before .before .if1 .left) (d .result) _ (d .ensures .0) (c .if2 .left) (d .ensures .1 .0)
 
 pub load-spec : {M : Type 1} → statement M
 load-spec =

@@ -18,7 +18,7 @@ returns-2 : tie.Need-returns-2
 returns-2 c =
     let a = c .before .before .before .before .before .before .before .before .before .before .args in
     let d = c .before .before .before .before .distances in
-    on-refused (a .m) (a .words .now) (a .ks .now) (a .answers .now) (omega arith) (d .result) _ (d .ensures .0) (d .ensures .1) (c .before .if2 .taken) (c .refused2 .result) (c .refused2 .ensures)
+    on-refused (a .m) (a .words .now) (a .ks .now) (a .answers .now) (omega arith) (d .result) _ (d .ensures .0) (d .ensures .1 .0) (c .before .if2 .taken) (c .refused2 .result) (c .refused2 .ensures)
 
 mul-size : tie.Need-mul-size
 mul-size c = omega (arith, square-small (c .wide .result) (c .wide .ensures .1))
@@ -27,13 +27,13 @@ slice-reshare-prefix-requests : tie.Need-slice-reshare-prefix-requests
 slice-reshare-prefix-requests c =
     let a = c .before .before .before .before .before .before .before .before .before .before .before .before .before .before .args in
     let d = c .before .before .before .before .before .before .before .before .distances in
-    own-room (a .m) (a .words .now) (a .ks .now) (a .answers .now) (omega arith) (d .result) _ (d .ensures .0) (d .ensures .1) (c .before .before .before .before .before .if2 .left) (c .wide .result) (c .wide .ensures .0)
+    own-room (a .m) (a .words .now) (a .ks .now) (a .answers .now) (omega arith) (d .result) _ (d .ensures .0) (d .ensures .1 .0) (c .before .before .before .before .before .if2 .left) (c .wide .result) (c .wide .ensures .0)
 
 slice-aggregate-requests : tie.Need-slice-aggregate-requests
 slice-aggregate-requests c =
     let a = c .before .before .before .before .before .before .before .before .before .before .before .before .before .before .before .args in
     let d = c .before .before .before .before .before .before .before .before .before .distances in
-    sym (length-take-le _ _ (own-room (a .m) (a .words .now) (a .ks .now) (a .answers .now) (omega arith) (d .result) _ (d .ensures .0) (d .ensures .1) (c .before .before .before .before .before .before .if2 .left) (c .before .wide .result) (c .before .wide .ensures .0)))
+    sym (length-take-le _ _ (own-room (a .m) (a .words .now) (a .ks .now) (a .answers .now) (omega arith) (d .result) _ (d .ensures .0) (d .ensures .1 .0) (c .before .before .before .before .before .before .if2 .left) (c .before .wide .result) (c .before .wide .ensures .0)))
 
 returns-3 : tie.Need-returns-3
 returns-3 c =
@@ -46,7 +46,7 @@ returns-3 c =
     let f = w .before .before .before .before .fresh in
     let q = c .before .before .before .before .requests in
     let own : take (n .result * n .result) (d .last .1 .0) ≡ take (a .m .n * a .m .n) (d .last .1 .0) = rw (n .ensures .0) refl in
-    on-done (a .m) (a .words .now) (a .ks .now) (a .answers .now) (omega (arith, w .before .before .before .before .before .before .before .before .before .before .if1 .left)) (d .result) (d .last .1 .0) (d .ensures .0) (d .ensures .1) (w .before .before .before .before .before .if2 .left)
+    on-done (a .m) (a .words .now) (a .ks .now) (a .answers .now) (omega (arith, w .before .before .before .before .before .before .before .before .before .before .if1 .left)) (d .result) (d .last .1 .0) (d .ensures .0) (d .ensures .1 .0) (w .before .before .before .before .before .if2 .left)
     (m .result) (f .result) (take (n .result * n .result) (d .last .1 .0)) (m .ensures) (f .ensures) own (q .result) _ (q .ensures .0) (q .ensures .1)
 
 pub replay-on-spec : {M : Type 1} → statement M
