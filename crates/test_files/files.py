@@ -41,10 +41,10 @@ def statement_faults(s, V, E):
     return {7} if a >= V or (op > 2 and b >= V) else set()
 
 def judge(b):
-    """The number, and what an accepted file declares."""
+    """The number, and the whole model of an accepted file: its head, its segments with their statements, its threads' first segments."""
     rs, left = records(b)
     faults, last, counts, V, E, H = [], 0, {2: 0, 3: 0}, 0, 0, 0
-    nexts, firsts = [], []
+    nexts, firsts, segments = [], [], []
     for i, (kind, r) in enumerate(rs):
         ok = kind in FOLLOWS.get(last, ())
         if not ok: faults.append((i, 2))
@@ -59,6 +59,8 @@ def judge(b):
             for j in range(17, len(r), 6):
                 faults += [(i, 6, j, n) for n in statement_faults(r[j:j + 6], V, E)]
             if r[4]: nexts += [r[10], r[11]]
+            segments += struct.unpack("<BBIBBBI", r[4:17]) if r[4] else (0,)
+            segments += [len(r) // 6 - 2] + [x for j in range(17, len(r), 6) for x in struct.unpack("<BBI", r[j:j + 6])]
         if kind == 3:
             if counts[3] == 32: faults.append((i, 4))
             firsts.append(r[4])
@@ -70,7 +72,7 @@ def judge(b):
     if last != 4: return (1,)
     if left: return (9,)
     if any(x >= counts[2] for x in nexts + firsts): return (8,)
-    return (0, H, V, E, counts[2], counts[3])
+    return (0, H, V, E, counts[2], counts[3], *segments, *firsts)
 
 # ---- files
 def head(H, V, E): return struct.pack("<HHIBB", 10, 1, H, V, E)

@@ -1,5 +1,11 @@
-// The reader on stored model files, each a part: the number, and of an accepted one H, V, E, N and T.
+// The reader on stored model files, each a part: the number, and of an accepted one the whole model. H, V, E, N and T, the segments
+// with their statements, the threads' first segments.
 use libc::STDOUT_FILENO;
+use model::Closer;
+use model::Model;
+use model::Next;
+use model::Op;
+use model::Segment;
 
 fn units(x: u8) -> u64 {
     x as u64
@@ -10,17 +16,86 @@ fn write_number(n: u64) {
     io::print_decimal(STDOUT_FILENO, n);
 }
 
+fn write_three(a: u64, b: u64, c: u64) {
+    write_number(a);
+    write_number(b);
+    write_number(c);
+}
+
+// As in a file: the number of its operation, a and b.
+fn write_op(op: Op) {
+    match op {
+        Op::Set(a, b) => write_three(1, a as u64, b as u64),
+        Op::Add(a, b) => write_three(2, a as u64, b as u64),
+        Op::Copy(a, b) => write_three(3, a as u64, b as u64),
+        Op::AddVariable(a, b) => write_three(4, a as u64, b as u64),
+        Op::SubVariable(a, b) => write_three(5, a as u64, b as u64),
+        Op::Notify(w) => write_three(6, w as u64, 0),
+    }
+}
+
+// The kind, the event and the delay; the next segments, the test variable and the limit.
+fn write_closing(kind: u64, event: u64, delay: u64, x: Next) {
+    write_three(kind, event, delay);
+    write_three(x.a as u64, x.b as u64, x.test as u64);
+    write_number(x.limit as u64);
+}
+
+fn write_closer(closer: Closer) {
+    match closer {
+        Closer::End => write_number(0),
+        Closer::Time(k, x) => write_closing(1, 0, k.0 as u64, x),
+        Closer::Event(e, x) => write_closing(2, e as u64, 0, x),
+    }
+}
+
+// How it closes, how many statements it has, and these.
+fn write_segment(g: Segment) {
+    let closer = g.closer;
+    write_closer(closer);
+    write_number(units(g.n));
+    let mut j = 0;
+    while j < 32 && j < g.n as usize {
+        let x = g.statements[j];
+        let op = x.op;
+        write_op(op);
+        j += 1;
+    }
+}
+
+fn write_segments(m: Model) {
+    let mut s = 0;
+    while s < 64 && s < m.n as usize {
+        let g = m.segments[s];
+        write_segment(g);
+        s += 1;
+    }
+}
+
+fn write_starts(m: Model) {
+    let mut k = 0;
+    while k < 32 && k < m.t as usize {
+        let x = m.starts[k];
+        write_number(units(x.first));
+        k += 1;
+    }
+}
+
+fn write_model(m: Model) {
+    let h = m.horizon;
+    write_number(h.0);
+    write_three(units(m.v), units(m.e), units(m.n));
+    write_number(units(m.t));
+    write_segments(m);
+    write_starts(m);
+}
+
 fn write_read(bytes: &[u8]) {
     let x = reader_file::read_file(bytes);
     io::print_decimal(STDOUT_FILENO, units(x.number));
     if x.number == 0 {
         let m = x.model;
-        let h = m.horizon;
-        write_number(h.0);
-        write_number(units(m.v));
-        write_number(units(m.e));
-        write_number(units(m.n));
-        write_number(units(m.t));
+        write_model(m);
     }
     io::write_all(STDOUT_FILENO, b"\n");
 }
