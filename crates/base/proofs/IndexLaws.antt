@@ -122,6 +122,11 @@ firstBelow-zero (suc n) f e i h = go (λ k l. firstBelow-zero n f k i l) (orElse
     go ih (p, q) (yes g) = rw g q
     go ih (p, q) (no g) = ih p (omega arith)
 
+pub firstBelow-same : (n : ℕ) (f g : ℕ → ℕ) → ((i : ℕ) → i < n → f i ≡ g i) → firstBelow n f ≡ firstBelow n g
+unfolding firstBelow
+firstBelow-same zero f g h = refl
+firstBelow-same (suc n) f g h = ap₂ orElse (firstBelow-same n f g (λ i l. h i (omega arith))) (h n (omega arith))
+
 pub firstBelow-all : (n : ℕ) (f : ℕ → ℕ) → ((i : ℕ) → i < n → f i ≡ 0) → firstBelow n f ≡ 0
 unfolding firstBelow
 firstBelow-all zero f h = refl

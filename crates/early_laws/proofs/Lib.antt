@@ -19,3 +19,4 @@ pub mod RequestLaws
 pub mod FreeLaws
 pub mod AgreeLaws
 pub mod AlikeLaws
+pub mod PastLaws

@@ -104,8 +104,7 @@ fn request_of(
 }
 
 // Document 01: "A request answers either the segment run with its cycle, or one refusal number."
-// What document 01 leaves free is as in `early_request::request`. Records past the threads, and words past N × N, are not read
-// (`requestOf-unread` of early_laws), nor are those records written (`requestOf-unwritten`). Demand 3 speaks of a list of these calls
+// What document 01 leaves free is as in `early_request::request`, with the laws that say so. Demand 3 speaks of a list of these calls
 // (`order-independence` of order).
 pub fn request(
     m: Model,

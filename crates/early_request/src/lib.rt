@@ -298,10 +298,12 @@ pub fn fresh(m: Model) -> FreshState
 }
 
 // A request: 11, then 10, 12, 13, 14, 15.
-// Document 01 leaves free, and the definition fixes: the order in which threads are looked at (lowest first; any order leaves the
-// same, `settled-any` of early_laws); marks that are not symmetric (the row of the asking thread's segment is read, `requestOf-row`);
-// equal pairs handed in (they stay and count as they stand, `siteAfter-front`); places past the log's count (kept on a refusal, not
-// read, 0 after a grant, `requestOf-held`); records past the threads (kept, `threadsAfter-past`).
+// What document 01 leaves free, and what holds of it, by laws of early_laws. The order in which threads are looked at: lowest first,
+// and any order leaves the same (`settled-any`). Marks: those of the first N in the row of the asking thread's segment are read, whether
+// they are symmetric or not, and no others (`requestOf-row`). Equal pairs handed in stay and count as they stand (`siteAfter-front`).
+// Places past the log's count are not read, kept on a refusal, and 0 after a grant (`requestOf-held`). Not read either are words past
+// N × N and records past T (`requestOf-unread`), variables past V (`requestOf-variables`), and the model's entries past its counts
+// (`requestOf-entries`). Those records and variables are not written (`requestOf-unwritten`, `requestOf-untouched`).
 pub fn request(
     m: Model,
     marks: [[bool; 64]; 64],

@@ -2,7 +2,7 @@
 --     execute-frame, effectOf-frame     a variable that is not written keeps its value
 --     execute-agree, execute-written     where the variables read agree, the results agree; what is written ends equal
 --     effectOf-length     the variables keep their number
---     effectOf-local     where the variables used agree, the effects are alike
+--     effectOf-within, effectOf-local     where the variables used agree, the effects are alike
 --     writesIn→usesIn     what is written is used
 --     effectIn-begins, effectOf-begins     what is notified is a beginning of what is listed, whatever the variables
 use Prim.Native.Nat.{ℕ, _<_}
@@ -181,14 +181,15 @@ module _ (g : Segment) (s : ℕ) (c : Cycle) where
   unfolding effectIn
   effectIn-begins v = ([], sym (append-nil (notifiedBy (bodyOf g))))
 
-  pub effectIn-local : (v w : List ℕ) → Agree (λ i. T (usesOf g i)) v w → Alike (λ i. T (usesOf g i)) (effectIn g s c v) (effectIn g s c w)
+  -- variables that agree on U, which has all that the segment uses
+  pub effectIn-within : (U : ℕ → Type 0) → ((i : ℕ) → T (usesOf g i) → U i) → (v w : List ℕ) → Agree U v w → Alike U (effectIn g s c v) (effectIn g s c w)
   unfolding effectIn
-  effectIn-local v w a =
-      let after = execute-agree (λ i. T (usesOf g i)) (bodyOf g) (readsOf→usesOf g) v w a in
+  effectIn-within U used v w a =
+      let after = execute-agree U (bodyOf g) (λ i h. used i (readsOf→usesOf g i h)) v w a in
       record {
         variables-agree = after;
         same-notified = refl;
-        same-thread = closedAt-agree s (g .closer) c _ _ (λ i h. after .same i (testsOf→usesOf g i h));
+        same-thread = closedAt-agree s (g .closer) c _ _ (λ i h. after .same i (used i (testsOf→usesOf g i h)));
       }
 
 -- thread k in segment s of a model
@@ -209,7 +210,11 @@ module _ (m : Model) (k s : ℕ) where
   unfolding effectOf listedIn
   effectOf-begins c v = effectIn-begins (segmentFor m k s) s c v
 
+  pub effectOf-within : (c : Cycle) (U : ℕ → Type 0) → ((i : ℕ) → T (usesIn m k s i) → U i) → (v w : List ℕ) → Agree U v w
+      → Alike U (effectOf m k s c v) (effectOf m k s c w)
+  unfolding effectOf usesIn
+  effectOf-within c U used v w a = effectIn-within (segmentFor m k s) s c U used v w a
+
   pub effectOf-local : (c : Cycle) (v w : List ℕ) → Agree (λ i. T (usesIn m k s i)) v w
       → Alike (λ i. T (usesIn m k s i)) (effectOf m k s c v) (effectOf m k s c w)
-  unfolding effectOf usesIn
-  effectOf-local c v w a = effectIn-local (segmentFor m k s) s c v w a
+  effectOf-local c v w a = effectOf-within c (λ i. T (usesIn m k s i)) (λ i h. h) v w a
