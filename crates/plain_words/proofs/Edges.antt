@@ -2,14 +2,15 @@
 use Prim.Native.Nat.{ℕ, _+_, _*_}
 use mathlib.Core.Path.{_≡_, refl}
 use mathlib.Core.Bool.{true, false}
-use mathlib.Core.List.{List, [], _∷_}
+use mathlib.Core.List.{List, [], _∷_, _++_}
 use native.Mathlib.Omega.{arith}
 use lib.ListN.{getD, set, replicate}
 use Rattle.model.specs.declared.Op.the-variants.{Set, Add, Copy, AddVariable, SubVariable, Notify}
 use Rattle.model.specs.declared.Next.{Next}
 use Rattle.model.specs.declared.Closer.{Closer}
+use Rattle.model.specs.declared.Segment.{Segment}
 use Rattle.model.specs.declared.Closer.the-variants.{End, Time, Event}
-use Rattle.plain_words.specs.Pack.{packOp, packEnd, packNext, packChoice}
+use Rattle.plain_words.specs.Pack.{packOp, packEnd, packNext, packChoice, segmentWord}
 use Rattle.plain_words.specs.Unpack.{opOf, endBy, sizeBy, nextBy, followBy}
 use Rattle.plain_words.specs.Reach.{lesserOf, greaterOf, Inside, widened}
 use Rattle.plain_words.specs.Shared.{shared, executeWord, executeTo, executeBy}
@@ -48,6 +49,23 @@ pub sizeBy-edge :
     (sizeBy (packEnd 33 (Event 31 (onward 0 0 255 0))) ≡ 32)
 unfolding computed
 sizeBy-edge = (refl, refl, refl)
+
+-- a segment's words: how it closes, its next segments, its first and its last statement
+abbrev aSegment : Segment
+aSegment =
+    record {
+      closer = units 7 (onward 3 7 1 5);
+      n = 2;
+      statements = record { op = Notify 3 } ∷ replicate 30 (record { op = Set 0 0 }) ++ (record { op = Add 1 9 } ∷ []);
+    }
+
+pub segmentWord-edge :
+    (segmentWord aSegment 0 ≡ 1 + 4 * 2 + 1024 * 7) ×
+    (segmentWord aSegment 1 ≡ 3 + 256 * 7 + 65536 * 1 + 16777216 * 5) ×
+    (segmentWord aSegment 2 ≡ 5 + 8 * 3) ×
+    (segmentWord aSegment 33 ≡ 1 + 8 * 1 + 2048 * 9)
+unfolding computed
+segmentWord-edge = (refl, refl, refl, refl)
 
 -- "The next segment is A if the variable is below the limit after the statements, else B"; 255 is no test
 pub nextBy-edge :
