@@ -4,7 +4,7 @@
 
 static Model m;
 
-static const uint64_t NEVER = ~0ull, FAR = 1000000000ull << 10;
+static const uint64_t NEVER = ~0ull, FAR = 1000000001ull << 10;
 
 static uint64_t plus(uint64_t a, uint64_t d) {
   if (a >= FAR || d >= FAR) return FAR;

@@ -5,7 +5,7 @@
 
 typedef uint64_t B;  // a bound: time x 65,536 + delta, or NEVER
 static const B NEVER = ~0ull;
-static const uint64_t ONES = ~0ull, FAR = 1000000000ull << 10;
+static const uint64_t ONES = ~0ull, FAR = 1000000001ull << 10;
 
 static B plus(B x, B d) { return x == NEVER || d == NEVER ? NEVER : d < 65536 ? x + d : (x >> 16 << 16) + d; }
 static B at(uint64_t t, uint32_t d) { return t << 16 | d; }
@@ -131,7 +131,7 @@ struct Kit {
   int request(unsigned k, uint64_t *a) {
     if (k >= (unsigned)m.t) return 10;
     if (r[k].st != READY) return 12;
-    if (r[k].t >= m.horizon) return 13;
+    if (r[k].t > m.horizon) return 13;
     if (hazard(k)) return 14;
     const Segment &g = m.segment[r[k].seg];
     uint64_t t = r[k].t;

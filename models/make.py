@@ -59,7 +59,8 @@ FILES = {
     "case11": model(10, 2, 0, [end((SET, 1, 1), (SUB_VARIABLE, 0, 1))], [0]),
     "case12": model(10, 0, 0, [wait(0, 0)], [0]),
     "spent": model(1000000000, 0, 0, [wait(1, 0)], [0]),
-    "horizon": model(5, 0, 0, [wait(5, 0)], [0]),
+    "lastpoll": model(5, 0, 0, [wait(5, 0)], [0]),
+    "horizon": model(5, 0, 0, [wait(6, 0)], [0]),
     "calls": model(10, 0, 32, [end(), wait(1, 1, *[notify(e) for e in range(32)])], [0, 1]),
     "refused7": model(10, 0, 0, [end((SET, 0, 1))], [0]),
 }

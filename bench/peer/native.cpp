@@ -57,7 +57,7 @@ struct Engine {
 
   // Whether the run is spent.
   bool all(uint64_t budget) {
-    const uint64_t end = (uint64_t)m.horizon * 1024;
+    const uint64_t end = ((uint64_t)m.horizon + 1) * 1024;
     for (;;) {
       uint64_t now = NEVER;
       for (int k = 0; k < m.t; k++) now = std::min(now, ready[k]);

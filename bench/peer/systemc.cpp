@@ -145,7 +145,7 @@ int sc_main(int argc, char **argv) {
   sc_report_handler::set_actions(SC_INFO, SC_DO_NOTHING);
   Site site("site", style);
   auto start = std::chrono::steady_clock::now();
-  sc_start(units(m.horizon));
+  sc_start(units(m.horizon + 1)); // what is ready at the horizon runs
   uint64_t ns = std::chrono::nanoseconds(std::chrono::steady_clock::now() - start).count();
   if (timed) fprintf(stderr, "time %" PRIu64 " %" PRIu64 "\n", ns, run.n);
   print_sheet(m, run);

@@ -1,7 +1,7 @@
 """The stored runs of this crate: a model file and a list of arguments each, and the lines that `replayrun` must print of them.
 
 Requests are made here a second time, plainly from document 01, and the plain run beside them. Where a list leaves no thread ready
-before the horizon, variables, records, histories and the count of segments must be the plain run's, else the next request of the
+up to the horizon, variables, records, histories and the count of segments must be the plain run's, else the next request of the
 least stamp must be granted. What document 01 itself says of a case is held against the lines.
 """
 import os, sys
@@ -9,7 +9,7 @@ import os, sys
 from files import M, judge
 
 sys.path.insert(0, os.path.join(os.path.dirname(os.path.abspath(__file__)), "..", "versus"))
-from models import NOTIFY, SET, always, atomic, dvd_player, end, manager_and_workers, model, two_behaviours, two_writes, wait, wait_for
+from models import NOTIFY, SET, always, atomic, dvd_player, end, manager_and_workers, model, model_m, two_behaviours, two_writes, wait, wait_for
 
 NEVER = (float("inf"), 0)
 READY, WAIT, ENDED, OVERRUN = "ready", "wait", "ended", "overrun"
@@ -42,7 +42,7 @@ class Model:
         self.reach = [self.distances(r) for r in range(self.N)]
 
     def distances(self, r):
-        """From r to each segment, the least over all paths: "never" at 1,000,000,000 units or more."""
+        """From r to each segment, the least over all paths: "never" begins above 1,000,000,000 units."""
         best = [NEVER] * self.N
         best[r] = (0, 0)
         changed = True
@@ -52,7 +52,7 @@ class Model:
                 for t in g.nexts:
                     c = plus(best[s], (g.delay, 0) if g.delay else (0, 1))
                     if c < best[t]: best[t], changed = c, True
-        return [d if d[0] < 10**9 else NEVER for d in best]
+        return [d if d[0] <= 10**9 else NEVER for d in best]
 
     def conflict(self, r, s):
         a, b = self.segments[r], self.segments[s]
@@ -99,8 +99,8 @@ class State:
         self.histories = [[] for _ in m.firsts]
 
     def ready(self):
-        """The stamps of the ready threads before the horizon, least first."""
-        return sorted((c, k) for k, (_, state, c, _) in enumerate(self.records) if state == READY and c[0] < self.m.H)
+        """The stamps of the ready threads up to the horizon, least first."""
+        return sorted((c, k) for k, (_, state, c, _) in enumerate(self.records) if state == READY and c[0] <= self.m.H)
 
     def execute(self, k):
         """Thread k runs its segment whole, and its closer is applied; what it notified, in statement order."""
@@ -163,7 +163,7 @@ class State:
         if k >= len(self.records): return "refused 10"
         s, state, c, _ = self.records[k]
         if state != READY: return "refused 12"
-        if c[0] >= self.m.H: return "refused 13"
+        if c[0] > self.m.H: return "refused 13"
         if self.hazard(k): return "refused 14"
         new = {(e, c) for e in self.m.segments[s].notifies} - set(self.log)
         size = len(self.log) + len(new)
@@ -224,7 +224,7 @@ def hold_plain(state, granted):
 # ---- lists
 def asked(file, args, turn):
     """The arguments, and then what each turn asks for, a list of threads of which the first granted ends the turn, until no thread is
-    ready before the horizon. The turn gets the ready stamps and its own number."""
+    ready up to the horizon. The turn gets the ready stamps and its own number."""
     state, out, i = State(Model(file)), list(args), 0
     for a in args: state.request(int(a))
     while state.ready():
@@ -340,9 +340,33 @@ def sentences():
     assert run("Number 1", M[:-1], [0, 1]) == ["refused 1"]
 
 
+def end_time():
+    """Document 02, slip 1: what is ready at exactly H runs, and "never" begins above 1,000,000,000 units."""
+    most = 10**9
+    got = run("Case 3", model_m(1250), asked(model_m(1250), [], in_turn(2)))
+    assert got[-5:] == ["v 0 126", "v 1 126", "v 2 126", "t 0 1 ready 1260 0", "t 1 3 wait 0 1250 1"]
+    got = run("Ready at the end", model(5, 0, 0, [wait(5, always(0))], [0]), [0, 0, 0])
+    assert got[:3] == ["r 0 granted 0 0 0", "r 0 granted 0 5 0", "r 0 refused 13"]
+    got = run("Ready one after the end", model(5, 0, 0, [wait(6, always(0))], [0]), [0, 0])
+    assert got[:2] == ["r 0 granted 0 0 0", "r 0 refused 13"]
+    m = model(5, 0, 1, [wait_for(0, always(2)), wait(5, always(3)), end(), end((NOTIFY, 0, 0))], [0, 1])
+    assert run("Notified at the end", m, [0, 1, 1, 0])[3] == "r 0 granted 2 5 1"
+    m = model(most, 1, 0, [wait(most, always(1)), end((SET, 0, 1)), wait(most, always(3)), wait(0, always(4)), end((SET, 0, 2))], [0, 2])
+    here, left = case("A path of 1,000,000,000", m, [1, 1, 1])
+    assert here[:3] == ["r 1 granted 2 0 0", "r 1 granted 3 1000000000 0", "r 1 refused 14"] and "v 0 2" in left
+    m = model(most, 1, 0, [wait(most, always(1)), wait(0, always(2)), end((SET, 0, 1)), wait(most, always(4)), wait(0, always(5)), end((SET, 0, 2))], [0, 3])
+    here, left = case("A path of 1,000,000,000 and a delta", m, [1, 1, 1])
+    assert here[2] == "r 1 refused 14" and "v 0 2" in left
+    m = model(most, 0, 1, [wait(most, always(0), (NOTIFY, 0, 0)), wait(most, always(1))], [0, 1])
+    got = run("A record at 2,000,000,000", m, [0, 0, 0, 1])
+    assert got[1:4] == ["r 0 granted 0 1000000000 0", "r 0 refused 13", "r 1 granted 1 0 0"]
+    assert "t 0 0 ready 2000000000 0" in got and "l 0 1000000000 0" in got
+
+
 def runs():
     cases()
     orders_of_m()
     papers()
     sentences()
+    end_time()
     return RUNS

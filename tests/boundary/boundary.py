@@ -260,15 +260,15 @@ def no_states(r, t, state):
 def edges(r, file, n, t, state):
     """The least numbers that do not fit the model (docs/RULES.md, 7): in a record below T, in the log below its count, in the words."""
     k, count = r.randrange(t), state["log"][0]
-    yield from [("records", 5 * k, n), ("records", 5 * k + 3, 2 * 10**9), ("records", 5 * k + 4, 1024)]
+    yield from [("records", 5 * k, n), ("records", 5 * k + 3, 2 * 10**9 + 1), ("records", 5 * k + 4, 1024)]
     if state["records"][5 * k + 1] == 3:
         yield "records", 5 * k + 2, file[9]
     if count:
         i = r.randrange(count)
-        yield from [("log", 3 * i + 1, file[9]), ("log", 3 * i + 2, 10**9), ("log", 3 * i + 3, 1024)]
+        yield from [("log", 3 * i + 1, file[9]), ("log", 3 * i + 2, 10**9 + 1), ("log", 3 * i + 3, 1024)]
     if file[9]:
         yield "log", 0, 129
-    yield "words", r.randrange(n * n), 10**9 * 1024
+    yield "words", r.randrange(n * n), (10**9 + 1) * 1024
 
 
 def unjudged(r, n, t, state):

@@ -24,7 +24,8 @@ PLAIN, EARLY = ["versus"], ["versus", "test_files"]
 
 # tests, name, file under crates/, old text, new text
 FAULTS = [
-    (PLAIN, "the horizon counted in", "plain_core/src/lib.rt", "if limit <= due.key {", "if limit < due.key {"),
+    (PLAIN, "a cycle past the horizon runs", "plain_core/src/lib.rt", "if limit <= due.key {", "if limit < due.key {"),
+    (PLAIN, "the horizon not counted in", "plain_core/src/lib.rt", "1024 * (m.horizon.0 + 1);", "1024 * m.horizon.0;"),
     (PLAIN, "a wait begun in the notifying cycle is not woken", "plain_core/src/lib.rt", "if key < x % 175", "if key <= x % 175"),
     (PLAIN, "overrun at 1,024", "plain_core/src/lib.rt", "if key % 1024 < 1023 {", "if key % 1024 < 1024 {"),
     (PLAIN, "one segment over the budget", "plain_core/src/lib.rt", "if budget <= n {", "if budget < n {"),

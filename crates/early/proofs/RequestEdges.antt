@@ -35,32 +35,32 @@ pub isFitWait-edges :
 unfolding computed doers withStarts segmentOf
 isFitWait-edges = (refl, refl, refl)
 
--- "segment not below N", which is 2 here; "record time of 2,000,000,000 or more"; "delta above 1,023", in every state
+-- "segment not below N", which is 2 here; "a record time of exactly 2,000,000,000" is allowed; "delta above 1,023", in every state
 pub isFitThread-edges :
-    (isFitThread doers 0 (readyIn 1 1999999999 1023) ≡ true) ×
-    (isFitThread doers 0 (readyIn 2 1999999999 1023) ≡ false) ×
-    (isFitThread doers 0 (readyIn 1 2000000000 1023) ≡ false) ×
-    (isFitThread doers 0 (readyIn 1 1999999999 1024) ≡ false) ×
-    (isFitThread doers 0 (endedIn 1 2000000000 0) ≡ false) ×
-    (isFitThread doers 0 (overrunIn 1 2000000000 0) ≡ false) ×
-    (isFitThread doers 0 (waitingIn 1 1 2000000000 0) ≡ false) ×
+    (isFitThread doers 0 (readyIn 1 2000000000 1023) ≡ true) ×
+    (isFitThread doers 0 (readyIn 2 2000000000 1023) ≡ false) ×
+    (isFitThread doers 0 (readyIn 1 2000000001 0) ≡ false) ×
+    (isFitThread doers 0 (readyIn 1 2000000000 1024) ≡ false) ×
+    (isFitThread doers 0 (endedIn 1 2000000001 0) ≡ false) ×
+    (isFitThread doers 0 (overrunIn 1 2000000001 0) ≡ false) ×
+    (isFitThread doers 0 (waitingIn 1 1 2000000001 0) ≡ false) ×
     (isFitThread doers 0 (waitingIn 1 2 0 0) ≡ false)
 unfolding computed doers withStarts segmentOf
 isFitThread-edges = (refl, refl, refl, refl, refl, refl, refl, refl)
 
--- "log time of 1,000,000,000 or more"
+-- "11 allows a log time .. of exactly 1,000,000,000"
 pub isFitPair-edges :
-    (isFitPair doers (note 1 999999999 1023) ≡ true) ×
-    (isFitPair doers (note 2 999999999 1023) ≡ false) ×
-    (isFitPair doers (note 1 1000000000 1023) ≡ false) ×
-    (isFitPair doers (note 1 999999999 1024) ≡ false)
+    (isFitPair doers (note 1 1000000000 1023) ≡ true) ×
+    (isFitPair doers (note 2 1000000000 1023) ≡ false) ×
+    (isFitPair doers (note 1 1000000001 0) ≡ false) ×
+    (isFitPair doers (note 1 1000000000 1024) ≡ false)
 unfolding computed doers withStarts segmentOf
 isFitPair-edges = (refl, refl, refl, refl)
 
--- "a distance word, all ones apart, with time 1,000,000,000 or more"
+-- "11 allows .. a distance word's time of exactly 1,000,000,000", with any delta; all ones apart no later one
 pub isFitWord-edges :
-    (isFitWord (999999999 * 1024 + 1023) ≡ true) ×
-    (isFitWord (1000000000 * 1024) ≡ false) ×
+    (isFitWord (1000000000 * 1024 + 1023) ≡ true) ×
+    (isFitWord (1000000001 * 1024) ≡ false) ×
     (isFitWord 18446744073709551614 ≡ false) ×
     (isFitWord 18446744073709551615 ≡ true)
 unfolding computed
@@ -92,8 +92,8 @@ isUnfitLog-edges = (refl, refl, refl, refl)
 pub isUnfitWords-edges :
     (isUnfitWords doers (0 ∷ 0 ∷ 0 ∷ []) ≡ true) ×
     (isUnfitWords doers (0 ∷ 0 ∷ 0 ∷ 0 ∷ []) ≡ false) ×
-    (isUnfitWords doers (0 ∷ 0 ∷ 0 ∷ 1000000000 * 1024 ∷ []) ≡ true) ×
-    (isUnfitWords doers (0 ∷ 0 ∷ 0 ∷ 0 ∷ 1000000000 * 1024 ∷ []) ≡ false)
+    (isUnfitWords doers (0 ∷ 0 ∷ 0 ∷ 1000000001 * 1024 ∷ []) ≡ true) ×
+    (isUnfitWords doers (0 ∷ 0 ∷ 0 ∷ 0 ∷ 1000000001 * 1024 ∷ []) ≡ false)
 unfolding computed doers withStarts segmentOf
 isUnfitWords-edges = (refl, refl, refl, refl)
 
@@ -174,12 +174,20 @@ answer-edges = (refl, refl, refl, refl)
 abbrev asked : Model → List ℕ → Site → List Thread → ℕ → Answer
 asked m ws site ts k = requestOf m oneMark ws site ts k .answer
 
--- 13, "its time is H or later": H is 100
+-- "13 applies to a time later than H (its example: ready at 6)": H is 5; a record at 2,000,000,000 is fit and gets 13, one later is 11
+abbrev askedAt : ℕ → ℕ → ℕ → Answer
+askedAt h t d = asked (withHead doers h 1 2) apartWords (siteWith []) (readyIn 0 t d ∷ endedIn 0 0 0 ∷ []) 0
+
 pub request-horizon :
-    (asked doers apartWords (siteWith []) (readyIn 0 99 1023 ∷ endedIn 0 0 0 ∷ []) 0 ≡ Granted 0 (cycleAt 99 1023)) ×
-    (asked doers apartWords (siteWith []) (readyIn 0 100 0 ∷ endedIn 0 0 0 ∷ []) 0 ≡ Refused 13)
+    (askedAt 5 4 1023 ≡ Granted 0 (cycleAt 4 1023)) ×
+    (askedAt 5 5 0 ≡ Granted 0 (cycleAt 5 0)) ×
+    (askedAt 5 5 1023 ≡ Granted 0 (cycleAt 5 1023)) ×
+    (askedAt 5 6 0 ≡ Refused 13) ×
+    (askedAt 1000000000 1000000000 0 ≡ Granted 0 (cycleAt 1000000000 0)) ×
+    (askedAt 1000000000 2000000000 0 ≡ Refused 13) ×
+    (askedAt 1000000000 2000000001 0 ≡ Refused 11)
 unfolding computed doers withStarts segmentOf
-request-horizon = (refl, refl)
+request-horizon = (refl, refl, refl, refl, refl, refl, refl)
 
 -- 10, "thread number not below T", which is 2 here; 12, "thread not ready"
 pub request-thread :
@@ -192,12 +200,12 @@ unfolding computed doers withStarts segmentOf
 request-thread = (refl, refl, refl, refl, refl)
 
 -- "Requests: 11, 10, 12, 13, 14, 15": where two apply, the first; 10 also for a number whose record stands past T and is not ready,
--- 12 for an ended thread whose cycle is at the horizon
+-- 12 for an ended thread whose cycle is past the horizon
 pub request-order :
     (asked doers [] (siteWith []) twoReady 2 ≡ Refused 11) ×
     (asked doers apartWords (siteWith []) (readyIn 0 5 0 ∷ readyIn 1 6 0 ∷ endedIn 0 0 0 ∷ []) 2 ≡ Refused 10) ×
-    (asked doers apartWords (siteWith []) (endedIn 0 100 0 ∷ readyIn 1 6 0 ∷ []) 0 ≡ Refused 12) ×
-    (asked (sayers 2) farWords (siteWith []) (readyIn 1 5 0 ∷ readyIn 0 100 0 ∷ []) 1 ≡ Refused 13) ×
+    (asked doers apartWords (siteWith []) (endedIn 0 101 0 ∷ readyIn 1 6 0 ∷ []) 0 ≡ Refused 12) ×
+    (asked (sayers 2) farWords (siteWith []) (readyIn 1 5 0 ∷ readyIn 0 101 0 ∷ []) 1 ≡ Refused 13) ×
     (asked (sayers 2) farWords (siteWith (manyPairs 97)) (readyIn 1 5 0 ∷ readyIn 0 6 0 ∷ []) 1 ≡ Refused 14) ×
     (asked (sayers 2) farWords (siteWith (manyPairs 97)) (readyIn 2 5 0 ∷ readyIn 0 6 0 ∷ []) 1 ≡ Refused 15)
 unfolding computed doers sayers withStarts segmentOf manyPairs

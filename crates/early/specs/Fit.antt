@@ -28,15 +28,15 @@ unfoldable pub isFitWait : Model → Awaited → Bool
 isFitWait m nothing = true
 isFitWait m (awaits e since) = ltb e (m .e)
 
--- the record of thread k: no "segment not below N", no "record time of 2,000,000,000 or more"
+-- the record of thread k: no "segment not below N"; "a record time of exactly 2,000,000,000" is the last
 unfoldable pub isFitThread : Model → ℕ → Thread → Bool
 isFitThread m k t = ltb (t .segment) (m .n) && (isFitCycle recordTime (cycleOf (t .state)) && isFitWait m (awaitedBy (t .state)))
 
--- no "log time of 1,000,000,000 or more"
+-- "a log time .. of exactly 1,000,000,000" is the last
 unfoldable pub isFitPair : Model → Notification → Bool
 isFitPair m x = ltb (x .event) (m .e) && isFitCycle cutTime (x .cycle)
 
--- no "distance word, all ones apart, with time 1,000,000,000 or more"
+-- "all ones apart", "a distance word's time of exactly 1,000,000,000" is the last
 unfoldable pub isFitWord : ℕ → Bool
 isFitWord w = eqb w allOnes || ltb (w / 1024) cutTime
 

@@ -10,7 +10,7 @@ use Rattle.clock.specs.declared.Bound.the-variants.{Never, At}
 use Rattle.clock.specs.Advance.{isBoundBefore}
 use Rattle.model.specs.declared.Model.{Model}
 use Rattle.model.specs.declared.Thread.{Thread}
-use Rattle.model.specs.Refusal.{accepted, wrongThread, unfit, notReady, atHorizon, hazardStands, logFull}
+use Rattle.model.specs.Refusal.{accepted, wrongThread, unfit, notReady, pastHorizon, hazardStands, logFull}
 use Rattle.model.specs.Limits.{endTime, isBeforeTime}
 use Rattle.model.specs.Record.{threadAt, readyCycle, cycleOf}
 use Rattle.model.specs.Effect.{Effect}
@@ -46,7 +46,7 @@ numberReady isHazard floor es l c = cond (isHazard c) hazardStands (cond (isFull
 
 unfoldable pub numberAt : ℕ → (Cycle → Bool) → Bound → List ℕ → List Notification → Bound → ℕ
 numberAt end isHazard floor es l Never = notReady
-numberAt end isHazard floor es l (At c) = cond (not (isBeforeTime end c)) atHorizon (numberReady isHazard floor es l c)
+numberAt end isHazard floor es l (At c) = cond (not (isBeforeTime end c)) pastHorizon (numberReady isHazard floor es l c)
 
 unfoldable pub numberFor : ℕ → ℕ → (Cycle → Bool) → Bound → List ℕ → List Notification → List Thread → ℕ → ℕ
 numberFor t end isHazard floor es l ts k =

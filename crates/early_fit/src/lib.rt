@@ -106,7 +106,7 @@ fn is_unfit_log(site: Site, e: u8) -> bool
     false
 }
 
-// The first N × N words: "all ones apart, with time 1,000,000,000 or more".
+// The first N × N words: "all ones apart", a time above 1,000,000,000.
 fn is_unfit_words(words: &[u64], count: usize) -> bool
     requires { ⌜ count ≤ length (now words) ⌝ }
     ensures { λ r. ⌜ ((m : Model) → m .n * m .n ≡ count → r ≡ isUnfitWords m (now (words .entry))) ⌝ }

@@ -103,7 +103,7 @@ unfolding isFitPair
     (lt→ltb (x .event) (m .e) (f .event))
     (→isFitCycle cutTime (x .cycle) (f .cycle))
 
--- "a distance word, all ones apart, with time 1,000,000,000 or more" is none of these
+-- "a distance word, all ones apart," with a time above 1,000,000,000 is none of these
 abbrev pub FitWord : ℕ → Type 0
 FitWord w = (w ≡ allOnes) ⊎ (w / 1024 < cutTime)
 

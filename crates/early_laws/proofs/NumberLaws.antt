@@ -19,7 +19,7 @@ use Rattle.clock.specs.declared.Bound.the-variants.{Never, At}
 use Rattle.clock.specs.Advance.{isBoundBefore}
 use Rattle.model.specs.declared.State.{State}
 use Rattle.model.specs.declared.Thread.{Thread}
-use Rattle.model.specs.Refusal.{accepted, wrongThread, unfit, notReady, atHorizon, hazardStands, logFull}
+use Rattle.model.specs.Refusal.{accepted, wrongThread, unfit, notReady, pastHorizon, hazardStands, logFull}
 use Rattle.model.specs.Limits.{isBeforeTime}
 use Rattle.model.specs.Record.{threadAt, readyCycle, cycleOf, viewOf}
 use Rattle.plain_laws.proofs.RecordLaws.{readyCycle→ready, ready-cycle}
@@ -65,7 +65,7 @@ module _ (t end : ℕ) (isHazard : Cycle → Bool) (floor : Bound) (es : List �
           cond-case
           Decided
           (not (isBeforeTime end c))
-          (λ a. refuses atHorizon (λ e. omega arith) (λ e. omega arith))
+          (λ a. refuses pastHorizon (λ e. omega arith) (λ e. omega arith))
           (λ a.
           cond-case
           Decided
@@ -111,7 +111,7 @@ module _ (t end : ℕ) (isHazard : Cycle → Bool) (floor : Bound) (es : List �
     numberFor-same same = go (decLt k t)
       where
         timed : (c : Cycle) (b : Bool) → isBeforeTime end c ≡ b → (b ≡ true → isHazard c ≡ isThreat c)
-            → cond (not b) atHorizon (numberReady isHazard floor es l c) ≡ cond (not b) atHorizon (numberReady isThreat floor es l c)
+            → cond (not b) pastHorizon (numberReady isHazard floor es l c) ≡ cond (not b) pastHorizon (numberReady isThreat floor es l c)
         timed c true e h = rw (h refl) refl
         timed c false e h = refl
 

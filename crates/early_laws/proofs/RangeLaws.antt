@@ -1,5 +1,5 @@
--- How large bounds grow on a fit state: each link adds a distance below 1,000,000,000 units and at most 1,024 deltas, and there are at most T of them.
--- So times stay below 34,000,000,000 and deltas at most 33,792 (35,000,000,000 and 34,815 with a distance more), and 64 and 32 bits hold them.
+-- How large bounds grow on a fit state: each link adds a distance of at most 1,000,000,000 units and at most 1,024 deltas, and there are at most T of them.
+-- So times stay below `earliestTime` and deltas at most 33,792 (`sumTime` and 34,815 with a distance more), and 64 and 32 bits hold them.
 use Prim.Native.Nat.{ℕ, zero, suc, _+_, _*_, _<_, _≤_, _/_, _%_, _^_}
 use mathlib.Core.Path.{_≡_, refl, sym, subst}
 use mathlib.Core.Logic.{_⊎_, inl, inr}
@@ -33,6 +33,13 @@ use Rattle.early_laws.proofs.LogLaws.{In, leastHeard-at}
 use Rattle.early_laws.proofs.LinkLaws.{sourceOf-ready, sourceOf-waiting, sourceOf-idle, soonestNotify-one, linkTo-case}
 use Rattle.early_laws.proofs.EarliestLaws.{earliestAt, linkedAt, withLinks-none, withLinks-more}
 use Rattle.early_laws.proofs.FitLaws.{FitCycle, isFitThread→, FitPair, isFitWord→, FitWord}
+
+-- an earliest has a time below this, 32 links from a record; with a distance more, below that
+abbrev pub earliestTime : ℕ
+earliestTime = recordTime + 32 * cutTime
+
+abbrev pub sumTime : ℕ
+sumTime = earliestTime + cutTime
 
 -- a time below t, a delta at most d; never is within everything
 abbrev pub Within : ℕ → ℕ → Bound → Type 0
@@ -212,22 +219,22 @@ module _ (m : Model) (ws : List ℕ) (l : List Notification) (ts : List Thread)
         grown b w = within-more (recordTime + i * cutTime) (1024 + i * 1024) (recordTime + suc i * cutTime) (1024 + suc i * 1024) b (omega arith) (omega arith) w
 
     -- with at most 32 threads, after at most 32 rounds; earliest is the last of them
-    pub links-small : (i k : ℕ) → i ≤ 32 → k < m .t → Within 34000000000 33792 (linkedAt m ws l ts i k)
+    pub links-small : (i k : ℕ) → i ≤ 32 → k < m .t → Within earliestTime 33792 (linkedAt m ws l ts i k)
     links-small i k p h =
         within-more
         (recordTime + i * cutTime)
         (1024 + i * 1024)
-        34000000000
+        earliestTime
         33792
         (linkedAt m ws l ts i k)
         (omega arith)
         (omega arith)
         (within-links i k h)
 
-    pub earliest-small : (k : ℕ) → m .t ≤ 32 → k < m .t → Within 34000000000 33792 (earliestAt m ws l ts k)
+    pub earliest-small : (k : ℕ) → m .t ≤ 32 → k < m .t → Within earliestTime 33792 (earliestAt m ws l ts k)
     unfolding earliestOf
     earliest-small k p h = links-small (m .t) k p h
 
     -- earliest plus distance
-    pub sum-small : (k s : ℕ) → m .t ≤ 32 → k < m .t → s < m .n → Within 35000000000 34815 (earliestAt m ws l ts k ⊕ distanceIn m ws (threadAt ts k .segment) s)
-    sum-small k s p h q = within-sum 34000000000 33792 (earliestAt m ws l ts k) k s h q (earliest-small k p h)
+    pub sum-small : (k s : ℕ) → m .t ≤ 32 → k < m .t → s < m .n → Within sumTime 34815 (earliestAt m ws l ts k ⊕ distanceIn m ws (threadAt ts k .segment) s)
+    sum-small k s p h q = within-sum earliestTime 33792 (earliestAt m ws l ts k) k s h q (earliest-small k p h)

@@ -1,5 +1,5 @@
 -- A request is refused, and then changes nothing, or is granted; 11 is answered on an unfit state only; and demand 2 as a sentence: on a fit
--- state, for a thread ready before the horizon and with places left, it is granted exactly where no hazard stands.
+-- state, for a thread ready up to the horizon and with places left, it is granted exactly where no hazard stands.
 use Prim.Native.Nat.{ℕ, _<_}
 use mathlib.Core.Path.{_≡_, refl, ap, sym, subst, fun-ext}
 use mathlib.Core.Logic.{_↔_, _⊎_, inl, inr}
@@ -15,7 +15,7 @@ use Rattle.clock.specs.declared.Bound.the-variants.{At}
 use Rattle.model.specs.declared.Model.{Model}
 use Rattle.model.specs.declared.Thread.{Thread}
 use Rattle.model.specs.Refusal.{accepted, unfit}
-use Rattle.model.specs.Limits.{endTime, isBeforeHorizon}
+use Rattle.model.specs.Limits.{endTime, isUpToHorizon}
 use Rattle.model.specs.Record.{threadAt, readyCycle, cycleOf}
 use Rattle.model.specs.Footprint.{listedIn}
 use Rattle.plain.specs.Wake.{floorOf}
@@ -35,7 +35,7 @@ module _ (m : Model) (marks : List (List Bool)) (ws : List ℕ) (site : Site) (t
     pub fit : isUnfit m ws site ts ≡ false
     pub thread : k < m .t
     pub ready : readyCycle (threadAt ts k .state) ≡ At c
-    pub before-horizon : isBeforeHorizon m c ≡ true
+    pub in-time : isUpToHorizon m c ≡ true
     pub no-hazard : hazard m marks ws (logOf site) ts k c ≡ false
     pub room : isFull m site ts k c ≡ false
 
@@ -49,7 +49,7 @@ module _ (m : Model) (marks : List (List Bool)) (ws : List ℕ) (site : Site) (t
   DecidedIn = Decided (m .t) (endTime m) (hazard m marks ws (logOf site) ts k) (floorOf m ts) (listedIn m k (threadAt ts k .segment)) (logOf site) ts k
 
   pub requestOf-asked : Asked (requestOf m marks ws site ts k)
-  unfolding requestOf requestFit answeredBy numberIn isBeforeHorizon isFull countedPlaces DecidedIn
+  unfolding requestOf requestFit answeredBy numberIn isUpToHorizon isFull countedPlaces DecidedIn
   requestOf-asked =
       cond-case
       Asked
@@ -61,7 +61,7 @@ module _ (m : Model) (marks : List (List Bool)) (ws : List ℕ) (site : Site) (t
       go fit (refuses n other u) = rw (ne-eqb n accepted other) (refused n other (λ e. absurd (u e)))
       go fit (passes c p) =
           rw (readyCycle→cycle (threadAt ts k .state) c (p .ready))
-          (granted c (record { fit = fit; thread = p .thread; ready = p .ready; before-horizon = p .in-time; no-hazard = p .no-hazard; room = p .room }))
+          (granted c (record { fit = fit; thread = p .thread; ready = p .ready; in-time = p .in-time; no-hazard = p .no-hazard; room = p .room }))
 
   -- the answer by its number and its values
   pub requestOf-answers : Answers m marks ws site ts k (requestOf m marks ws site ts k .answer)
@@ -98,11 +98,11 @@ module _ (m : Model) (marks : List (List Bool)) (ws : List ℕ) (site : Site) (t
       go (granted c g) f = let z : _≡_ {A = ℕ} 0 1 = cc in absurd (omega arith)
 
   pub requestOf-granted : (c : Cycle) → Grantable c → requestOf m marks ws site ts k ≡ grantedTo m ws site ts k c
-  unfolding requestOf requestFit answeredBy numberIn isBeforeHorizon isFull countedPlaces
+  unfolding requestOf requestFit answeredBy numberIn isUpToHorizon isFull countedPlaces
   requestOf-granted c g =
       let number =
       passed→numberFor (m .t) (endTime m) (hazard m marks ws (logOf site) ts k) (floorOf m ts) (listedIn m k (threadAt ts k .segment)) (logOf site) ts k c
-      (record { thread = g .thread; ready = g .ready; in-time = g .before-horizon; no-hazard = g .no-hazard; room = g .room }) in
+      (record { thread = g .thread; ready = g .ready; in-time = g .in-time; no-hazard = g .no-hazard; room = g .room }) in
       rw (g .fit, number, readyCycle→cycle (threadAt ts k .state) c (g .ready)) refl
 
   -- a grant's answer says the segment and the cycle, and that everything stood for it
@@ -116,9 +116,9 @@ module _ (m : Model) (marks : List (List Bool)) (ws : List ℕ) (site : Site) (t
           let same : d ≡ c = cc in
           ((cc), subst Grantable same g)
 
-  -- Demand 2: on a fit state, for a thread ready before the horizon at c, with places left
+  -- Demand 2: on a fit state, for a thread ready up to the horizon at c, with places left
   module _ (c : Cycle) (fit : isUnfit m ws site ts ≡ false) (thread : k < m .t) (ready : readyCycle (threadAt ts k .state) ≡ At c)
-      (before-horizon : isBeforeHorizon m c ≡ true) (room : isFull m site ts k c ≡ false)
+      (in-time : isUpToHorizon m c ≡ true) (room : isFull m site ts k c ≡ false)
     where
       pub granted-exactly : (requestOf m marks ws site ts k .answer ≡ Granted (threadAt ts k .segment) c) ↔ (hazard m marks ws (logOf site) ts k c ≡ false)
       unfolding grantedTo
@@ -127,7 +127,7 @@ module _ (m : Model) (marks : List (List Bool)) (ws : List ℕ) (site : Site) (t
         λ h.
             ap
             (λ (r : Requested). r .answer)
-            (requestOf-granted c (record { fit = fit; thread = thread; ready = ready; before-horizon = before-horizon; no-hazard = h; room = room })),
+            (requestOf-granted c (record { fit = fit; thread = thread; ready = ready; in-time = in-time; no-hazard = h; room = room })),
       )
 
 -- A list: what every request keeps, a list keeps, with each thread's history grown at its end.

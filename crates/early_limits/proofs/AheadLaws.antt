@@ -27,7 +27,7 @@ use Rattle.early.specs.Forecast.{forecastOf}
 use Rattle.early.specs.Hazard.{threadsConflict, isSooner, threatens, hazard}
 use Rattle.early_laws.proofs.EarliestLaws.{earliestAt, earliest-idle}
 use Rattle.early_laws.proofs.FitLaws.{FitCycle}
-use Rattle.early_laws.proofs.RangeLaws.{within-leastBelow, within-distance, within-notify, sum-small}
+use Rattle.early_laws.proofs.RangeLaws.{earliestTime, sumTime, within-leastBelow, within-distance, within-notify, sum-small}
 use Rattle.early_limits.specs.Limit.{limitOf, limitOfCycle, limitOfWord, sumOf, isSoonerLimit}
 use Rattle.early_limits.specs.Ahead.{reachOf, forecastAt, threatensLimit, hazardAt, segmentsOf}
 use Rattle.early_limits.proofs.LimitLaws.{Limited, within-limited, limitOf-before, limitOf-⊕, limitOf-sooner, limitOfCycle-is}
@@ -64,17 +64,17 @@ module _ (m : Model) (ws : List ℕ) (l : List Notification) (ts : List Thread) 
   unfolding forecastOf
   forecast-range e =
       within-limited
-      35000000000
+      sumTime
       34815
       (forecastOf m ws l ts e)
       (omega arith)
       (omega arith)
       (within-leastBelow
-      35000000000
+      sumTime
       34815
       (m .t)
       (λ k. soonestNotify m ws ts k (earliestAt m ws l ts k) e)
-      (λ k h. within-notify m ws l ts (fit-threads fit) (fit .log) (fit-words fit) 34000000000 33792 (earliestAt m ws l ts k) k e h (earliest-range m ws l ts fit k h)))
+      (λ k h. within-notify m ws l ts (fit-threads fit) (fit .log) (fit-words fit) earliestTime 33792 (earliestAt m ws l ts k) k e h (earliest-range m ws l ts fit k h)))
 
   -- "if the forecast of the event is not smaller"
   pub forecast-heard : (e : ℕ) (since : Cycle) → e < m .e
@@ -98,14 +98,14 @@ module _ (m : Model) (ws : List ℕ) (l : List Notification) (ts : List Thread) 
         (limitOf-⊕
         x
         d
-        (within-limited 34000000000 33792 x (omega arith) (omega arith) (earliest-range m ws l ts fit j h))
+        (within-limited earliestTime 33792 x (omega arith) (omega arith) (earliest-range m ws l ts fit j h))
         (within-limited cutTime lastDelta d (omega arith) (omega arith) (within-distance m ws l ts (fit-threads fit) (fit .log) (fit-words fit) (threadAt ts j .segment) s (fit-segment fit j h) p))))
         ∙ limitOf-sooner
         (x ⊕ d)
         j
         c
         i
-        (within-limited 35000000000 34815 (x ⊕ d) (omega arith) (omega arith) (sum-small m ws l ts (fit-threads fit) (fit .log) (fit-words fit) j s (fit-counts fit .threads) h p))
+        (within-limited sumTime 34815 (x ⊕ d) (omega arith) (omega arith) (sum-small m ws l ts (fit-threads fit) (fit .log) (fit-words fit) j s (fit-counts fit .threads) h p))
         (omega (arith, fits .time, fits .delta)))
 
     threatens-limit : (j : ℕ) → j < m .t

@@ -15,7 +15,7 @@ use Rattle.clock.specs.declared.Wait.the-variants as wait
 use Rattle.clock.specs.Wait.{waitEnds}
 use Rattle.model.specs.declared.Model.{Model}
 use Rattle.model.specs.declared.Thread.{Thread}
-use Rattle.model.specs.Limits.{isBeforeHorizon}
+use Rattle.model.specs.Limits.{endTime, isUpToHorizon}
 use Rattle.model.specs.Footprint.{has}
 use Rattle.model.specs.Record.{threadAt, readyCycle}
 use Rattle.plain_laws.proofs.RecordLaws.{stateAfter-not-waits, horizon→<, heard-time, heard-delta}
@@ -89,15 +89,15 @@ module _ (m : Model) (ws : List ℕ) (l : List Notification) where
   pub settled-fit : (ts : List Thread) → FitState m ws l ts → FitState m ws l (settled m ws l ts)
   settled-fit ts fit = settled-carries m ws l (λ us is. FitState m ws l us) (λ us is k h f. lookedAt-fit us k f) ts fit
 
--- a thread that runs its segment at c, ready and before the horizon
+-- a thread that runs its segment at c, ready and up to the horizon
 module _ (m : Model) (ws : List ℕ) (site : Site) (ts : List Thread) (fit : FitState m ws (logOf site) ts) (k : ℕ) (c : Cycle) (thread : k < m .t)
-    (ready : readyCycle (threadAt ts k .state) ≡ At c) (before : isBeforeHorizon m c ≡ true)
+    (ready : readyCycle (threadAt ts k .state) ≡ At c) (before : isUpToHorizon m c ≡ true)
   where
     kept : Keeps m
     kept = modelFault-keeps m (fit .model)
 
-    now : c .time .0 < m .horizon .0
-    now = horizon→< m c (true→T (isBeforeHorizon m c) before)
+    now : c .time .0 < endTime m
+    now = horizon→< m c (true→T (isUpToHorizon m c) before)
 
     ran-fit : T (isFitThread m k (effectAt m site ts k c .thread))
     unfolding effectAt

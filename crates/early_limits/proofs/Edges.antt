@@ -33,13 +33,13 @@ pub limitOfCycle-edges :
 unfolding computed
 limitOfCycle-edges = (refl, refl, refl, refl)
 
--- words: time × 1,024 + delta; a time of 999,999,999, of 1,000,000,000 and above; all ones
+-- words: time × 1,024 + delta; a time of 1,000,000,000 with its first and its last delta, and above; all ones
 pub limitOfWord-edges :
     (limitOfWord 0 ≡ 0) ×
     (limitOfWord 1023 ≡ 1023) ×
     (limitOfWord 1024 ≡ 65536) ×
-    (limitOfWord 1023999999999 ≡ 65535999935487) ×
-    (limitOfWord 1024000000000 ≡ allOnes) ×
+    (limitOfWord 1024000000000 ≡ 65536000000000) ×
+    (limitOfWord 1024000001023 ≡ 65536000001023) ×
     (limitOfWord 1024000001024 ≡ allOnes) ×
     (limitOfWord allOnes ≡ allOnes)
 unfolding computed

@@ -26,7 +26,7 @@ use Rattle.tables_laws.proofs.WordLaws.{place-below}
 use Rattle.early.specs.declared.Notification.{Notification}
 use Rattle.early.specs.Earliest.{soonestNotify}
 use Rattle.early_laws.proofs.LinkLaws.{soonestNotify-idle}
-use Rattle.early_laws.proofs.RangeLaws.{Within, within-leastBelow, within-distance, within-notify}
+use Rattle.early_laws.proofs.RangeLaws.{earliestTime, sumTime, Within, within-leastBelow, within-distance, within-notify}
 use Rattle.early_limits.specs.Limit.{limitOf, limitOfWord, sumOf}
 use Rattle.early_limits.specs.Ahead.{nearest, reachOf, forecastAt, segmentsOf}
 use Rattle.early_limits.proofs.LimitLaws.{within-limited, limitOf-cond, limitOf-below, limitOf-⊕, limitOfWord-is}
@@ -95,12 +95,12 @@ module _ (m : Model) (ws : List ℕ) (l : List Notification) (ts : List Thread) 
   -- limits that stand for bounds, thread by thread; never for a thread that is not live
   module _ (xs : List ℕ) (b : ℕ → Bound)
       (same : (k : ℕ) → k < m .t → getD xs k allOnes ≡ limitOf (b k))
-      (small : (k : ℕ) → k < m .t → Within 34000000000 33792 (b k))
+      (small : (k : ℕ) → k < m .t → Within earliestTime 33792 (b k))
       (idle : (k : ℕ) → k < m .t → T (not (isLive (threadAt ts k .state))) → b k ≡ Never)
       (e : ℕ) (event : e < m .e)
     where
-      pub notify-small : (k : ℕ) → k < m .t → Within 35000000000 34815 (soonestNotify m ws ts k (b k) e)
-      notify-small k h = within-notify m ws l ts (fit-threads fit) (fit .log) (fit-words fit) 34000000000 33792 (b k) k e h (small k h)
+      pub notify-small : (k : ℕ) → k < m .t → Within sumTime 34815 (soonestNotify m ws ts k (b k) e)
+      notify-small k h = within-notify m ws l ts (fit-threads fit) (fit .log) (fit-words fit) earliestTime 33792 (b k) k e h (small k h)
 
       notify-limit : (k : ℕ) → k < m .t → sumOf (getD xs k allOnes) (getD (reachOf m ws) (getD (segmentsOf (m .t) ts) k 0 * 32 + e) allOnes) ≡ limitOf (soonestNotify m ws ts k (b k) e)
       notify-limit k h =
@@ -111,7 +111,7 @@ module _ (m : Model) (ws : List ℕ) (l : List Notification) (ts : List Thread) 
           (limitOf-⊕
           (b k)
           (nearestIn m ws r e)
-          (within-limited 34000000000 33792 (b k) (omega arith) (omega arith) (small k h))
+          (within-limited earliestTime 33792 (b k) (omega arith) (omega arith) (small k h))
           (within-limited cutTime lastDelta (nearestIn m ws r e) (omega arith) (omega arith) (nearest-within r e (fit-segment fit k h))))
           ∙ ap limitOf (sym (soonestNotify-is m ws ts k e (b k) (λ t. idle k h t))))
 
@@ -124,5 +124,5 @@ module _ (m : Model) (ws : List ℕ) (l : List Notification) (ts : List Thread) 
           (m .t)
           (λ k. soonestNotify m ws ts k (b k) e)
           (λ j. sumOf (getD xs j allOnes) (getD (reachOf m ws) (getD (segmentsOf (m .t) ts) j 0 * 32 + e) allOnes))
-          (λ k h. within-limited 35000000000 34815 (soonestNotify m ws ts k (b k) e) (omega arith) (omega arith) (notify-small k h))
+          (λ k h. within-limited sumTime 34815 (soonestNotify m ws ts k (b k) e) (omega arith) (omega arith) (notify-small k h))
           (λ k h. notify-limit k h))

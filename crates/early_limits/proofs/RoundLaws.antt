@@ -24,7 +24,7 @@ use Rattle.early.specs.Earliest.{soonestNotify, linkTo, earliestOf}
 use Rattle.early_laws.proofs.LinkLaws.{sourceOf-idle, linkTo-waiting, linkTo-other}
 use Rattle.early_laws.proofs.EarliestLaws.{earliestAt, linkedAt, withLinks-none, withLinks-more}
 use Rattle.early_laws.proofs.FitLaws.{isFitThread→}
-use Rattle.early_laws.proofs.RangeLaws.{Within, within-leastBelow, within-oneDelta, within-notify, links-small, earliest-small}
+use Rattle.early_laws.proofs.RangeLaws.{earliestTime, sumTime, Within, within-leastBelow, within-oneDelta, within-notify, links-small, earliest-small}
 use Rattle.early_limits.specs.Limit.{limitOf, lesser, sumOf}
 use Rattle.early_limits.specs.Ahead.{reachOf, forecastAt, relaxedAt, afterRounds, earliestLimits, eventAwaited, segmentsOf, eventsOf, sourceLimits}
 use Rattle.early_limits.proofs.LimitLaws.{within-limited, limitOf-least, limitOf-oneDelta}
@@ -63,7 +63,7 @@ module _ (m : Model) (ws : List ℕ) (l : List Notification) (ts : List Thread) 
 
   -- one round: xs holds the limits after n rounds
   module _ (n : ℕ) (few : n ≤ 32) (xs : List ℕ) (same : (k : ℕ) → k < m .t → getD xs k allOnes ≡ limitOf (linkedAt m ws l ts n k)) (k : ℕ) (h : k < m .t) where
-    small : (j : ℕ) → j < m .t → Within 34000000000 33792 (linkedAt m ws l ts n j)
+    small : (j : ℕ) → j < m .t → Within earliestTime 33792 (linkedAt m ws l ts n j)
     small j p = links-small m ws l ts (fit-threads fit) (fit .log) (fit-words fit) n j few p
 
     -- a waiting thread, one delta after the forecast of its event
@@ -77,14 +77,14 @@ module _ (m : Model) (ws : List ℕ) (l : List Notification) (ts : List Thread) 
           (λ j p. linkTo-waiting m ws ts j k e since (linkedAt m ws l ts n j) waits)
           ∙ sym (leastBelow-⊕ (m .t) (λ j. soonestNotify m ws ts j (linkedAt m ws l ts n j) e) oneDelta)
 
-      forecast-small : Within 35000000000 34815 (forecastFrom m ws ts (linkedAt m ws l ts n) e)
+      forecast-small : Within sumTime 34815 (forecastFrom m ws ts (linkedAt m ws l ts n) e)
       forecast-small =
           within-leastBelow
-          35000000000
+          sumTime
           34815
           (m .t)
           (λ j. soonestNotify m ws ts j (linkedAt m ws l ts n j) e)
-          (λ j p. within-notify m ws l ts (fit-threads fit) (fit .log) (fit-words fit) 34000000000 33792 (linkedAt m ws l ts n j) j e p (small j p))
+          (λ j p. within-notify m ws l ts (fit-threads fit) (fit .log) (fit-words fit) earliestTime 33792 (linkedAt m ws l ts n j) j e p (small j p))
 
       woken-limit : lesser (limitOf (linkedAt m ws l ts n k)) (sumOf (forecastAt (reachOf m ws) (segmentsOf (m .t) ts) xs (m .t) e) 1) ≡ limitOf (least (linkedAt m ws l ts n k) (leastBelow (m .t) (λ j. linkTo m ws ts j k (linkedAt m ws l ts n j))))
       woken-limit =
@@ -92,13 +92,13 @@ module _ (m : Model) (ws : List ℕ) (l : List Notification) (ts : List Thread) 
           let f = forecastFrom m ws ts (linkedAt m ws l ts n) e in
           rw
           (links-are, forecastAt-is m ws l ts fit xs (linkedAt m ws l ts n) same small (λ j p t. linked-idle n j p t) e event)
-          (ap (lesser (limitOf x)) (sym (limitOf-oneDelta f (within-limited 35000000000 34815 f (omega arith) (omega arith) forecast-small)))
+          (ap (lesser (limitOf x)) (sym (limitOf-oneDelta f (within-limited sumTime 34815 f (omega arith) (omega arith) forecast-small)))
           ∙ sym
           (limitOf-least
           x
           (f ⊕ oneDelta)
-          (within-limited 34000000000 33792 x (omega arith) (omega arith) (small k h))
-          (within-limited 35000000000 34816 (f ⊕ oneDelta) (omega arith) (omega arith) (within-oneDelta 35000000000 34815 f forecast-small))))
+          (within-limited earliestTime 33792 x (omega arith) (omega arith) (small k h))
+          (within-limited sumTime 34816 (f ⊕ oneDelta) (omega arith) (omega arith) (within-oneDelta sumTime 34815 f forecast-small))))
 
     round-limit : relaxedAt (reachOf m ws) (segmentsOf (m .t) ts) (eventsOf (m .t) ts) xs (m .t) k ≡ limitOf (linkedAt m ws l ts (suc n) k)
     unfolding relaxedAt eventAwaited
@@ -149,5 +149,5 @@ module _ (m : Model) (ws : List ℕ) (l : List Notification) (ts : List Thread) 
   unfolding earliestLimits
   earliestLimits-past k h = rounds-past (m .t) k h
 
-  pub earliest-range : (k : ℕ) → k < m .t → Within 34000000000 33792 (earliestAt m ws l ts k)
+  pub earliest-range : (k : ℕ) → k < m .t → Within earliestTime 33792 (earliestAt m ws l ts k)
   earliest-range k h = earliest-small m ws l ts (fit-threads fit) (fit .log) (fit-words fit) k (fit-counts fit .threads) h

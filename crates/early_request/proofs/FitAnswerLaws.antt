@@ -20,7 +20,7 @@ use Rattle.model.specs.declared.Thread.{Thread}
 use Rattle.model.specs.declared.Closer.the-variants.{End}
 use Rattle.model.specs.Values.{noSegment, segmentAt, segmentFor, bodyOf}
 use Rattle.model.specs.Statement.{notifiedBy}
-use Rattle.model.specs.Limits.{endTime, isBeforeHorizon}
+use Rattle.model.specs.Limits.{endTime, isUpToHorizon}
 use Rattle.model.specs.Record.{threadAt, readyCycle, cycleOf}
 use Rattle.model.specs.Effect.{Effect, effectOf, heldEffect}
 use Rattle.model.specs.Footprint.{listedIn}
@@ -67,7 +67,7 @@ module _ (m : Model) (marks : List (List Bool)) (ws : List ℕ) (site : Site) (t
           listed = ap (λ (x : Segment). notifiedBy (bodyOf x)) (same h);
         })
 
-    module _ (c : Cycle) (thread : k < m .t) (ready : readyCycle (threadAt ts k .state) ≡ At c) (before : isBeforeHorizon m c ≡ true) where
+    module _ (c : Cycle) (thread : k < m .t) (ready : readyCycle (threadAt ts k .state) ≡ At c) (before : isUpToHorizon m c ≡ true) where
       closed-fit : FitState m ws (logAfter m site ts k c) (closedThreads m site ts k c)
       closed-fit = granted-fit m ws site ts fit k c thread ready before
 
@@ -95,7 +95,7 @@ module _ (m : Model) (marks : List (List Bool)) (ws : List ℕ) (site : Site) (t
           (ap (λ (x : Effect). afterOf (grantOn (reachOf m ws) (m .t) site ts k c x)) effect-is ∙ granted-is)
 
     pub answered-is : afterOf (answeredOn (endTime m) (m .n) (m .t) g marks ws (reachOf m ws) site ts k) ≡ afterOf (requestFit m marks ws site ts k)
-    unfolding answeredOn requestFit answeredBy numberIn isBeforeHorizon
+    unfolding answeredOn requestFit answeredBy numberIn isUpToHorizon
     answered-is = rw number-is (go (ℕ-discrete (numberIn m marks ws site ts k) 0))
       where
         n : ℕ

@@ -41,7 +41,7 @@ module _ (m : Model) (marks : List (List Bool)) (ws : List ℕ) where
     where
       go : {r : Requested} → Asked m marks ws site ts k r → isUnfit m ws (r .site) (r .threads) ≡ false
       go (refused n h u) = e
-      go (granted c g) = after-fit m ws site ts (isUnfit→FitState m ws site ts e) k c (g .thread) (g .ready) (g .before-horizon) (g .room)
+      go (granted c g) = after-fit m ws site ts (isUnfit→FitState m ws site ts e) k c (g .thread) (g .ready) (g .in-time) (g .room)
 
   -- one request more
   requestsOf-more : (site : Site) (ts : List Thread) (ks : List ℕ) (i : ℕ) → i < length ks

@@ -78,7 +78,7 @@ fn is_full(t: u8, listed: Events, site: Site, threads: Threads, c: Cycle) -> boo
     clock::is_bound_before(early_deliver::floor_of(threads, t), Bound::At(c))
 }
 
-// 14, 15 or 0, of a ready thread before the end time.
+// 14, 15 or 0, of a ready thread up to the horizon.
 fn decide_ready(
     n: u8,
     t: u8,
@@ -106,9 +106,9 @@ fn decide_ready(
     0
 }
 
-// The number on a fit state, 0 for a grant: by the counts of the model, its end time and the events that the segment lists.
+// The number on a fit state, 0 for a grant: by the counts of the model, its horizon and the events that the segment lists.
 fn decide(
-    end: Time,
+    horizon: Time,
     n: u8,
     t: u8,
     listed: Events,
@@ -120,7 +120,7 @@ fn decide(
     k: ThreadNo,
 ) -> u8
     requires { ⌜ t ≤ 32 ⌝ }
-    ensures { λ r. ⌜ r ≡ numberOn (end .0) n t (take (listed .n) (listed .at)) marks (now (words .entry)) (now (reach .entry)) (logOf site) (threads .at) (k .0) ⌝ }
+    ensures { λ r. ⌜ r ≡ numberOn (horizon .0 + 1) n t (take (listed .n) (listed .at)) marks (now (words .entry)) (now (reach .entry)) (logOf site) (threads .at) (k .0) ⌝ }
 {
     if t <= k.0 {
         return 10;
@@ -131,7 +131,7 @@ fn decide(
     let State::Ready(c) = s else {
         return 12;
     };
-    if end.0 <= c.time.0 {
+    if horizon.0 < c.time.0 {
         return 13;
     }
     let at = Stamp {
@@ -199,9 +199,9 @@ fn run_grant(reach: &[u64], t: u8, g: Segment, site: Site, threads: Threads, k: 
     finish(reach, t, ran, site, threads, at)
 }
 
-// A request on a fit state, by the counts of its model, its end time and the segment that the thread is in: decided, then run.
+// A request on a fit state, by the counts of its model, its horizon and the segment that the thread is in: decided, then run.
 fn answered(
-    end: Time,
+    horizon: Time,
     n: u8,
     t: u8,
     g: Segment,
@@ -213,10 +213,10 @@ fn answered(
     k: ThreadNo,
 ) -> After
     requires { ⌜ t ≤ 32 ⌝ }
-    ensures { λ r. ⌜ r ≡ afterOf (answeredOn (end .0) n t g marks (now (words .entry)) (now (reach .entry)) site (threads .at) (k .0)) ⌝ }
+    ensures { λ r. ⌜ r ≡ afterOf (answeredOn (horizon .0 + 1) n t g marks (now (words .entry)) (now (reach .entry)) site (threads .at) (k .0)) ⌝ }
 {
     let listed = model_effect::listed(g);
-    let number = decide(end, n, t, listed, marks, words, reach, site, threads, k);
+    let number = decide(horizon, n, t, listed, marks, words, reach, site, threads, k);
     if number != 0 {
         return refused(number, site, threads);
     }
@@ -322,10 +322,10 @@ pub fn request(
     early_ahead::fill_reach(m, words, &mut reach);
     let t = m.t;
     let n = m.n;
-    let end = m.horizon;
+    let horizon = m.horizon;
     let s = segment_of(threads, t, k.0);
     let g = m.segments[s];
-    answered(end, n, t, g, marks, words, &reach, site, threads, k)
+    answered(horizon, n, t, g, marks, words, &reach, site, threads, k)
 }
 
 // Whether an answer is a grant, as a number.
@@ -392,7 +392,7 @@ fn answer_all(
 {
     let t = m.t;
     let n = m.n;
-    let end = m.horizon;
+    let horizon = m.horizon;
     let mut s = site;
     let mut ts = threads;
     let mut granted: u64 = 0;
@@ -401,7 +401,7 @@ fn answer_all(
         let k = ks[i];
         let j = segment_of(ts, t, k);
         let g = m.segments[j];
-        let a = answered(end, n, t, g, marks, words, reach, s, ts, ThreadNo(k));
+        let a = answered(horizon, n, t, g, marks, words, reach, s, ts, ThreadNo(k));
         let answer = a.answer;
         put_answer(answers, 4 * i, answer);
         granted += grants_in(answer);

@@ -20,7 +20,7 @@ use Rattle.model.specs.declared.Start.{Start}
 use Rattle.model.specs.declared.Model.{Model}
 use Rattle.model.specs.declared.State.the-variants.{Ended, Overrun, Ready, Waiting}
 use Rattle.model.specs.Refusal as refusal
-use Rattle.model.specs.Limits.{largestTime, cutTime, recordTime, isBeforeHorizon, isBoundBeforeHorizon}
+use Rattle.model.specs.Limits.{largestTime, cutTime, recordTime, isUpToHorizon, isBoundUpToHorizon}
 use Rattle.model.specs.Values.{noStatement, noSegment, noStart, noModel, segmentAt, segmentFor, startAt, bodyOf, withHead, withSegment, withStart}
 use Rattle.model.specs.Statement.{executeOp, execute, notifiedBy}
 use Rattle.model.specs.Record.{threadAt, isLive, readyCycle, nothing, awaits, awaitedBy, cycleOf}
@@ -68,7 +68,7 @@ numbers :
     (refusal.wrongThread ≡ 10) ×
     (refusal.unfit ≡ 11) ×
     (refusal.notReady ≡ 12) ×
-    (refusal.atHorizon ≡ 13) ×
+    (refusal.pastHorizon ≡ 13) ×
     (refusal.hazardStands ≡ 14) ×
     (refusal.logFull ≡ 15) ×
     (refusal.shortTable ≡ 16)
@@ -76,20 +76,23 @@ numbers = (refl, refl, refl, refl, refl, refl, refl, refl, refl, refl, refl, ref
 
 limits :
     (largestTime ≡ 1000000000) ×
-    (cutTime ≡ 1000000000) ×
-    (recordTime ≡ 2000000000)
+    (cutTime ≡ 1000000001) ×
+    (recordTime ≡ 2000000001)
 limits = (refl, refl, refl)
 
--- H - 1, H and H + 1; never is not before it
+-- H - 1, H with its first and its last delta, and H + 1; never is past it
 horizon :
-    (isBeforeHorizon (model 5 0 0 [] []) (cycleAt 4 1023) ≡ true) ×
-    (isBeforeHorizon (model 5 0 0 [] []) (cycleAt 5 0) ≡ false) ×
-    (isBeforeHorizon (model 5 0 0 [] []) (cycleAt 6 0) ≡ false) ×
-    (isBoundBeforeHorizon (model 5 0 0 [] []) (At (cycleAt 4 1025)) ≡ true) ×
-    (isBoundBeforeHorizon (model 5 0 0 [] []) (At (cycleAt 5 0)) ≡ false) ×
-    (isBoundBeforeHorizon (model 5 0 0 [] []) Never ≡ false)
-unfolding isBeforeHorizon isBoundBeforeHorizon
-horizon = (refl, refl, refl, refl, refl, refl)
+    (isUpToHorizon (model 5 0 0 [] []) (cycleAt 4 1023) ≡ true) ×
+    (isUpToHorizon (model 5 0 0 [] []) (cycleAt 5 0) ≡ true) ×
+    (isUpToHorizon (model 5 0 0 [] []) (cycleAt 5 1023) ≡ true) ×
+    (isUpToHorizon (model 5 0 0 [] []) (cycleAt 6 0) ≡ false) ×
+    (isUpToHorizon (model 1000000000 0 0 [] []) (cycleAt 1000000000 1023) ≡ true) ×
+    (isUpToHorizon (model 1000000000 0 0 [] []) (cycleAt 1000000001 0) ≡ false) ×
+    (isBoundUpToHorizon (model 5 0 0 [] []) (At (cycleAt 5 1025)) ≡ true) ×
+    (isBoundUpToHorizon (model 5 0 0 [] []) (At (cycleAt 6 0)) ≡ false) ×
+    (isBoundUpToHorizon (model 5 0 0 [] []) Never ≡ false)
+unfolding isUpToHorizon isBoundUpToHorizon
+horizon = (refl, refl, refl, refl, refl, refl, refl, refl, refl)
 
 -- Values
 

@@ -1,5 +1,5 @@
--- Document 01: the limits on times, each said once, and the horizon.
-use Prim.Native.Nat.{ℕ}
+-- Documents 01 and 02: the limits on times, each said once, and the horizon.
+use Prim.Native.Nat.{ℕ, _+_}
 use mathlib.Core.Bool.{Bool, false}
 use lib.Dec.{ltb}
 use Rattle.clock.specs.declared.Cycle.{Cycle}
@@ -11,25 +11,26 @@ use Rattle.model.specs.declared.Model.{Model}
 abbrev pub largestTime : ℕ
 largestTime = 1000000000
 
--- "'never' .. at 1,000,000,000 units or more"; "log time of 1,000,000,000 or more"
+-- "'Never' begins above 1,000,000,000 units"; "11 allows a log time or a distance word's time of exactly 1,000,000,000"
 abbrev pub cutTime : ℕ
-cutTime = 1000000000
+cutTime = 1000000001
 
--- "record time of 2,000,000,000 or more"
+-- "and a record time of exactly 2,000,000,000"
 abbrev pub recordTime : ℕ
-recordTime = 2000000000
+recordTime = 2000000001
 
--- the first time that is not run: "A thread ready at time H or later is not run."
+-- the first time that is not run: "A thread ready at exactly H is therefore run"
 abbrev pub endTime : Model → ℕ
-endTime m = m .horizon .0
+endTime m = m .horizon .0 + 1
 
 -- a cycle before an end time: the one comparison, for a model and for code that hands on an end time alone
 abbrev pub isBeforeTime : ℕ → Cycle → Bool
 isBeforeTime end c = ltb (c .time .0) end
 
-unfoldable pub isBeforeHorizon : Model → Cycle → Bool
-isBeforeHorizon m c = isBeforeTime (endTime m) c
+-- "not later than H"
+unfoldable pub isUpToHorizon : Model → Cycle → Bool
+isUpToHorizon m c = isBeforeTime (endTime m) c
 
-unfoldable pub isBoundBeforeHorizon : Model → Bound → Bool
-isBoundBeforeHorizon m Never = false
-isBoundBeforeHorizon m (At c) = isBeforeHorizon m c
+unfoldable pub isBoundUpToHorizon : Model → Bound → Bool
+isBoundUpToHorizon m Never = false
+isBoundUpToHorizon m (At c) = isUpToHorizon m c

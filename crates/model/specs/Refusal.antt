@@ -53,9 +53,9 @@ unfit = 11
 abbrev pub notReady : ℕ
 notReady = 12
 
--- "its time is H or later"
-abbrev pub atHorizon : ℕ
-atHorizon = 13
+-- "13 applies to a time later than H"
+abbrev pub pastHorizon : ℕ
+pastHorizon = 13
 
 -- "a hazard"
 abbrev pub hazardStands : ℕ

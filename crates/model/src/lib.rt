@@ -7,10 +7,10 @@ use clock::Time;
 pub const LARGEST_TIME: u64 = 1000000000;
 
 // `cutTime`: a distance or a log time is below it.
-pub const CUT_TIME: u64 = 1000000000;
+pub const CUT_TIME: u64 = 1000000001;
 
 // `recordTime`: the time of a thread record is below it.
-pub const RECORD_TIME: u64 = 2000000000;
+pub const RECORD_TIME: u64 = 2000000001;
 
 // `cutTime` as a word of distance: 1,024 for each unit.
 pub const CUT_WORD: u64 = 1024 * CUT_TIME;

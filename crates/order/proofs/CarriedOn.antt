@@ -1,5 +1,5 @@
 -- Any list can be carried on to an end: a history so far is a beginning of the plain run's, so that all of them together
--- grow only so far, and as long as a thread is ready before the horizon some request is granted and makes one longer.
+-- grow only so far, and as long as a thread is ready up to the horizon some request is granted and makes one longer.
 -- Takes as given the facts of the plain run (PlainFacts) and the laws of the kit (KitLaws).
 use Prim.Native.Nat.{ℕ, zero, suc, _+_, _-_, _≤_, _<_}
 use mathlib.Core.Path.{_≡_, refl, ap, sym, _∙_, subst}

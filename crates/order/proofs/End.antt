@@ -1,5 +1,5 @@
--- The end (section 7 of the argument). Where no thread is ready before the horizon, every place that runs a thread is done:
--- its thread's earliest would be before the horizon, and with it the floor. Nor is a wake left: it would be by a done place,
+-- The end (section 7 of the argument). Where no thread is ready up to the horizon, every place that runs a thread is done:
+-- its thread's earliest would not be later than the horizon, nor the floor. Nor is a wake left: it would be by a done place,
 -- so logged, so not before the floor. So variables, histories and records are the plain run's, carried on until it is done.
 -- Takes as given the facts of the plain run (PlainFacts), the laws of the kit (KitLaws) and the lower bound at this cut (`LowerBound`).
 use Prim.Native.Nat.{ℕ, zero, suc, _+_, _-_, _≤_, _<_}
@@ -20,7 +20,7 @@ use Rattle.clock.proofs.OrderLaws.{Before→not-⊑, ≼-trans}
 use Rattle.clock.proofs.AdvanceLaws.{⊕-inflate}
 use Rattle.model.specs.declared.Model.{Model}
 use Rattle.model.specs.declared.Thread.{Thread}
-use Rattle.model.specs.Limits.{isBeforeHorizon}
+use Rattle.model.specs.Limits.{isUpToHorizon}
 use Rattle.model.specs.Record as view
 use Rattle.model.specs.Record.{threadAt, viewOf}
 use Rattle.plain.specs.Start.{Place}
@@ -70,8 +70,8 @@ module _ (m : Model) (pf : PlainFacts m) {marks : List (List Bool)} {ws : List �
     {x : List ℕ} {l : List Notification} {ts : List Thread} {h : ℕ → List Item} {cut : ℕ → ℕ}
     (ic : IsCut m x l ts h cut (floorOf m ts)) (bd : Bounded m ws ts cut (kl .forecasts l ts .earliest)) (over : someReady m ts ≡ false)
   where
-    -- the floor is not before the horizon
-    floor-late : (c : Cycle) → floorOf m ts ≼ At c → T (isBeforeHorizon m c) → ⊥
+    -- the floor is past the horizon
+    floor-late : (c : Cycle) → floorOf m ts ≼ At c → T (isUpToHorizon m c) → ⊥
     floor-late c fc early =
         let (f, fl, below) = finite-below (floorOf m ts) c fc in
         let (k, inside, ready) = floorOf-attained m ts f fl in

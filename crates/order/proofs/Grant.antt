@@ -16,7 +16,7 @@ use Rattle.clock.specs.Cycle.{stampAt}
 use Rattle.clock.proofs.CycleLaws.{StampBefore}
 use Rattle.model.specs.declared.Model.{Model}
 use Rattle.model.specs.declared.Thread.{Thread}
-use Rattle.model.specs.Limits.{isBeforeHorizon}
+use Rattle.model.specs.Limits.{isUpToHorizon}
 use Rattle.model.specs.Record as view
 use Rattle.model.specs.Record.{threadAt, viewOf}
 use Rattle.model.specs.Effect.{Effect, effectOf}
@@ -39,7 +39,7 @@ module _ (m : Model) (pf : PlainFacts m) {marks : List (List Bool)} {ws : List �
     (ic : IsCut m x l ts h cut low) (k : ℕ) (c : Cycle) (kt : k < m .t) (ready : viewOf (threadAt ts k .state) ≡ view.ready c)
   where
     -- the place that is granted
-    pub next-place : T (isBeforeHorizon m c) → NextRun m (cut k) k c
+    pub next-place : T (isUpToHorizon m c) → NextRun m (cut k) k c
     next-place soon = pf .next-run (cut k) k c kt (ap (λ (t : Thread). viewOf (t .state)) (sym (ic .records k kt)) ∙ ready) soon
 
     -- its record is the thread's

@@ -26,7 +26,7 @@ use Rattle.model.specs.declared.Closer.{Closer}
 use Rattle.model.specs.declared.Closer.the-variants.{End, Time, Event}
 use Rattle.model.specs.declared.Model.{Model}
 use Rattle.model.specs.declared.Thread.{Thread}
-use Rattle.model.specs.Limits.{endTime, cutTime, isBeforeHorizon}
+use Rattle.model.specs.Limits.{endTime, cutTime, isUpToHorizon}
 use Rattle.model.specs.Record as view
 use Rattle.model.specs.Record.{viewOf}
 use Rattle.model.specs.Values.{segmentAt, segmentFor}
@@ -94,11 +94,11 @@ module _ (m : Model) (fit : modelFault m ≡ 0) (ws : List ℕ) (begins : Begins
   words-enough : m .n * m .n ≤ length ws
   words-enough = rw (begins .1) (simp length-append (omega (arith, wordsOf-length m)))
 
-  -- no time before the horizon is cut
+  -- no time up to the horizon is cut
   end-cut : endTime m ≤ cutTime
   end-cut = omega (arith, modelFault-horizon m fit .1)
 
-  before-cut : (c : Cycle) → T (isBeforeHorizon m c) → c .time .0 < cutTime
+  before-cut : (c : Cycle) → T (isUpToHorizon m c) → c .time .0 < cutTime
   before-cut c t = omega (arith, horizon→< m c t, end-cut)
 
   footprints : Footprints m
@@ -139,7 +139,7 @@ module _ (m : Model) (fit : modelFault m ≡ 0) (ws : List ℕ) (begins : Begins
       (closed-waits a g c since (effectOf m k a c x .variables) e) f
 
   over-event : (k r a e : ℕ) (c since h : Cycle) (x : List ℕ) (y : Bound) → k < m .t → r < m .n → a < m .n
-      → viewOf (effectOf m k a c x .thread .state) ≡ view.waits e since → since ⊑ h → T (isBeforeHorizon m h)
+      → viewOf (effectOf m k a c x .thread .state) ≡ view.waits e since → since ⊑ h → T (isUpToHorizon m h)
       → y ⊕ distanceIn m ws r a ≼ At c → y ⊕ distanceIn m ws r (effectOf m k a c x .thread .segment) ≼ At h ⊕ oneDelta
   over-event k r a e c since h x y kt rn an f b t l =
       let start : c ⊑ h = subst (λ (z : Cycle). z ⊑ h) (effectOf-waits m k a c x e since f) b in

@@ -16,7 +16,7 @@ use Rattle.clock.specs.Advance.{_⊕_, oneDelta, noAdvance}
 use Rattle.clock.specs.Order.{Before, _⊑_, _≼_}
 use Rattle.model.specs.declared.Model.{Model}
 use Rattle.model.specs.declared.Thread.{Thread}
-use Rattle.model.specs.Limits.{cutTime, isBeforeHorizon}
+use Rattle.model.specs.Limits.{cutTime, isUpToHorizon}
 use Rattle.model.specs.Record as view
 use Rattle.model.specs.Record.{threadAt, isLive, viewOf}
 use Rattle.model.specs.Effect.{effectOf}
@@ -77,11 +77,11 @@ pub record Needed (m : Model) (marks : List (List Bool)) : Type 1 where
 pub record Distances (m : Model) (ws : List ℕ) : Type 0 where
   -- thread k runs segment a at c and is ready at d, in segment b: what is bounded by y ⊕ D(r, a) before, is bounded so after
   pub over-wait : (k r a : ℕ) (c d : Cycle) (x : List ℕ) (y : Bound) → k < m .t → r < m .n → a < m .n
-      → viewOf (effectOf m k a c x .thread .state) ≡ view.ready d → T (isBeforeHorizon m d) → y ⊕ distanceIn m ws r a ≼ At c
+      → viewOf (effectOf m k a c x .thread .state) ≡ view.ready d → T (isUpToHorizon m d) → y ⊕ distanceIn m ws r a ≼ At c
       → y ⊕ distanceIn m ws r (effectOf m k a c x .thread .segment) ≼ At d
   -- it waits, since c, in segment b, and its event is heard at a cycle not before c
   pub over-event : (k r a e : ℕ) (c since h : Cycle) (x : List ℕ) (y : Bound) → k < m .t → r < m .n → a < m .n
-      → viewOf (effectOf m k a c x .thread .state) ≡ view.waits e since → since ⊑ h → T (isBeforeHorizon m h) → y ⊕ distanceIn m ws r a ≼ At c
+      → viewOf (effectOf m k a c x .thread .state) ≡ view.waits e since → since ⊑ h → T (isUpToHorizon m h) → y ⊕ distanceIn m ws r a ≼ At c
       → y ⊕ distanceIn m ws r (effectOf m k a c x .thread .segment) ≼ At h ⊕ oneDelta
   pub self : (r : ℕ) → r < m .n → distanceIn m ws r r ≡ noAdvance
   pub listed : (k s : ℕ) (c : Cycle) (x : List ℕ) (e : ℕ) → T (has (effectOf m k s c x .notified) e) → T (notifiesIn m k s e)

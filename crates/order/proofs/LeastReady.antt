@@ -1,4 +1,4 @@
--- The least ready stamp: its cycle is the floor, and where some thread is ready before the horizon there is one.
+-- The least ready stamp: its cycle is the floor, and where some thread is ready up to the horizon there is one.
 -- Assumes nothing.
 use Prim.Native.Nat.{ℕ, _<_}
 use mathlib.Core.Path.{_≡_, ap, subst}
@@ -18,7 +18,7 @@ use Rattle.clock.proofs.OrderLaws.{Before-irrefl, Three, before, same, after, B
 use Rattle.clock.proofs.CycleLaws.{StampBefore, isStampBefore→, →isStampBefore}
 use Rattle.model.specs.declared.Model.{Model}
 use Rattle.model.specs.declared.Thread.{Thread}
-use Rattle.model.specs.Limits.{isBeforeHorizon}
+use Rattle.model.specs.Limits.{isUpToHorizon}
 use Rattle.model.specs.Record as view
 use Rattle.model.specs.Record.{threadAt, View, viewOf}
 use Rattle.plain.specs.Wake.{floorOf, someReady}
@@ -26,9 +26,9 @@ use Rattle.plain_laws.proofs.RecordLaws.{ready-same, horizon-mono}
 use Rattle.plain_laws.proofs.WakeLaws.{floorOf-attained, someReady-some, someReady-found}
 use Rattle.order.proofs.Floor.{not-Before→⊑, floor-below, floor-glb, finite-below}
 
--- where none is ready before the horizon, a ready thread is not before it
+-- where none is ready up to the horizon, a ready thread is past it
 pub someReady-none : (m : Model) (ts : List Thread) → someReady m ts ≡ false → (k : ℕ) (c : Cycle) → k < m .t
-    → viewOf (threadAt ts k .state) ≡ view.ready c → T (isBeforeHorizon m c) → ⊥
+    → viewOf (threadAt ts k .state) ≡ view.ready c → T (isUpToHorizon m c) → ⊥
 someReady-none m ts e k c below r b =
     T-not (someReady m ts) (false→T (someReady m ts) e) (true→T (someReady m ts) (someReady-found m ts k c below r b))
 
@@ -62,18 +62,18 @@ least-floor m ts i c lr =
     ≼-antisym (floorOf m ts) (At c) (floor-below m ts i c (lr .below) (lr .ready))
     (floor-glb m ts (At c) (λ k d below r. not-Before→⊑ (λ h. lr .least k d below r (→isStampBefore (stampAt d k) (stampAt c i) (inl h)))))
 
--- where one is ready before the horizon, there is a least
+-- where one is ready up to the horizon, there is a least
 pub some-least : (m : Model) (ts : List Thread) → someReady m ts ≡ true
-    → (i : ℕ) × (c : Cycle) × LeastReady m ts i c × T (isBeforeHorizon m c)
+    → (i : ℕ) × (c : Cycle) × LeastReady m ts i c × T (isUpToHorizon m c)
 some-least m ts e = found (someReady-some m ts e)
   where
-    least-at : (f : Cycle) → floorOf m ts ≡ At f → T (isBeforeHorizon m f)
-        → (i : ℕ) × (c : Cycle) × LeastReady m ts i c × T (isBeforeHorizon m c)
+    least-at : (f : Cycle) → floorOf m ts ≡ At f → T (isUpToHorizon m f)
+        → (i : ℕ) × (c : Cycle) × LeastReady m ts i c × T (isUpToHorizon m c)
     least-at f fl early = go (find-first (m .t) (λ i. viewOf (threadAt ts i .state) ≡ view.ready f) (λ i. decReady f (viewOf (threadAt ts i .state)))) (floorOf-attained m ts f fl)
       where
         go : FirstOf (m .t) (λ i. viewOf (threadAt ts i .state) ≡ view.ready f) ⊎ ((i : ℕ) → i < m .t → viewOf (threadAt ts i .state) ≡ view.ready f → ⊥)
             → (k : ℕ) × (k < m .t) × (viewOf (threadAt ts k .state) ≡ view.ready f)
-            → (i : ℕ) × (c : Cycle) × LeastReady m ts i c × T (isBeforeHorizon m c)
+            → (i : ℕ) × (c : Cycle) × LeastReady m ts i c × T (isUpToHorizon m c)
         go (inr none) (k, below, r) = absurd (none k below r)
         go (inl first) _ = (first .index, f, record { below = first .below; ready = first .holds; least = λ j d below r t. smaller j d below r (isStampBefore→ (stampAt d j) (stampAt f (first .index)) t) }, early)
           where
@@ -82,8 +82,8 @@ some-least m ts e = found (someReady-some m ts e)
             smaller j d below r (inl h) = Before→not-⊑ h (subst (λ (b : Bound). b ≼ At d) fl (floor-below m ts j d below r))
             smaller j d below r (inr (p, h)) = first .first j h (subst (λ (x : Cycle). viewOf (threadAt ts j .state) ≡ view.ready x) p r)
 
-    found : (k : ℕ) × (c : Cycle) × (k < m .t) × (viewOf (threadAt ts k .state) ≡ view.ready c) × T (isBeforeHorizon m c)
-        → (i : ℕ) × (c : Cycle) × LeastReady m ts i c × T (isBeforeHorizon m c)
+    found : (k : ℕ) × (c : Cycle) × (k < m .t) × (viewOf (threadAt ts k .state) ≡ view.ready c) × T (isUpToHorizon m c)
+        → (i : ℕ) × (c : Cycle) × LeastReady m ts i c × T (isUpToHorizon m c)
     found (k, c, below, r, early) =
         let (f, fl, fc) = finite-below (floorOf m ts) c (floor-below m ts k c below r) in
         least-at f fl (horizon-mono m fc early)

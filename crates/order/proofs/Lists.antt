@@ -13,7 +13,7 @@ use Rattle.clock.specs.declared.Cycle.{Cycle}
 use Rattle.clock.specs.declared.Bound.{Bound}
 use Rattle.model.specs.declared.Model.{Model}
 use Rattle.model.specs.declared.Thread.{Thread}
-use Rattle.model.specs.Limits.{isBeforeHorizon}
+use Rattle.model.specs.Limits.{isUpToHorizon}
 use Rattle.model.specs.Record as view
 use Rattle.model.specs.Record.{threadAt, viewOf}
 use Rattle.model.specs.Footprint.{listedIn, notifiesIn}
@@ -96,7 +96,7 @@ module _ (m : Model) (pf : PlainFacts m) {marks : List (List Bool)} {ws : List �
     ran-cut = (moved cut k (suc (run .place)), granted-cut m pf kl ic k c (g .thread) ready run (g .no-hazard))
       where
         run : NextRun m (cut k) k c
-        run = next-place m pf kl ic k c (g .thread) ready (true→T (isBeforeHorizon m c) (g .before-horizon))
+        run = next-place m pf kl ic k c (g .thread) ready (true→T (isUpToHorizon m c) (g .in-time))
 
     delivered-cut : SomeCut m (effectAt m site ts k c .variables) (logAfter m site ts k c) (threadsAfter m ws site ts k c)
         (λ j. h j ++ itemsAfter m ws site ts k c j) (floorOf m ts)

@@ -22,7 +22,7 @@ use Rattle.clock.proofs.OrderLaws.{⊑-refl, Before→not-⊑}
 use Rattle.clock.proofs.AdvanceLaws.{⊕-noAdvance}
 use Rattle.model.specs.declared.Model.{Model}
 use Rattle.model.specs.declared.Thread.{Thread}
-use Rattle.model.specs.Limits.{isBeforeHorizon}
+use Rattle.model.specs.Limits.{isUpToHorizon}
 use Rattle.model.specs.Record as view
 use Rattle.model.specs.Record.{threadAt, isLive, View, viewOf}
 use Rattle.plain.specs.History.{Item}
@@ -64,9 +64,9 @@ module _ (m : Model) (pf : PlainFacts m) {marks : List (List Bool)} {ws : List �
     -- What is shown of a record of thread k, by its view. Ready: the bound is not after its cycle, if that is before the
     -- horizon. Waiting: the record is the one at the cut, or the bound is not after the delta that follows any hearing.
     abbrev BoundAt : ℕ → Thread → View → Type 0
-    BoundAt k t (view.ready c) = T (isBeforeHorizon m c) → boundTo k t ≼ At c
+    BoundAt k t (view.ready c) = T (isUpToHorizon m c) → boundTo k t ≼ At c
     BoundAt k t (view.waits e since) =
-        (t ≡ threadAt ts k) ⊎ ((c : Cycle) → since ⊑ c → T (isBeforeHorizon m c) → boundTo k t ≼ At c ⊕ oneDelta)
+        (t ≡ threadAt ts k) ⊎ ((c : Cycle) → since ⊑ c → T (isUpToHorizon m c) → boundTo k t ≼ At c ⊕ oneDelta)
     BoundAt k t view.idle = Unit {0}
 
     abbrev Sound : ℕ → Thread → Type 0

@@ -22,7 +22,7 @@ use Rattle.clock.proofs.AdvanceLaws.{advanceOf-Event}
 use Rattle.clock.proofs.WaitLaws.{waitEnds-advance}
 use Rattle.model.specs.declared.Model.{Model}
 use Rattle.model.specs.declared.Thread.{Thread}
-use Rattle.model.specs.Limits.{isBeforeHorizon}
+use Rattle.model.specs.Limits.{isUpToHorizon}
 use Rattle.model.specs.Record as view
 use Rattle.model.specs.Record.{isLive, isLiveView, stateAfter, View, viewOf}
 use Rattle.plain.specs.Step.{placeAt}
@@ -37,9 +37,9 @@ use Rattle.order.proofs.Floor.{not-Before→⊑}
 pub heard-ready : (c d : Cycle) → viewOf (stateAfter (waitEnds wait.Event c)) ≡ view.ready d → At c ⊕ oneDelta ≡ At d
 heard-ready c d e = rw (← advanceOf-Event) (waitEnds-advance wait.Event c (stateAfter-ready (waitEnds wait.Event c) d e))
 
--- a cycle before the horizon is not after one that is not
-horizon-⊑ : (m : Model) (c d : Cycle) → T (isBeforeHorizon m c) → T (not (isBeforeHorizon m d)) → c ⊑ d
-horizon-⊑ m c d before late = not-Before→⊑ (λ h. T-not (isBeforeHorizon m d) late (horizon-mono m (Before→⊑ h) before))
+-- a cycle up to the horizon is not after one that is past it
+horizon-⊑ : (m : Model) (c d : Cycle) → T (isUpToHorizon m c) → T (not (isUpToHorizon m d)) → c ⊑ d
+horizon-⊑ m c d before late = not-Before→⊑ (λ h. T-not (isUpToHorizon m d) late (horizon-mono m (Before→⊑ h) before))
 
 -- one that has ended or overrun neither runs nor hears
 abbrev pub Over : Thread → Type 0
@@ -86,13 +86,13 @@ module _ (m : Model) (pf : PlainFacts m) where
         go (runs _ _ items) = items
         go (hears e since r _ _) = absurd (ready-not-waits (here .ready) (r .waits))
 
-    -- it is ready again no sooner than now: at a later place, or not before the horizon
+    -- it is ready again no sooner than now: at a later place, or past the horizon
     pub run-later : (d : Cycle) → viewOf (effectThere m i k .thread .state) ≡ view.ready d → nowAt m i ⊑ d
-    run-later d e = go (T-case (isBeforeHorizon m d))
+    run-later d e = go (T-case (isUpToHorizon m d))
       where
         again : viewOf (recordAt m (suc i) k .state) ≡ view.ready d
         again = ap (λ (t : Thread). viewOf (t .state)) run-record ∙ e
 
-        go : T (isBeforeHorizon m d) ⊎ T (not (isBeforeHorizon m d)) → nowAt m i ⊑ d
+        go : T (isUpToHorizon m d) ⊎ T (not (isUpToHorizon m d)) → nowAt m i ⊑ d
         go (inr late) = horizon-⊑ m (nowAt m i) d (pf .now-before i) late
         go (inl before) = let next = pf .next-run (suc i) k d (here .below) again before in subst (λ (c : Cycle). nowAt m i ⊑ c) (next .now) (pf .now-mono i (next .place) (omega (arith, next .from)))

@@ -10,7 +10,7 @@ use lib.ListN.{length}
 use Rattle.clock.specs.declared.Cycle.{Cycle}
 use Rattle.clock.specs.Order.{Before, _⊑_}
 use Rattle.model.specs.declared.Model.{Model}
-use Rattle.model.specs.Limits.{isBeforeHorizon}
+use Rattle.model.specs.Limits.{isUpToHorizon}
 use Rattle.model.specs.Record as view
 use Rattle.model.specs.Record.{viewOf}
 use Rattle.plain.specs.Step.{placeAt}
@@ -56,12 +56,12 @@ pub record PlainFacts (m : Model) : Type 0 where
   pub now-mono : (i j : ℕ) → i ≤ j → nowAt m i ⊑ nowAt m j
   -- places in order have stamps in order
   pub stamps : (i j a b : ℕ) → i < j → Runs m i a → Runs m j b → Before (nowAt m i) (nowAt m j) ⊎ ((nowAt m i ≡ nowAt m j) × (a < b))
-  pub now-before : (i : ℕ) → T (isBeforeHorizon m (nowAt m i))
+  pub now-before : (i : ℕ) → T (isUpToHorizon m (nowAt m i))
   -- a wait has begun by now
   pub begun : (i k e : ℕ) (since : Cycle) → k < m .t → viewOf (recordAt m i k .state) ≡ view.waits e since → since ⊑ nowAt m i
   -- whoever hears, somebody notified in that cycle
   pub source : (i k e : ℕ) (since : Cycle) → Hears m i k e since → (q : ℕ) × (j : ℕ) × (q < i) × Says m q j e × (nowAt m q ≡ nowAt m i)
-  pub next-run : (n k : ℕ) (c : Cycle) → k < m .t → viewOf (recordAt m n k .state) ≡ view.ready c → T (isBeforeHorizon m c)
+  pub next-run : (n k : ℕ) (c : Cycle) → k < m .t → viewOf (recordAt m n k .state) ≡ view.ready c → T (isUpToHorizon m c)
       → NextRun m n k c
   -- a thread that waits at n hears, at the latest in the cycle of any notification of its event that is not before its wait
   pub next-hearing : (n k e q j : ℕ) (since : Cycle) → k < m .t → viewOf (recordAt m n k .state) ≡ view.waits e since → Says m q j e

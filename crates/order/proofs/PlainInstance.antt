@@ -11,7 +11,7 @@ use Rattle.clock.specs.declared.Cycle.{Cycle}
 use Rattle.clock.specs.Order.{_⊑_}
 use Rattle.model.specs.declared.Model.{Model}
 use Rattle.model.specs.declared.Thread.{Thread}
-use Rattle.model.specs.Limits.{isBeforeHorizon}
+use Rattle.model.specs.Limits.{isUpToHorizon}
 use Rattle.model.specs.Record as view
 use Rattle.model.specs.Record.{threadAt, viewOf}
 use Rattle.model.specs.Footprint.{has}
@@ -99,7 +99,7 @@ module _ (m : Model) where
       (s .place, placeAt m (s .place) .turn, s .earlier, says-there (s .place) e (s .says), s .now)
 
   module _ (kept : range.Keeps m) where
-    run-there : (n k : ℕ) (c : Cycle) → k < m .t → viewOf (recordAt m n k .state) ≡ view.ready c → T (isBeforeHorizon m c) → NextRun m n k c
+    run-there : (n k : ℕ) (c : Cycle) → k < m .t → viewOf (recordAt m n k .state) ≡ view.ready c → T (isUpToHorizon m c) → NextRun m n k c
     run-there n k c l e b =
         let r = end.will-run m k n c kept l e b in
         record {

@@ -1,6 +1,6 @@
--- Never a standstill (section 6 of the argument). In a reached state the least ready stamp before the horizon has no hazard,
+-- Never a standstill (section 6 of the argument). In a reached state the least ready stamp up to the horizon has no hazard,
 -- since every earliest is at the floor or later and a waiting thread's is later; and its request finds places in the log.
--- So it is granted; and where some thread is ready before the horizon, there is a least.
+-- So it is granted; and where some thread is ready up to the horizon, there is a least.
 -- Takes as given the facts of the plain run (PlainFacts) and the laws of the kit (KitLaws).
 use Prim.Native.Nat.{ℕ, _≤_, _<_}
 use mathlib.Core.Path.{_≡_, refl, ap, sym, _∙_, subst, subst₂}
@@ -19,7 +19,7 @@ use Rattle.clock.proofs.OrderLaws.{⊑-trans, ⊑-antisym, Before→not-⊑, �
 use Rattle.clock.proofs.CycleLaws.{StampBefore, →isStampBefore}
 use Rattle.model.specs.declared.Model.{Model}
 use Rattle.model.specs.declared.Thread.{Thread}
-use Rattle.model.specs.Limits.{isBeforeHorizon}
+use Rattle.model.specs.Limits.{isUpToHorizon}
 use Rattle.model.specs.Record as view
 use Rattle.model.specs.Record.{threadAt, isLive, isLiveView, readyCycleOf, View, viewOf}
 use Rattle.model.specs.Footprint.{listedIn, notifiesIn}
@@ -107,26 +107,26 @@ module _ (m : Model) (pf : PlainFacts m) {marks : List (List Bool)} {ws : List �
     least-room room = isFull-floor m (siteOf x l) ts i c (subst (λ (b : Bound). At c ≼ b) (sym fl) ⊑-refl) (least-counted room)
 
     -- it is granted
-    pub cut-granted : Roomy (floorOf m ts) l → length l ≤ places → T (isBeforeHorizon m c)
+    pub cut-granted : Roomy (floorOf m ts) l → length l ≤ places → T (isUpToHorizon m c)
         → requestOf m marks ws (siteOf x l) ts i ≡ grantedTo m ws (siteOf x l) ts i c
     cut-granted room short early =
         requestOf-granted m marks ws (siteOf x l) ts i c (record {
           fit = cut-fit m pf kl ic short;
           thread = lr .below;
           ready = ap readyCycleOf (lr .ready);
-          before-horizon = T→true (isBeforeHorizon m c) early;
+          in-time = T→true (isUpToHorizon m c) early;
           no-hazard = rw (logOf-siteOf x l) least-free;
           room = least-room room;
         })
 
-  -- the least ready stamp before the horizon is always granted
+  -- the least ready stamp up to the horizon is always granted
   pub least-granted : (site : Site) (ts : List Thread) (h : ℕ → List Item) → Reached m site ts h → (i : ℕ) (c : Cycle)
-      → LeastReady m ts i c → T (isBeforeHorizon m c) → requestOf m marks ws site ts i ≡ grantedTo m ws site ts i c
+      → LeastReady m ts i c → T (isUpToHorizon m c) → requestOf m marks ws site ts i ≡ grantedTo m ws site ts i c
   least-granted site ts h r i c lr early =
       subst (λ (s : Site). requestOf m marks ws s ts i ≡ grantedTo m ws s ts i c) (sym (r .site-is))
       (cut-granted (r .is-cut) i c lr (r .roomy) (r .short) early)
 
-  -- where one is ready before the horizon, some thread's request is granted
+  -- where one is ready up to the horizon, some thread's request is granted
   pub some-granted : (site : Site) (ts : List Thread) (h : ℕ → List Item) → Reached m site ts h → someReady m ts ≡ true
       → (k : ℕ) × (c : Cycle) × (k < m .t) × (requestOf m marks ws site ts k ≡ grantedTo m ws site ts k c)
   some-granted site ts h r e =

@@ -12,7 +12,7 @@ use Rattle.clock.specs.declared.Cycle.{Cycle}
 use Rattle.model.specs.declared.Model.{Model}
 use Rattle.model.specs.declared.Thread.{Thread}
 use Rattle.model.specs.Refusal.{unfit}
-use Rattle.model.specs.Limits.{isBeforeHorizon}
+use Rattle.model.specs.Limits.{isUpToHorizon}
 use Rattle.model.specs.Record.{threadAt}
 use Rattle.plain.specs.Wake.{someReady}
 use Rattle.plain.specs.History.{Item, historyAt}
@@ -47,7 +47,7 @@ module _ (m : Model) (pf : PlainFacts m) {marks : List (List Bool)} {ws : List �
   pub after-reached : (ks : List ℕ) → Reached m (after ks .site) (after ks .threads) (after ks .history)
   after-reached ks = list-reached m pf kl ks freshSite ts (λ j. []) (fresh-reached m pf kl ts fresh)
 
-  -- where no thread is ready before the horizon, all is as in the plain run carried on until it is done
+  -- where no thread is ready up to the horizon, all is as in the plain run carried on until it is done
   pub agrees-at-end : (ks : List ℕ) → someReady m (after ks .threads) ≡ false → AgreesAt m (after ks) (pf .ending .place)
   agrees-at-end ks over =
       record {
@@ -62,8 +62,8 @@ module _ (m : Model) (pf : PlainFacts m) {marks : List (List Bool)} {ws : List �
       bd : Bounded m ws (after ks .threads) (r .cut) (kl .forecasts (r .log) (after ks .threads) .earliest)
       bd = bounded m pf kl (r .is-cut) (kl .forecasts (r .log) (after ks .threads))
 
-  -- the least ready stamp before the horizon is always granted
-  pub least-granted-next : (ks : List ℕ) (i : ℕ) (c : Cycle) → LeastReady m (after ks .threads) i c → T (isBeforeHorizon m c)
+  -- the least ready stamp up to the horizon is always granted
+  pub least-granted-next : (ks : List ℕ) (i : ℕ) (c : Cycle) → LeastReady m (after ks .threads) i c → T (isUpToHorizon m c)
       → requestNext m marks ws ts ks i ≡ grantedTo m ws (after ks .site) (after ks .threads) i c
   least-granted-next ks i c lr early =
       least-granted m pf kl (after ks .site) (after ks .threads) (after ks .history) (after-reached ks) i c lr early

@@ -50,7 +50,7 @@ pub record AgreesAt (m : Model) (a : Listed) (i : ℕ) : Type 0 where
   pub closing : (k : ℕ) → k < m .t → threadAt (a .threads) k ≡ threadAt (placeAt m i .threads) k
 
 pub record Claim (m : Model) (marks : List (List Bool)) (ws : List ℕ) (ts : List Thread) (ks : List ℕ) : Type 0 where
-  -- "where no thread is ready before the horizon": equal to "the plain run carried on until it is done"
+  -- "where no thread is ready before the horizon", read "not later than H": equal to "the plain run carried on until it is done"
   pub at-end : someReady m (afterListWith m marks ws ts ks .threads) ≡ false → (i : ℕ) × (isDone m (placeAt m i) ≡ true) × AgreesAt m (afterListWith m marks ws ts ks) i
   -- "where one is ready before it, some thread's request, made next, is granted"
   pub goes-on : someReady m (afterListWith m marks ws ts ks .threads) ≡ true → (k : ℕ) × (s : ℕ) × (c : Cycle) × (requestNext m marks ws ts ks k .answer ≡ Granted s c)

@@ -69,12 +69,15 @@ writers ss = modelOf 10 (only (Set 0 7) ∷ only (Set 0 9) ∷ []) ss
 unfoldable pub wakes : List ℕ → Model
 wakes ss = modelOf 10 (hearing 0 1 ∷ ending ∷ only (Notify 0) ∷ waiting 0 0 ∷ hearing 1 1 ∷ []) ss
 
--- one thread that ends; one that waits k units before it ends
+-- one thread that ends; one that waits k units before it ends; one that waits k units again and again
 unfoldable pub ends : ℕ → Model
 ends h = modelOf h (ending ∷ []) (0 ∷ [])
 
 unfoldable pub waits : ℕ → ℕ → Model
 waits k h = modelOf h (waiting k 1 ∷ ending ∷ []) (0 ∷ [])
+
+unfoldable pub again : ℕ → ℕ → Model
+again k h = modelOf h (waiting k 0 ∷ []) (0 ∷ [])
 
 -- a run of at most 12 steps, with what it shows: n and "spent", and the first three records
 abbrev pub runOf : Model → ℕ → PlainRun
@@ -88,5 +91,5 @@ endOf m budget = take 3 (runOf m budget .threads .at)
 
 -- opens them all
 unfoldable pub models : Unit {0}
-unfolding computed segmentOf withSegments withStarts modelOf four writers wakes ends waits
+unfolding computed segmentOf withSegments withStarts modelOf four writers wakes ends waits again
 models = tt

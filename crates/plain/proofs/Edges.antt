@@ -65,25 +65,27 @@ pub floorOf-least :
 unfolding models
 floorOf-least = (refl, refl, refl)
 
--- "A thread ready at time H or later is not run": H - 1, H, H + 1; the last thread below T, and the first past it
+-- "A thread ready at exactly H is therefore run": H - 1, H with its first and its last delta, H + 1; the last thread below T, and the first past it
 pub someReady-horizon :
     (someReady four (thread 0 (Ready (cycleAt 9 1023)) ∷ []) ≡ true) ×
-    (someReady four (thread 0 (Ready (cycleAt 10 0)) ∷ []) ≡ false) ×
+    (someReady four (thread 0 (Ready (cycleAt 10 0)) ∷ []) ≡ true) ×
+    (someReady four (thread 0 (Ready (cycleAt 10 1023)) ∷ []) ≡ true) ×
     (someReady four (thread 0 (Ready (cycleAt 11 0)) ∷ []) ≡ false) ×
     (someReady four (noThread ∷ noThread ∷ noThread ∷ thread 0 (Ready (cycleAt 0 0)) ∷ []) ≡ true) ×
     (someReady four (noThread ∷ noThread ∷ noThread ∷ noThread ∷ thread 0 (Ready (cycleAt 0 0)) ∷ []) ≡ false) ×
     (someReady four (thread 0 (Waiting 0 (cycleAt 0 0)) ∷ []) ≡ false)
 unfolding models
-someReady-horizon = (refl, refl, refl, refl, refl, refl)
+someReady-horizon = (refl, refl, refl, refl, refl, refl, refl)
 
 pub begun-horizon :
-    (begun four (At (cycleAt 9 0)) (placed [] (cycleAt 5 0) 4 []) .now ≡ cycleAt 9 0) ×
-    (begun four (At (cycleAt 9 0)) (placed [] (cycleAt 5 0) 4 []) .turn ≡ 0) ×
-    (begun four (At (cycleAt 10 0)) (placed [] (cycleAt 5 0) 4 []) .now ≡ cycleAt 5 0) ×
-    (begun four (At (cycleAt 10 0)) (placed [] (cycleAt 5 0) 4 []) .turn ≡ 4) ×
+    (begun four (At (cycleAt 10 0)) (placed [] (cycleAt 5 0) 4 []) .now ≡ cycleAt 10 0) ×
+    (begun four (At (cycleAt 10 0)) (placed [] (cycleAt 5 0) 4 []) .turn ≡ 0) ×
+    (begun four (At (cycleAt 10 1023)) (placed [] (cycleAt 5 0) 4 []) .now ≡ cycleAt 10 1023) ×
+    (begun four (At (cycleAt 11 0)) (placed [] (cycleAt 5 0) 4 []) .now ≡ cycleAt 5 0) ×
+    (begun four (At (cycleAt 11 0)) (placed [] (cycleAt 5 0) 4 []) .turn ≡ 4) ×
     (begun four Never (placed [] (cycleAt 5 0) 4 []) .turn ≡ 4)
 unfolding models
-begun-horizon = (refl, refl, refl, refl, refl)
+begun-horizon = (refl, refl, refl, refl, refl, refl)
 
 -- "the ready threads of that cycle": ready now; a delta later; a time later; not ready
 pub isAt-edges :
@@ -122,13 +124,24 @@ pub stepped-closes :
 unfolding models
 stepped-closes = (refl, refl, refl, refl, refl)
 
--- "The run is done when no thread is ready before H": wakes to be done; a thread still to be looked at; one ready at H - 1, at H
+-- "notifications at H are heard": a wake from (H, d) runs at (H, d + 1); at delta 1,023 it overruns, and nothing runs
+pub stepped-horizon :
+    (threadAt (stepped four (placed (thread 0 (Waiting 0 (cycleAt 9 0)) ∷ []) (cycleAt 10 1) 4 (0 ∷ [])) .threads) 0 ≡ thread 0 (Ready (cycleAt 10 2))) ×
+    (stepped four (placed (thread 0 (Waiting 0 (cycleAt 9 0)) ∷ []) (cycleAt 10 1) 4 (0 ∷ [])) .now ≡ cycleAt 10 2) ×
+    (stepped four (placed (thread 0 (Waiting 0 (cycleAt 9 0)) ∷ []) (cycleAt 10 1) 4 (0 ∷ [])) .turn ≡ 0) ×
+    (threadAt (stepped four (placed (thread 0 (Waiting 0 (cycleAt 9 0)) ∷ []) (cycleAt 10 1023) 4 (0 ∷ [])) .threads) 0 ≡ thread 0 (Overrun (cycleAt 10 1023))) ×
+    (stepped four (placed (thread 0 (Waiting 0 (cycleAt 9 0)) ∷ []) (cycleAt 10 1023) 4 (0 ∷ [])) .now ≡ cycleAt 10 1023) ×
+    (stepped four (placed (thread 0 (Waiting 0 (cycleAt 9 0)) ∷ []) (cycleAt 10 1023) 4 (0 ∷ [])) .turn ≡ 4)
+unfolding models
+stepped-horizon = (refl, refl, refl, refl, refl, refl)
+
+-- "The run is done when no thread is ready" and "not later than H": wakes to be done; a thread still to be looked at; one ready at H, at H + 1
 pub isDone-edges :
     (isDone four (placed (thread 0 (Waiting 0 (cycleAt 5 1)) ∷ []) (cycleAt 5 1) 4 (0 ∷ [])) ≡ false) ×
     (isDone four (placed (thread 0 (Waiting 0 (cycleAt 5 1)) ∷ []) (cycleAt 5 1) 4 []) ≡ true) ×
     (isDone four (placed [] (cycleAt 5 1) 3 []) ≡ false) ×
-    (isDone four (placed (thread 0 (Ready (cycleAt 9 0)) ∷ []) (cycleAt 5 1) 4 []) ≡ false) ×
-    (isDone four (placed (thread 0 (Ready (cycleAt 10 0)) ∷ []) (cycleAt 5 1) 4 []) ≡ true)
+    (isDone four (placed (thread 0 (Ready (cycleAt 10 0)) ∷ []) (cycleAt 5 1) 4 []) ≡ false) ×
+    (isDone four (placed (thread 0 (Ready (cycleAt 11 0)) ∷ []) (cycleAt 5 1) 4 []) ≡ true)
 unfolding models
 isDone-edges = (refl, refl, refl, refl, refl)
 

@@ -10,7 +10,7 @@ use Rattle.model.specs.Record.{noThread}
 use Rattle.plain.specs.Start.{startOf}
 use Rattle.plain.specs.Run.{lastStep, noRun, plainRun}
 use Rattle.plain.specs.History.{ran, heard, historyAt}
-use Rattle.plain.proofs.EdgeModels.{thread, writers, wakes, ends, waits, runOf, countsOf, endOf, models}
+use Rattle.plain.proofs.EdgeModels.{thread, writers, wakes, ends, waits, again, runOf, countsOf, endOf, models}
 
 -- "lowest number first": of two threads that set variable 0, in one cycle, the higher's value stands, whichever segment it has
 pub runOf-lowest-first :
@@ -55,14 +55,24 @@ pub runOf-budgets :
 unfolding models
 runOf-budgets = (refl, refl, refl, refl, refl, refl, refl, refl)
 
--- "A thread ready at time H or later is not run": waits of 3 units, H = 3 and H = 4
+-- "A thread ready at exactly H is therefore run": waits of 3 units, H = 2, H = 3 and H = 4; the longest wait, H = 999,999,999 and H = 1,000,000,000
 pub runOf-horizon :
-    (countsOf (runOf (waits 3 3) 10) ≡ (1, false)) ×
-    (endOf (waits 3 3) 10 ≡ thread 1 (Ready (cycleAt 3 0)) ∷ noThread ∷ noThread ∷ []) ×
+    (countsOf (runOf (waits 3 2) 10) ≡ (1, false)) ×
+    (endOf (waits 3 2) 10 ≡ thread 1 (Ready (cycleAt 3 0)) ∷ noThread ∷ noThread ∷ []) ×
+    (countsOf (runOf (waits 3 3) 10) ≡ (2, false)) ×
+    (endOf (waits 3 3) 10 ≡ thread 1 (Ended (cycleAt 3 0)) ∷ noThread ∷ noThread ∷ []) ×
     (countsOf (runOf (waits 3 4) 10) ≡ (2, false)) ×
-    (endOf (waits 3 4) 10 ≡ thread 1 (Ended (cycleAt 3 0)) ∷ noThread ∷ noThread ∷ [])
+    (countsOf (runOf (waits 1000000000 999999999) 10) ≡ (1, false)) ×
+    (endOf (waits 1000000000 1000000000) 10 ≡ thread 1 (Ended (cycleAt 1000000000 0)) ∷ noThread ∷ noThread ∷ [])
 unfolding models
-runOf-horizon = (refl, refl, refl, refl)
+runOf-horizon = (refl, refl, refl, refl, refl, refl, refl)
+
+-- a wait of 1,000,000,000 units that comes again, H = 1,000,000,000: it runs twice, and its record is at 2,000,000,000
+pub runOf-longest :
+    (countsOf (runOf (again 1000000000 1000000000) 10) ≡ (2, false)) ×
+    (endOf (again 1000000000 1000000000) 10 ≡ thread 0 (Ready (cycleAt 2000000000 0)) ∷ noThread ∷ noThread ∷ [])
+unfolding models
+runOf-longest = (refl, refl)
 
 -- "All threads start ready at (0, 0)." "Variables start at 0." Records past T are zero, and there are 32.
 pub startOf-edges :
@@ -95,7 +105,7 @@ pub plainRun-budget :
 unfolding models
 plainRun-budget = (refl, refl, refl, refl)
 
--- steps after which every run is done: T + 1 for each of 1,024 deltas of each time before H
-pub lastStep-edge : lastStep (ends 3) ≡ 1024 * 3 * 2
+-- steps after which every run is done: T + 1 for each of 1,024 deltas of each time from 0 to H
+pub lastStep-edge : lastStep (ends 3) ≡ 1024 * 4 * 2
 unfolding models
 lastStep-edge = refl

@@ -13,7 +13,7 @@ use Rattle.plain.specs.Start.{Place, startOf, freshVariables}
 use Rattle.plain.specs.Wake.{someReady}
 use Rattle.plain.specs.Step.{isDue, stepped}
 
--- "The run is done when no thread is ready before H", the cycle and its wakes completed
+-- "The run is done when no thread is ready" and "not later than H", the cycle and its wakes completed
 unfoldable pub isDone : Model → Place → Bool
 isDone m p = (leb (m .t) (p .turn) && eqb (length (p .notified)) 0) && not (someReady m (p .threads))
 
@@ -28,7 +28,7 @@ runFor m budget (suc steps) p =
     let on = runFor m budget steps (stepped m p) in
     cond (isDone m p || isOut m budget p) p on
 
--- steps after which every run is done: T + 1 for each of 1,024 deltas of each time before the end
+-- steps after which every run is done: T + 1 for each of 1,024 deltas of each time up to the horizon
 abbrev pub lastStep : Model → ℕ
 lastStep m = 1024 * endTime m * (m .t + 1)
 

@@ -10,7 +10,7 @@ use Rattle.clock.specs.declared.Bound.the-variants.{Never, At}
 use Rattle.clock.specs.Cycle.{isSame}
 use Rattle.model.specs.declared.Model.{Model}
 use Rattle.model.specs.declared.Thread.{Thread}
-use Rattle.model.specs.Limits.{isBeforeHorizon}
+use Rattle.model.specs.Limits.{isUpToHorizon}
 use Rattle.model.specs.Record.{threadAt, readyCycle}
 use Rattle.model.specs.Effect.{Effect, effectOf}
 use Rattle.plain.specs.Start.{Place, startOf}
@@ -41,11 +41,11 @@ ranOn m p =
 unfoldable pub passedOn : Place → Place
 passedOn p = record { variables = p .variables; threads = p .threads; now = p .now; turn = p .turn + 1; notified = p .notified; n = p .n }
 
--- the next cycle begins at f, if that is before the horizon: "A thread ready at time H or later is not run."
+-- the next cycle begins at f, if that is "not later than H"
 unfoldable pub begun : Model → Bound → Place → Place
 begun m Never p = p
 begun m (At c) p =
-    cond (isBeforeHorizon m c)
+    cond (isUpToHorizon m c)
     (record { variables = p .variables; threads = p .threads; now = c; turn = 0; notified = p .notified; n = p .n })
     p
 

@@ -12,7 +12,7 @@ use Rattle.clock.specs.Advance.{leastBelow}
 use Rattle.model.specs.declared.Model.{Model}
 use Rattle.model.specs.declared.State.{State}
 use Rattle.model.specs.declared.Thread.{Thread}
-use Rattle.model.specs.Limits.{isBoundBeforeHorizon}
+use Rattle.model.specs.Limits.{isBoundUpToHorizon}
 use Rattle.model.specs.Record.{threadAt, readyCycle, liveCycle, Awaited, nothing, awaits, awaitedBy, stateAfter}
 use Rattle.model.specs.Footprint.{has}
 
@@ -39,6 +39,6 @@ floorBelow t ts = leastBelow t (λ k. liveCycle (threadAt ts k .state))
 abbrev pub floorOf : Model → List Thread → Bound
 floorOf m ts = floorBelow (m .t) ts
 
--- whether some thread is ready before the horizon
+-- whether some thread is ready, "not later than H"
 unfoldable pub someReady : Model → List Thread → Bool
-someReady m ts = anyBelow (m .t) (λ k. isBoundBeforeHorizon m (readyCycle (threadAt ts k .state)))
+someReady m ts = anyBelow (m .t) (λ k. isBoundUpToHorizon m (readyCycle (threadAt ts k .state)))

@@ -426,7 +426,7 @@ fn cycles(m: Model, budget: u64) -> PlainRun
     ensures { λ r. ⌜ r ≡ reported m (runFor m budget (lastStep m) (startOf m)) ⌝ }
 {
     let t = m.t as usize;
-    let limit = 1024 * m.horizon.0;
+    let limit = 1024 * (m.horizon.0 + 1);
     let code = plain_words::pack(m);
     let mut segments = first_segments(m);
     let mut v = [0u32; 64];

@@ -54,7 +54,7 @@ module _ (m : Model) (kept : Keeps m) where
           stop (inl e) = inl (done-at m kept (s .place) (omega arith))
           stop (inr e) = e
 
-  -- where the budget is out, some thread is ready before the horizon
+  -- where the budget is out, some thread is ready up to the horizon
   out-ready : (budget i : ℕ) → isOut m budget (placeAt m i) ≡ true → someReady m (placeAt m i .threads) ≡ true
   out-ready budget i e =
       let o = isOut-parts m budget (placeAt m i) e in
@@ -80,7 +80,7 @@ module _ (m : Model) (kept : Keeps m) where
       go : Ended m budget → runOf m budget .n ≤ budget
       go s = rw (s .result) (n-within m budget (s .place) (s .goes-on))
 
-  -- spent: so many have run, and the next segment is due before the horizon
+  -- spent: so many have run, and the next segment is due up to the horizon
   pub spent→out : (budget : ℕ) → someReady m (runOf m budget .threads) ≡ true → (runOf m budget .n ≡ budget) × (isOut m budget (runOf m budget) ≡ true)
   spent→out budget e = go (ended budget)
     where

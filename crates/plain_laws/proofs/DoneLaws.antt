@@ -1,8 +1,8 @@
--- A done place: the cycle is closed, its wakes are done, and no thread is ready before the horizon.
+-- A done place: the cycle is closed, its wakes are done, and no thread is ready up to the horizon.
 -- Such a place stands still, in place and history, so that any two done places of a run are the same.
---     Late→none, none→Late     no thread ready before the horizon, by the floor
+--     Late→none, none→Late     no thread ready up to the horizon, by the floor
 --     isDone-parts, isDone-made     what "done" says
---     isDone-stands, isDone-items, isDone-ready     a step from a done place changes nothing; nobody is ready before the horizon
+--     isDone-stands, isDone-items, isDone-ready     a step from a done place changes nothing; nobody is ready up to the horizon
 --     placeAt-stands, historyAt-stands, done-place, done-history     so all later places are the same
 --     closed-then-ran     after a close nobody runs in the same cycle
 use Prim.Native.Nat.{ℕ, zero, suc, _+_, _-_, _≤_, _<_}
@@ -23,7 +23,7 @@ use Rattle.clock.specs.Order.{Before}
 use Rattle.clock.proofs.OrderLaws.{Before-⊑-trans}
 use Rattle.model.specs.declared.Model.{Model}
 use Rattle.model.specs.declared.Thread.{Thread}
-use Rattle.model.specs.Limits.{isBeforeHorizon}
+use Rattle.model.specs.Limits.{isUpToHorizon}
 use Rattle.model.specs.Record as view
 use Rattle.model.specs.Record.{threadAt, viewOf}
 use Rattle.plain.specs.Start.{Place}
@@ -48,7 +48,7 @@ module _ (m : Model) (ts : List Thread) where
           floorOf-never m ts e k c h q
       none t (late f e n) =
           let (k, c, h, q, b) = someReady-some m ts (T→true (someReady m ts) t) in
-          T-not (isBeforeHorizon m f) n (horizon-mono m (floorOf-least m ts f e k c h q) b)
+          T-not (isUpToHorizon m f) n (horizon-mono m (floorOf-least m ts f e k c h q) b)
 
       go : T (someReady m ts) ⊎ T (not (someReady m ts)) → someReady m ts ≡ false
       go (inl t) = absurd (none t l)
@@ -59,9 +59,9 @@ module _ (m : Model) (ts : List Thread) where
     where
       go : (f : Bound) → floorOf m ts ≡ f → Late m (floorOf m ts)
       go Never q = never q
-      go (At c) q = late c q (not-T (isBeforeHorizon m c) (λ t. bad t (floorOf-attained m ts c q)))
+      go (At c) q = late c q (not-T (isUpToHorizon m c) (λ t. bad t (floorOf-attained m ts c q)))
         where
-          bad : T (isBeforeHorizon m c) → (k : ℕ) × (k < m .t) × (viewOf (threadAt ts k .state) ≡ view.ready c) → ⊥
+          bad : T (isUpToHorizon m c) → (k : ℕ) × (k < m .t) × (viewOf (threadAt ts k .state) ≡ view.ready c) → ⊥
           bad t (k, h, r) = T-not (someReady m ts) (false→T (someReady m ts) e) (true→T (someReady m ts) (someReady-found m ts k c h r t))
 
 -- an empty list
@@ -90,8 +90,8 @@ module _ (m : Model) (p : Place) where
       (both→and (leb (m .t) (p .turn)) (eqb (length (p .notified)) 0) (le→leb (m .t) (p .turn) (d .turned)) (rw (d .heard-all) tt))
       (false→T (someReady m (p .threads)) (d .none-ready)))
 
-  -- no thread is ready before the horizon at a done place
-  pub isDone-ready : isDone m p ≡ true → (k : ℕ) (c : Cycle) → k < m .t → viewOf (stateOf p k) ≡ view.ready c → T (isBeforeHorizon m c) → ⊥
+  -- no thread is ready up to the horizon at a done place
+  pub isDone-ready : isDone m p ≡ true → (k : ℕ) (c : Cycle) → k < m .t → viewOf (stateOf p k) ≡ view.ready c → T (isUpToHorizon m c) → ⊥
   isDone-ready e k c h q b =
       let f = someReady-found m (p .threads) k c h q b in
       let n = isDone-parts e .none-ready in

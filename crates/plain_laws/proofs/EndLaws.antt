@@ -1,9 +1,9 @@
 -- The plain run ends: a model that keeps the file rules is done after lastStep steps.
 -- Every step but the last close of all moves the turn on, or begins a later cycle; a cycle is one of 1,024 deltas of a time before
--- the horizon, and has T + 1 steps. So a thread that is ready before the horizon does run.
+-- the horizon, and has T + 1 steps. So a thread that is ready up to the horizon does run.
 --     keyOf, keyOf-mono     a cycle as one number
 --     ends, done-at     the run is done at lastStep, and from then on
---     Running, will-run     a thread ready before the horizon runs, and nothing happens to it until then
+--     Running, will-run     a thread ready up to the horizon runs, and nothing happens to it until then
 use Prim.Native.Nat.{ℕ, zero, suc, _+_, _*_, _<_, _≤_}
 use mathlib.Core.Path.{_≡_, ap, sym, _∙_, subst}
 use mathlib.Core.Logic.{_⊎_, inl, inr}
@@ -16,7 +16,7 @@ use Rattle.clock.specs.Order.{Before, sooner, same-time}
 use Rattle.clock.specs.Wait.{lastDelta}
 use Rattle.model.specs.declared.Model.{Model}
 use Rattle.model.specs.declared.Thread.{Thread}
-use Rattle.model.specs.Limits.{endTime, isBeforeHorizon}
+use Rattle.model.specs.Limits.{endTime, isUpToHorizon}
 use Rattle.model.specs.Record as view
 use Rattle.model.specs.Record.{viewOf}
 use Rattle.plain.specs.Step.{stepped, placeAt}
@@ -41,7 +41,7 @@ keyOf-mono a b h (same-time p q) = omega arith
 next-cycle : (a b t u i : ℕ) → a < b → u ≤ t → i ≤ a * (t + 1) + u → suc i ≤ b * (t + 1)
 next-cycle a b t u i h l g = let more : suc a * (t + 1) ≤ b * (t + 1) = mul-le-mul-right (t + 1) h in omega arith
 
--- no cycle before the horizon is left
+-- no cycle up to the horizon is left
 last-cycle : (a h t u : ℕ) → a < 1024 * h → u ≤ t → 1024 * h * (t + 1) ≤ a * (t + 1) + u → ⊥
 last-cycle a h t u l m g = let more : suc a * (t + 1) ≤ 1024 * h * (t + 1) = mul-le-mul-right (t + 1) l in omega arith
 
@@ -103,7 +103,7 @@ module _ (m : Model) (k n : ℕ) (c : Cycle) where
       go ih (runs x y s i) = record { place = j; quiet = g; runs = x; now = ready-same (sym y ∙ here) }
       go ih (hears e h s i) = absurd (ready-not-waits here (h .waiting))
 
-  pub will-run : Keeps m → k < m .t → viewOf (stateOf (placeAt m n) k) ≡ view.ready c → T (isBeforeHorizon m c) → Running m k n c
+  pub will-run : Keeps m → k < m .t → viewOf (stateOf (placeAt m n) k) ≡ view.ready c → T (isUpToHorizon m c) → Running m k n c
   will-run kept h r b =
       runs-within (lastStep m) n (quiet-none m k n) r
       (λ q. isDone-ready m (placeAt m (n + lastStep m)) (done-at m kept (n + lastStep m) (omega arith)) k c h q b)

@@ -63,7 +63,6 @@ module _ (m : Model) (k s : ℕ) (c : Cycle) (v : List ℕ) where
 pub modelFault-keeps : (m : Model) → modelFault m ≡ 0 → Keeps m
 modelFault-keeps m fit =
     record {
-      horizon-some = modelFault-horizon m fit .0;
       horizon-most = modelFault-horizon m fit .1;
       thread-some = modelFault-counts m fit .some-thread;
       thread-most = modelFault-counts m fit .threads;

@@ -1,5 +1,5 @@
 -- A model that keeps the file rules stays in range: segments below N, events below E, times below 2,000,000,000, deltas to 1,023,
--- and the cycle that runs now is before the horizon. What a run uses of the rules is gathered in Keeps.
+-- and the cycle that runs now is not later than the horizon. What a run uses of the rules is gathered in Keeps.
 --     Keeps     what a model that keeps the rules promises of a run
 --     InRange, in-range     at every place
 --     now-before, record-time, ready-time     the times of records, as numbers
@@ -16,7 +16,7 @@ use Rattle.clock.specs.declared.Wait.the-variants as wait
 use Rattle.clock.specs.Wait.{lastDelta, waitEnds}
 use Rattle.model.specs.declared.Model.{Model}
 use Rattle.model.specs.declared.Thread.{Thread}
-use Rattle.model.specs.Limits.{endTime, largestTime, recordTime, isBeforeHorizon}
+use Rattle.model.specs.Limits.{endTime, largestTime, recordTime, isUpToHorizon}
 use Rattle.model.specs.Values.{startAt}
 use Rattle.model.specs.Record as view
 use Rattle.model.specs.Record.{cycleOf, viewOf}
@@ -31,7 +31,6 @@ use Rattle.plain_laws.proofs.StartLaws.{startOf-record, startOf-now, st
 use Rattle.plain_laws.proofs.HappenLaws.{Happens, idle, runs, hears, happens}
 
 pub record Keeps (m : Model) : Type 0 where
-  pub horizon-some : 1 ≤ m .horizon .0
   pub horizon-most : m .horizon .0 ≤ largestTime
   pub thread-some : 1 ≤ m .t
   pub thread-most : m .t ≤ 32
@@ -60,12 +59,12 @@ pub record InRange (m : Model) (p : Place) : Type 0 where
 module _ (m : Model) (kept : Keeps m) where
   range-start : InRange m (startOf m)
   unfolding started
-  range-start = record { fits = fits; now-time = rw (startOf-now m) (kept .horizon-some); now-delta = rw (startOf-now m) (omega arith); notified = λ e t. absurd (has-none e (rw (startOf-notified m) at t)) }
+  range-start = record { fits = fits; now-time = rw (startOf-now m) (omega arith); now-delta = rw (startOf-now m) (omega arith); notified = λ e t. absurd (has-none e (rw (startOf-notified m) at t)) }
     where
       fits : (k : ℕ) → k < m .t → Fits m (recordOf (startOf m) k)
       fits k h =
           subst (Fits m) (sym (startOf-record m k h))
-          (record { segment = kept .first k h; event = λ e c w. absurd (let z : _≡_ {A = ℕ} 0 1 = cc in omega arith); time = omega (arith, kept .horizon-some); delta = omega arith })
+          (record { segment = kept .first k h; event = λ e c w. absurd (let z : _≡_ {A = ℕ} 0 1 = cc in omega arith); time = omega arith; delta = omega arith })
 
   fits-step : (p : Place) → m .t ≤ length (p .threads) → InRange m p → (k : ℕ) → k < m .t → Fits m (recordOf (stepped m p) k)
   fits-step p enough g k h = go (happens m p k enough)
@@ -118,8 +117,8 @@ module _ (m : Model) (kept : Keeps m) where
   in-range zero = range-start
   in-range (suc i) = range-step (placeAt m i) (shape m i .enough) (in-range i)
 
-  -- the cycle that runs now is before the horizon
-  pub now-before : (i : ℕ) → T (isBeforeHorizon m (placeAt m i .now))
+  -- the cycle that runs now is not later than the horizon
+  pub now-before : (i : ℕ) → T (isUpToHorizon m (placeAt m i .now))
   now-before i = <→horizon m (placeAt m i .now) (in-range i .now-time)
 
   -- no record is out of range

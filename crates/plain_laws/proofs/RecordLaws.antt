@@ -4,7 +4,7 @@
 --     readyCycle→ready, ready→state, waits→state, stateAfter-ready, stateAfter-not-waits     which state it is
 --     effectOf-later, effectOf-waits     a thread that has run is ready later, or waits since now
 --     stateAfter-delta, heard-time, heard-delta     what stays in range
---     horizon→<, <→horizon, horizon-mono     before the horizon
+--     horizon→<, <→horizon, horizon-mono     up to the horizon
 --     has-append, append-has     an event among two lists
 use Prim.Native.Nat.{ℕ, _<_, _≤_}
 use mathlib.Core.Path.{_≡_, refl, ap, sym, _∙_, subst}
@@ -31,7 +31,7 @@ use Rattle.model.specs.declared.Model.{Model}
 use Rattle.model.specs.declared.State.{State}
 use Rattle.model.specs.declared.State.the-variants.{Ended, Overrun, Ready, Waiting}
 use Rattle.model.specs.declared.Thread.{Thread}
-use Rattle.model.specs.Limits.{endTime, isBeforeHorizon, isBoundBeforeHorizon}
+use Rattle.model.specs.Limits.{endTime, isUpToHorizon, isBoundUpToHorizon}
 use Rattle.model.specs.Record as view
 use Rattle.model.specs.Record.{awaits, noThread, threadAt, cycleOf, stateAfter, View, viewOf, readyCycleOf, isLiveView, awaitedOf}
 use Rattle.model.specs.Values.{segmentFor}
@@ -163,29 +163,29 @@ module _ (m : Model) (k s : ℕ) (c : Cycle) (v : List ℕ) where
   effectOf-waits e d f =
       closedAt-waits s (segmentFor m k s .closer) c d (effectOf m k s c v .variables) e (ap (λ (t : Thread). viewOf (t .state)) (sym effectOf-thread) ∙ f)
 
--- "ready before H"
+-- "not later than H"
 module _ (m : Model) where
-  pub horizon→< : (c : Cycle) → T (isBeforeHorizon m c) → c .time .0 < endTime m
-  unfolding isBeforeHorizon
+  pub horizon→< : (c : Cycle) → T (isUpToHorizon m c) → c .time .0 < endTime m
+  unfolding isUpToHorizon
   horizon→< c t = ltb→lt (c .time .0) (endTime m) t
 
-  pub <→horizon : (c : Cycle) → c .time .0 < endTime m → T (isBeforeHorizon m c)
-  unfolding isBeforeHorizon
+  pub <→horizon : (c : Cycle) → c .time .0 < endTime m → T (isUpToHorizon m c)
+  unfolding isUpToHorizon
   <→horizon c h = lt→ltb (c .time .0) (endTime m) h
 
-  -- a cycle not after one before the horizon is before it
-  pub horizon-mono : {c d : Cycle} → c ⊑ d → T (isBeforeHorizon m d) → T (isBeforeHorizon m c)
+  -- a cycle not after one that is not later than the horizon is not later either
+  pub horizon-mono : {c d : Cycle} → c ⊑ d → T (isUpToHorizon m d) → T (isUpToHorizon m c)
   horizon-mono {c} {d} (sooner p) t = <→horizon c (omega (arith, horizon→< d t))
   horizon-mono {c} {d} (same-time p q) t = <→horizon c (omega (arith, horizon→< d t))
 
-  pub readyCycle-before : (v : View) → T (isBoundBeforeHorizon m (readyCycleOf v)) → (c : Cycle) × (v ≡ view.ready c) × T (isBeforeHorizon m c)
-  unfolding isBoundBeforeHorizon
+  pub readyCycle-before : (v : View) → T (isBoundUpToHorizon m (readyCycleOf v)) → (c : Cycle) × (v ≡ view.ready c) × T (isUpToHorizon m c)
+  unfolding isBoundUpToHorizon
   readyCycle-before view.idle t = absurd t
   readyCycle-before (view.ready d) t = (d, refl, t)
   readyCycle-before (view.waits e d) t = absurd t
 
-  pub before-readyCycle : (v : View) (c : Cycle) → v ≡ view.ready c → T (isBeforeHorizon m c) → T (isBoundBeforeHorizon m (readyCycleOf v))
-  unfolding isBoundBeforeHorizon
+  pub before-readyCycle : (v : View) (c : Cycle) → v ≡ view.ready c → T (isUpToHorizon m c) → T (isBoundUpToHorizon m (readyCycleOf v))
+  unfolding isBoundUpToHorizon
   before-readyCycle v c e t = rw e t
 
 pub has-append : (a b : List ℕ) (e : ℕ) → T (has (a ++ b) e) → T (has a e) ⊎ T (has b e)

@@ -18,7 +18,7 @@ use Rattle.clock.specs.Order.{Before, _⊑_}
 use Rattle.clock.proofs.OrderLaws.{⊑-refl, ⊑-trans, ⊑-strict, ≡→⊑, Before→⊑}
 use Rattle.model.specs.declared.Model.{Model}
 use Rattle.model.specs.declared.Thread.{Thread}
-use Rattle.model.specs.Limits.{isBeforeHorizon}
+use Rattle.model.specs.Limits.{isUpToHorizon}
 use Rattle.model.specs.Record as view
 use Rattle.model.specs.Record.{noThread, threadAt, viewOf}
 use Rattle.plain.specs.Start.{Place, startOf}
@@ -40,7 +40,7 @@ pub record Steady (p : Place) : Type 0 where
 -- what a step does to the cycle, the turn and the notifications
 pub data Moves (m : Model) (p : Place) : Type 0 where
   turns : (kindOf m p ≡ closed → ⊥) → p .turn < m .t → stepped m p .now ≡ p .now → stepped m p .turn ≡ p .turn + 1 → Moves m p
-  begins : kindOf m p ≡ closed → m .t ≤ p .turn → Before (p .now) (stepped m p .now) → T (isBeforeHorizon m (stepped m p .now)) → stepped m p .turn ≡ 0
+  begins : kindOf m p ≡ closed → m .t ≤ p .turn → Before (p .now) (stepped m p .now) → T (isUpToHorizon m (stepped m p .now)) → stepped m p .turn ≡ 0
       → stepped m p .notified ≡ [] → Moves m p
   rests : kindOf m p ≡ closed → m .t ≤ p .turn → Late m (floorOf m (wokenAt p)) → stepped m p ≡ restedAt p → Moves m p
 

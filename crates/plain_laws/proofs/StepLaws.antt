@@ -20,7 +20,7 @@ use Rattle.clock.proofs.CycleLaws.{isSame→≡, ≡→isSame}
 use Rattle.model.specs.declared.Model.{Model}
 use Rattle.model.specs.declared.State.{State}
 use Rattle.model.specs.declared.Thread.{Thread}
-use Rattle.model.specs.Limits.{isBeforeHorizon}
+use Rattle.model.specs.Limits.{isUpToHorizon}
 use Rattle.model.specs.Record as view
 use Rattle.model.specs.Record.{threadAt, View, viewOf, readyCycleOf}
 use Rattle.model.specs.Effect.{Effect, effectOf}
@@ -71,16 +71,16 @@ begunAt p c = record { variables = p .variables; threads = wokenAt p; now = c; t
 abbrev pub restedAt : Place → Place
 restedAt p = record { variables = p .variables; threads = wokenAt p; now = p .now; turn = p .turn; notified = []; n = p .n }
 
--- a bound that is not before the horizon
+-- a bound that is past the horizon
 pub data Late (m : Model) (f : Bound) : Type 0 where
   never : f ≡ Never → Late m f
-  late : (c : Cycle) → f ≡ At c → T (not (isBeforeHorizon m c)) → Late m f
+  late : (c : Cycle) → f ≡ At c → T (not (isUpToHorizon m c)) → Late m f
 
 -- the kind of a step, and what it tells; a close begins the next cycle, or rests
 pub data Sees (m : Model) (p : Place) : Type 0 where
   sees-ran : kindOf m p ≡ ran → p .turn < m .t → viewOf (stateOf p (p .turn)) ≡ view.ready (p .now) → stepped m p ≡ ranAt m p → Sees m p
   sees-passed : kindOf m p ≡ passed → p .turn < m .t → (viewOf (stateOf p (p .turn)) ≡ view.ready (p .now) → ⊥) → stepped m p ≡ passedAt p → Sees m p
-  sees-begun : kindOf m p ≡ closed → m .t ≤ p .turn → (c : Cycle) → floorOf m (wokenAt p) ≡ At c → T (isBeforeHorizon m c) → stepped m p ≡ begunAt p c → Sees m p
+  sees-begun : kindOf m p ≡ closed → m .t ≤ p .turn → (c : Cycle) → floorOf m (wokenAt p) ≡ At c → T (isUpToHorizon m c) → stepped m p ≡ begunAt p c → Sees m p
   sees-rested : kindOf m p ≡ closed → m .t ≤ p .turn → Late m (floorOf m (wokenAt p)) → stepped m p ≡ restedAt p → Sees m p
 
 isAt→ready : (c : Cycle) (v : View) → T (isAt c (readyCycleOf v)) → v ≡ view.ready c
@@ -107,11 +107,11 @@ closes m p k h s = go (floorOf m (wokenAt p)) refl
   where
     go : (f : Bound) → floorOf m (wokenAt p) ≡ f → Sees m p
     go Never e = sees-rested k h (never e) (s ∙ rw e refl)
-    go (At c) e = test (T-case (isBeforeHorizon m c))
+    go (At c) e = test (T-case (isUpToHorizon m c))
       where
-        test : T (isBeforeHorizon m c) ⊎ T (not (isBeforeHorizon m c)) → Sees m p
-        test (inl b) = sees-begun k h c e b (s ∙ rw (e, T→true (isBeforeHorizon m c) b) refl)
-        test (inr b) = sees-rested k h (late c e b) (s ∙ rw (e, T→false (isBeforeHorizon m c) b) refl)
+        test : T (isUpToHorizon m c) ⊎ T (not (isUpToHorizon m c)) → Sees m p
+        test (inl b) = sees-begun k h c e b (s ∙ rw (e, T→true (isUpToHorizon m c) b) refl)
+        test (inr b) = sees-rested k h (late c e b) (s ∙ rw (e, T→false (isUpToHorizon m c) b) refl)
 
 pub sees : (m : Model) (p : Place) → Sees m p
 unfolding kindOf stepped ranOn passedOn

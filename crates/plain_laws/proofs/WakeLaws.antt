@@ -1,8 +1,8 @@
--- The end of a cycle: who hears and who sleeps on, the floor, and whether some thread is ready before the horizon.
+-- The end of a cycle: who hears and who sleeps on, the floor, and whether some thread is ready up to the horizon.
 --     Wakes, wakes     a state at a cycle's end: it hears, or is left as it is
 --     woken-at, woken-length, woken-none     the records after the wakes
 --     floorOf-≼, floorOf-attained     the floor is the least ready cycle, and some thread's
---     someReady-some, someReady-found     whether some thread is ready before the horizon
+--     someReady-some, someReady-found     whether some thread is ready up to the horizon
 use Prim.Native.Nat.{ℕ, _<_}
 use mathlib.Core.Path.{_≡_, refl, ap, sym, _∙_, subst}
 use mathlib.Core.Logic.{_⊎_, inl, inr}
@@ -26,7 +26,7 @@ use Rattle.clock.proofs.WaitLaws.{waitEnds-later}
 use Rattle.model.specs.declared.Model.{Model}
 use Rattle.model.specs.declared.State.{State}
 use Rattle.model.specs.declared.Thread.{Thread}
-use Rattle.model.specs.Limits.{isBeforeHorizon, isBoundBeforeHorizon}
+use Rattle.model.specs.Limits.{isUpToHorizon, isBoundUpToHorizon}
 use Rattle.model.specs.Record as view
 use Rattle.model.specs.Record.{threadAt, readyCycle, awaitedBy, stateAfter, View, viewOf, awaitedOf, readyCycleOf}
 use Rattle.model.specs.Footprint.{has}
@@ -128,17 +128,17 @@ module _ (m : Model) (ts : List Thread) where
   pub floorOf-never : floorOf m ts ≡ Never → (k : ℕ) (c : Cycle) → k < m .t → viewOf (threadAt ts k .state) ≡ view.ready c → ⊥
   floorOf-never e k c h q = subst (λ (v : View). Never ≼ readyCycleOf v) q (subst (λ (b : Bound). b ≼ readyCycle (threadAt ts k .state)) e (floorOf-≼ k h))
 
--- "ready before H"
+-- "not later than H"
 module _ (m : Model) where
-  pub someReady-some : (ts : List Thread) → someReady m ts ≡ true → (k : ℕ) × (c : Cycle) × (k < m .t) × (viewOf (threadAt ts k .state) ≡ view.ready c) × T (isBeforeHorizon m c)
+  pub someReady-some : (ts : List Thread) → someReady m ts ≡ true → (k : ℕ) × (c : Cycle) × (k < m .t) × (viewOf (threadAt ts k .state) ≡ view.ready c) × T (isUpToHorizon m c)
   unfolding someReady
   someReady-some ts e =
-      let (k, h, t) = anyBelow-some (m .t) (λ j. isBoundBeforeHorizon m (readyCycle (threadAt ts j .state))) (true→T (someReady m ts) e) in
+      let (k, h, t) = anyBelow-some (m .t) (λ j. isBoundUpToHorizon m (readyCycle (threadAt ts j .state))) (true→T (someReady m ts) e) in
       let (c, q, b) = readyCycle-before m (viewOf (threadAt ts k .state)) t in
       (k, c, h, q, b)
 
-  pub someReady-found : (ts : List Thread) (k : ℕ) (c : Cycle) → k < m .t → viewOf (threadAt ts k .state) ≡ view.ready c → T (isBeforeHorizon m c) → someReady m ts ≡ true
+  pub someReady-found : (ts : List Thread) (k : ℕ) (c : Cycle) → k < m .t → viewOf (threadAt ts k .state) ≡ view.ready c → T (isUpToHorizon m c) → someReady m ts ≡ true
   unfolding someReady
   someReady-found ts k c h q t =
       T→true (someReady m ts)
-      (anyBelow-found (m .t) (λ j. isBoundBeforeHorizon m (readyCycle (threadAt ts j .state))) k h (before-readyCycle m (viewOf (threadAt ts k .state)) c q t))
+      (anyBelow-found (m .t) (λ j. isBoundUpToHorizon m (readyCycle (threadAt ts j .state))) k h (before-readyCycle m (viewOf (threadAt ts k .state)) c q t))

@@ -11,13 +11,13 @@ use Rattle.plain_state.proofs.Computed.{computed}
 -- the least and the last word of each kind of state
 pub stateFrom-edge :
     (stateFrom 0 ≡ Ready (cycleAt 0 0)) ×
-    (stateFrom (wordOf (Ready (cycleAt 1999999999 1023))) ≡ Ready (cycleAt 1999999999 1023)) ×
+    (stateFrom (wordOf (Ready (cycleAt 2000000000 1023))) ≡ Ready (cycleAt 2000000000 1023)) ×
     (stateFrom waiting ≡ Waiting 0 (cycleAt 0 0)) ×
-    (stateFrom (wordOf (Waiting 31 (cycleAt 1999999999 1023))) ≡ Waiting 31 (cycleAt 1999999999 1023)) ×
+    (stateFrom (wordOf (Waiting 31 (cycleAt 2000000000 1023))) ≡ Waiting 31 (cycleAt 2000000000 1023)) ×
     (stateFrom ended ≡ Ended (cycleAt 0 0)) ×
-    (stateFrom (wordOf (Ended (cycleAt 1999999999 1023))) ≡ Ended (cycleAt 1999999999 1023)) ×
+    (stateFrom (wordOf (Ended (cycleAt 2000000000 1023))) ≡ Ended (cycleAt 2000000000 1023)) ×
     (stateFrom overrun ≡ Overrun (cycleAt 0 0)) ×
-    (stateFrom (wordOf (Overrun (cycleAt 1999999999 1023))) ≡ Overrun (cycleAt 1999999999 1023))
+    (stateFrom (wordOf (Overrun (cycleAt 2000000000 1023))) ≡ Overrun (cycleAt 2000000000 1023))
 unfolding computed
 stateFrom-edge = (refl, refl, refl, refl, refl, refl, refl, refl)
 

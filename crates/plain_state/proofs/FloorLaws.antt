@@ -1,6 +1,6 @@
 -- The next cycle, and a run that is done.
---     floorOf-one, someReady-rest     some thread is ready before the horizon only where the floor is
---     begun-rest     where the floor is not before the horizon no cycle begins
+--     floorOf-one, someReady-rest     some thread is ready up to the horizon only where the floor is
+--     begun-rest     where the floor is past the horizon no cycle begins
 --     stepped-done, runFor-done, runFor-out, runFor-on     a run that is done stands still; else it goes on by one step
 use Prim.Native.Nat.{ℕ, zero, suc, _<_, _≤_}
 use mathlib.Core.Path.{_≡_, refl, ap, sym, _∙_}
@@ -17,7 +17,7 @@ use Rattle.clock.specs.Order.{_≼_}
 use Rattle.clock.proofs.LeastLaws.{leastBelow-one}
 use Rattle.model.specs.declared.Model.{Model}
 use Rattle.model.specs.declared.Thread.{Thread}
-use Rattle.model.specs.Limits.{isBeforeHorizon, isBoundBeforeHorizon}
+use Rattle.model.specs.Limits.{isUpToHorizon, isBoundUpToHorizon}
 use Rattle.model.specs.Record.{threadAt, readyCycle}
 use Rattle.plain.specs.Start.{Place}
 use Rattle.plain.specs.Wake.{floorBelow, floorOf, someReady}
@@ -27,31 +27,31 @@ use Rattle.plain_laws.proofs.RecordLaws.{horizon-mono}
 use Rattle.plain_laws.proofs.WakeLaws.{floorOf-≼}
 use Rattle.plain_laws.proofs.DoneLaws.{isDone-stands}
 
-isBoundBeforeHorizon-mono : (m : Model) (a b : Bound) → a ≼ b → T (isBoundBeforeHorizon m b) → T (isBoundBeforeHorizon m a)
-unfolding isBoundBeforeHorizon
-isBoundBeforeHorizon-mono m a Never h t = absurd t
-isBoundBeforeHorizon-mono m Never (At b) h t = absurd h
-isBoundBeforeHorizon-mono m (At a) (At b) h t = horizon-mono m h t
+isBoundUpToHorizon-mono : (m : Model) (a b : Bound) → a ≼ b → T (isBoundUpToHorizon m b) → T (isBoundUpToHorizon m a)
+unfolding isBoundUpToHorizon
+isBoundUpToHorizon-mono m a Never h t = absurd t
+isBoundUpToHorizon-mono m Never (At b) h t = absurd h
+isBoundUpToHorizon-mono m (At a) (At b) h t = horizon-mono m h t
 
 module _ (m : Model) (ts : List Thread) where
   pub floorOf-one : (floorOf m ts ≡ Never) ⊎ ((k : ℕ) × (k < m .t) × (floorOf m ts ≡ readyCycle (threadAt ts k .state)))
   unfolding floorBelow
   floorOf-one = leastBelow-one (m .t) _
 
-  -- the floor is not before the horizon, so no thread is ready before it
-  pub someReady-rest : T (not (isBoundBeforeHorizon m (floorOf m ts))) → someReady m ts ≡ false
+  -- the floor is past the horizon, so no thread is ready up to it
+  pub someReady-rest : T (not (isBoundUpToHorizon m (floorOf m ts))) → someReady m ts ≡ false
   unfolding someReady
   someReady-rest n = go (T-case (someReady m ts))
     where
       go : T (someReady m ts) ⊎ T (not (someReady m ts)) → someReady m ts ≡ false
       go (inr t) = T→false (someReady m ts) t
       go (inl t) = let (k, h, u) = anyBelow-some (m .t) _ t in
-          absurd (T-not (isBoundBeforeHorizon m (floorOf m ts)) n (isBoundBeforeHorizon-mono m (floorOf m ts) (readyCycle (threadAt ts k .state)) (floorOf-≼ m ts k h) u))
+          absurd (T-not (isBoundUpToHorizon m (floorOf m ts)) n (isBoundUpToHorizon-mono m (floorOf m ts) (readyCycle (threadAt ts k .state)) (floorOf-≼ m ts k h) u))
 
-pub begun-rest : (m : Model) (f : Bound) (p : Place) → T (not (isBoundBeforeHorizon m f)) → begun m f p ≡ p
-unfolding begun isBoundBeforeHorizon
+pub begun-rest : (m : Model) (f : Bound) (p : Place) → T (not (isBoundUpToHorizon m f)) → begun m f p ≡ p
+unfolding begun isBoundUpToHorizon
 begun-rest m Never p n = refl
-begun-rest m (At c) p n = rw (T→false (isBeforeHorizon m c) n) refl
+begun-rest m (At c) p n = rw (T→false (isUpToHorizon m c) n) refl
 
 module _ (m : Model) (p : Place) where
   pub stepped-close : m .t ≤ p .turn → stepped m p ≡ closedOn m p

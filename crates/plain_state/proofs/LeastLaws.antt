@@ -1,6 +1,6 @@
 -- The least word is the floor.
 --     leastWord-≤, leastWord-most, leastWord-one     it is at most each word, and one of them
---     floor-word, floor-late     below the horizon it is the floor's cycle; at the horizon or later the floor is too
+--     floor-word, floor-late     below the limit it is the floor's cycle; at the limit or later the floor is past the horizon
 use Prim.Native.Nat.{ℕ, zero, suc, _<_, _≤_}
 use mathlib.Core.Path.{_≡_, refl, ap, sym, _∙_, subst}
 use mathlib.Core.Logic.{_⊎_, inl, inr}
@@ -22,7 +22,7 @@ use Rattle.model.specs.declared.Model.{Model}
 use Rattle.model.specs.declared.State.{State}
 use Rattle.model.specs.declared.State.the-variants.{Ready}
 use Rattle.model.specs.declared.Thread.{Thread}
-use Rattle.model.specs.Limits.{isBeforeHorizon, isBoundBeforeHorizon}
+use Rattle.model.specs.Limits.{isUpToHorizon, isBoundUpToHorizon}
 use Rattle.model.specs.Record.{threadAt, viewOf, readyCycle}
 use Rattle.plain.specs.Wake.{floorBelow, floorOf}
 use Rattle.plain_words.proofs.ReachLaws.{lesserOf-≤}
@@ -85,12 +85,12 @@ module _ (m : Model) (small : limitOf m ≤ span) (ws : List ℕ) (us : List Thr
           key-⊑ c x d (ready-range k h x r .delta) (omega (arith, leastWord-≤ (m .t) ws k h))
 
   pub floor-word : leastWord (m .t) ws < limitOf m →
-      (c : Cycle) × (floorOf m us ≡ At c) × (keyOf c ≡ leastWord (m .t) ws) × Small c × T (isBeforeHorizon m c)
+      (c : Cycle) × (floorOf m us ≡ At c) × (keyOf c ≡ leastWord (m .t) ws) × Small c × T (isUpToHorizon m c)
   unfolding floorBelow
   floor-word h = go (leastWord-one (m .t) ws)
     where
       found : (k : ℕ) → k < m .t → leastWord (m .t) ws ≡ getD ws k 0 → (c : Cycle) × (threadAt us k .state ≡ Ready c) →
-          (c : Cycle) × (floorOf m us ≡ At c) × (keyOf c ≡ leastWord (m .t) ws) × Small c × T (isBeforeHorizon m c)
+          (c : Cycle) × (floorOf m us ≡ At c) × (keyOf c ≡ leastWord (m .t) ws) × Small c × T (isUpToHorizon m c)
       found k l e (c, f) =
           let g : keyOf c ≡ leastWord (m .t) ws = sym (e ∙ (words k l ∙ ap wordOf f)) in
           let s = ready-range k l c f in
@@ -99,25 +99,25 @@ module _ (m : Model) (small : limitOf m ≤ span) (ws : List ℕ) (us : List Thr
           (c, ≼-antisym (floorOf m us) (At c) below above, g, s, limit→horizon m c (omega arith))
 
       go : (leastWord (m .t) ws ≡ 18446744073709551615) ⊎ ((k : ℕ) × (k < m .t) × (leastWord (m .t) ws ≡ getD ws k 0)) →
-          (c : Cycle) × (floorOf m us ≡ At c) × (keyOf c ≡ leastWord (m .t) ws) × Small c × T (isBeforeHorizon m c)
+          (c : Cycle) × (floorOf m us ≡ At c) × (keyOf c ≡ leastWord (m .t) ws) × Small c × T (isUpToHorizon m c)
       go (inl e) = absurd (omega arith)
       go (inr (k, l, e)) = let w = words k l in found k l e (word-ready (threadAt us k .state) (omega arith))
 
-  pub floor-late : limitOf m ≤ leastWord (m .t) ws → T (not (isBoundBeforeHorizon m (floorOf m us)))
-  unfolding isBoundBeforeHorizon
+  pub floor-late : limitOf m ≤ leastWord (m .t) ws → T (not (isBoundUpToHorizon m (floorOf m us)))
+  unfolding isBoundUpToHorizon
   floor-late h = go (floorOf-one m us)
     where
-      past : (x : Cycle) → x .delta .0 ≤ 1023 → limitOf m ≤ keyOf x → T (isBeforeHorizon m x) ⊎ T (not (isBeforeHorizon m x)) → T (not (isBeforeHorizon m x))
+      past : (x : Cycle) → x .delta .0 ≤ 1023 → limitOf m ≤ keyOf x → T (isUpToHorizon m x) ⊎ T (not (isUpToHorizon m x)) → T (not (isUpToHorizon m x))
       past x d l (inl t) = let k = horizon→limit m x t d in absurd (omega arith)
       past x d l (inr t) = t
 
-      late : (k : ℕ) → k < m .t → (b : Bound) → readyCycle (threadAt us k .state) ≡ b → T (not (isBoundBeforeHorizon m b))
+      late : (k : ℕ) → k < m .t → (b : Bound) → readyCycle (threadAt us k .state) ≡ b → T (not (isBoundUpToHorizon m b))
       late k l Never f = tt
       late k l (At x) f =
           let r = ready→state (threadAt us k .state) x (readyCycle→ready (viewOf (threadAt us k .state)) x f) in
           let g : getD ws k 0 ≡ keyOf x = words k l ∙ ap wordOf r in
-          past x (ready-range k l x r .delta) (omega (arith, leastWord-≤ (m .t) ws k l)) (T-case (isBeforeHorizon m x))
+          past x (ready-range k l x r .delta) (omega (arith, leastWord-≤ (m .t) ws k l)) (T-case (isUpToHorizon m x))
 
-      go : (floorOf m us ≡ Never) ⊎ ((k : ℕ) × (k < m .t) × (floorOf m us ≡ readyCycle (threadAt us k .state))) → T (not (isBoundBeforeHorizon m (floorOf m us)))
+      go : (floorOf m us ≡ Never) ⊎ ((k : ℕ) × (k < m .t) × (floorOf m us ≡ readyCycle (threadAt us k .state))) → T (not (isBoundUpToHorizon m (floorOf m us)))
       go (inl e) = rw e tt
       go (inr (k, l, e)) = rw e (late k l (readyCycle (threadAt us k .state)) refl)

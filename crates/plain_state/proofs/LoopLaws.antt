@@ -4,7 +4,7 @@
 --     Loop     the locals stand for a place, the marks for the events notified
 --     loop-start, loop-passed, loop-ran, loop-begun     before the loop, and after each turn
 --     loop-ahead     once all are looked at, every word is ahead
---     loop-out, loop-rest     where the budget is out, and where no thread is ready before the horizon
+--     loop-out, loop-rest     where the budget is out, and where no thread is ready up to the horizon
 use Prim.Native.Nat.{ℕ, zero, suc, _+_, _-_, _*_, _<_, _≤_, _^_}
 use mathlib.Core.Path.{_≡_, refl, ap, sym, _∙_, subst}
 use mathlib.Core.Logic.{_⊎_, inl, inr}
@@ -31,7 +31,7 @@ use Rattle.model.specs.declared.Model.{Model}
 use Rattle.model.specs.declared.Thread.{Thread}
 use Rattle.model.specs.Values.{segmentAt, segmentFor, startAt, bodyOf}
 use Rattle.model.specs.Statement.{execute, notifiedBy}
-use Rattle.model.specs.Limits.{isBeforeHorizon, isBoundBeforeHorizon}
+use Rattle.model.specs.Limits.{isUpToHorizon, isBoundUpToHorizon}
 use Rattle.model.specs.Record.{noThread, threadAt, viewOf, readyCycle}
 use Rattle.model.specs.Effect.{closedAt, effectIn, effectOf}
 use Rattle.model.specs.Footprint.{listedIn, notifiesIn}
@@ -191,18 +191,18 @@ closedOn-as : (m : Model) (p : Place) → closedOn m p ≡ begun m (floorOf m (w
 unfolding closedOn
 closedOn-as m p = refl
 
-begun-at : (m : Model) (f : Bound) (c : Cycle) (p : Place) → f ≡ At c → T (isBeforeHorizon m c) → begun m f p ≡ placeOf (p .variables) (p .threads) c 0 (p .notified) (p .n)
+begun-at : (m : Model) (f : Bound) (c : Cycle) (p : Place) → f ≡ At c → T (isUpToHorizon m c) → begun m f p ≡ placeOf (p .variables) (p .threads) c 0 (p .notified) (p .n)
 unfolding begun
-begun-at m f c p e t = rw (e, T→true (isBeforeHorizon m c) t) refl
+begun-at m f c p e t = rw (e, T→true (isUpToHorizon m c) t) refl
 
--- a due thread is ready before the horizon
+-- a due thread is ready up to the horizon
 someReady-due : (m : Model) (p : Place) → Sound m p → p .turn < m .t → T (isDue p) → someReady m (p .threads) ≡ true
 someReady-due m p s h d = someReady-found m (p .threads) (p .turn) (p .now) h (isDue→ready p d) (s .time)
 
 begun-threads : (m : Model) (f : Bound) (p : Place) → begun m f p .threads ≡ p .threads
 unfolding begun
 begun-threads m Never p = refl
-begun-threads m (At c) p = go (isBeforeHorizon m c)
+begun-threads m (At c) p = go (isUpToHorizon m c)
   where
     go : (b : Bool) → (cond b (placeOf (p .variables) (p .threads) c 0 (p .notified) (p .n)) p) .threads ≡ p .threads
     go true = refl
@@ -431,7 +431,7 @@ module _ (m : Model) (fit : modelFault m ≡ 0) (budget : ℕ) where
 
       -- the next cycle, as a cycle
       next-cycle : leastWord (m .t) us < limitOf m →
-          (c : Cycle) × (floorOf m woke ≡ At c) × (keyOf c ≡ leastWord (m .t) us) × Small c × T (isBeforeHorizon m c)
+          (c : Cycle) × (floorOf m woke ≡ At c) × (keyOf c ≡ leastWord (m .t) us) × Small c × T (isUpToHorizon m c)
       next-cycle l = floor-word m (omega (arith, limit-small m fit)) us woke woke-words (woke-ranged .range) l
 
       count-later : (c : Cycle) → floorOf m woke ≡ At c → countAt (m .t) (keyOf (loop .cycle)) turn < countAt (m .t) (keyOf c) 0
@@ -464,11 +464,11 @@ module _ (m : Model) (fit : modelFault m ≡ 0) (budget : ℕ) where
                 (count-later c g);
           }
 
-      -- no thread is ready before the horizon
+      -- no thread is ready up to the horizon
       pub loop-rest : limitOf m ≤ leastWord (m .t) us → answer (x .shared .variables) (threadsTo us (x .segments) (m .t)) (x .n) false ≡ answerOf m budget
       unfolding woke
       loop-rest l =
-          let u : T (not (isBoundBeforeHorizon m (floorOf m woke))) = floor-late m (omega (arith, limit-small m fit)) us woke woke-words (woke-ranged .range) l in
+          let u : T (not (isBoundUpToHorizon m (floorOf m woke))) = floor-late m (omega (arith, limit-small m fit)) us woke woke-words (woke-ranged .range) l in
           let q = placeOf (x .shared .variables) woke (loop .cycle) turn [] (x .n) in
           let r : someReady m woke ≡ false = someReady-rest m woke u in
           let e : stepped m here ≡ q = stepped-close m here h ∙ (closedOn-as m here ∙ begun-rest m (floorOf m woke) q u) in

@@ -13,7 +13,7 @@ use Rattle.model.specs.declared.Model.{Model}
 use Rattle.model.specs.declared.State.{State}
 use Rattle.model.specs.declared.State.the-variants.{Ended, Overrun, Ready, Waiting}
 use Rattle.model.specs.declared.Thread.{Thread}
-use Rattle.model.specs.Limits.{isBeforeHorizon}
+use Rattle.model.specs.Limits.{recordTime, isUpToHorizon}
 use Rattle.model.specs.Record as view
 use Rattle.model.specs.Record.{noThread, threadAt, viewOf, cycleOf}
 use Rattle.model.specs.Rules.{modelFault}
@@ -34,14 +34,14 @@ pub record Ranged (t : ℕ) (ts : List Thread) : Type 0 where
 pub record Sound (m : Model) (p : Place) : Type 0 where
   pub size : length (p .threads) ≡ 32
   pub turn : p .turn ≤ m .t
-  pub time : T (isBeforeHorizon m (p .now))
+  pub time : T (isUpToHorizon m (p .now))
   pub delta : p .now .delta .0 ≤ 1023
   pub segment : (k : ℕ) → k < m .t → threadAt (p .threads) k .segment < m .n
   pub ahead : (k : ℕ) (c : Cycle) → k < p .turn → viewOf (threadAt (p .threads) k .state) ≡ view.ready c → Before (p .now) c
   pub later : m .t ≤ p .turn → (k : ℕ) (c : Cycle) → viewOf (threadAt (wokenAt p) k .state) ≡ view.ready c → Before (p .now) c
   pub ranged : Ranged (m .t) (p .threads)
 
-state-range : (s : State) → cycleOf s .time .0 < 2000000000 → cycleOf s .delta .0 ≤ 1023 → ((e : ℕ) (c : Cycle) → viewOf s ≡ view.waits e c → e < 32) → InRange s
+state-range : (s : State) → cycleOf s .time .0 < recordTime → cycleOf s .delta .0 ≤ 1023 → ((e : ℕ) (c : Cycle) → viewOf s ≡ view.waits e c → e < 32) → InRange s
 state-range (Ended c) t d w = record { key = omega arith; delta = d }
 state-range (Overrun c) t d w = record { key = omega arith; delta = d }
 state-range (Ready c) t d w = record { key = omega arith; delta = d }

@@ -4,7 +4,7 @@
 --     Cycled     a cycle of its run, where it begins
 --     cycle-out, cycle-in     a thread is left for want of budget: the run is spent; none is: the cycle is over
 --     cycle-ends, cycle-ahead     which threads its end has to look at; every word is after it
---     cycle-rest, cycle-next, cycle-begun     no thread is ready before the horizon; else the next cycle begins
+--     cycle-rest, cycle-next, cycle-begun     no thread is ready up to the horizon; else the next cycle begins
 --     cycle-room, cycle-later     the measure of the cycles falls
 use Prim.Native.Nat.{ℕ, zero, suc, _+_, _*_, _<_, _≤_, _^_}
 use mathlib.Core.Path.{_≡_, ap, sym, _∙_, subst}

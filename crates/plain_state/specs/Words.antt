@@ -40,7 +40,7 @@ keyOf c = 1024 * c .time .0 + c .delta .0
 abbrev pub cycleFrom : ℕ → Cycle
 cycleFrom k = cycleAt (k / 1024) (k % 1024)
 
--- the first cycle that is not run: "A thread ready at time H or later is not run."
+-- the first cycle that is not run, after "a thread ready at exactly H"
 abbrev pub limitOf : Model → ℕ
 limitOf m = 1024 * endTime m
 

@@ -10,8 +10,8 @@ ghost use Rattle.second.specs.Desk.{wordAt};
 
 const UNIT: u64 = 1048576;
 
-// 1,000,000,000 units.
-const FAR: u64 = 1048576000000000;
+// 1,000,000,001 units.
+const FAR: u64 = 1048576001048576;
 
 pub(crate) const DISTANCES: u64 = 0;
 
@@ -139,7 +139,7 @@ fn clear(g: &mut [u64; 24576], table: u64, r: u64) {
     }
 }
 
-// The steps from s, on a way from r; whether one is shorter. "It is 'never' .. at 1,000,000,000 units or more."
+// The steps from s, on a way from r; whether one is shorter. "'Never' begins above 1,000,000,000 units".
 fn relax(g: &mut [u64; 24576], r: u64, s: u64) -> bool {
     let x = plus(entry(g, DISTANCES, r, s), entry(g, WAYS, STEPS, s));
     if FAR <= x {

@@ -303,7 +303,7 @@ fn refusal(g: &[u64; 24576], desk: &[u64; 640], k: u64, x: u64) -> u64
     if x % 4 != simulator::READY {
         return 12;
     }
-    if at(desk, simulator::END, 0) <= key_of(x) {
+    if at(desk, simulator::END, 0) < key_of(x) {
         return 13;
     }
     if is_hazard(g, desk, x, k) {

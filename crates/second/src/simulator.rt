@@ -34,7 +34,7 @@ pub const SEGMENTS: u64 = 98;
 
 pub const THREADS: u64 = 99;
 
-// The horizon's key.
+// The key of the last cycle that is run: "A thread ready at exactly H is therefore run".
 pub const END: u64 = 100;
 
 // How many segments were run, and whether the budget was spent.
@@ -235,7 +235,12 @@ fn wake(desk: &mut [u64; 640], now: u64) -> u64 {
 
 // The places of segments and threads, their counts, and the horizon.
 pub(crate) fn survey(file: &[u8], desk: &mut [u64; 640]) {
-    put(desk, END, 0, field(file, 0, 4, 4) % 4294967296 * 1024);
+    put(
+        desk,
+        END,
+        0,
+        field(file, 0, 4, 4) % 4294967296 * 1024 + 1023,
+    );
     let mut i: u64 = 10;
     let mut left: u64 = 97;
     while 0 < left {
@@ -290,7 +295,7 @@ fn step(file: &[u8], desk: &mut [u64; 640], now: u64) {
     replace_first(desk, activation(r, k));
 }
 
-// At most so many segments before the horizon's key; how many. One more for a budget that was spent.
+// At most so many segments, up to the last key; how many. One more for a budget that was spent.
 fn run_all(file: &[u8], budget: u64, end: u64, desk: &mut [u64; 640]) -> u64 {
     let mut now: u64 = 0;
     let mut n: u64 = 0;
@@ -299,7 +304,7 @@ fn run_all(file: &[u8], budget: u64, end: u64, desk: &mut [u64; 640]) -> u64 {
         if now < next {
             now = wake(desk, now) / 32;
         }
-        if end <= now {
+        if end < now {
             return n;
         }
         if budget <= n {

@@ -15,7 +15,7 @@ fn drawn_time(seed: u64) -> u64 {
         5 => 2,
         6 => 3,
         7 => 5,
-        _ => 1999999999,
+        _ => 2000000000,
     }
 }
 
@@ -69,7 +69,7 @@ fn draw_records(desk: &mut [u64; 640], seed: u64, e: u64) {
 
 fn logged_key(seed: u64) -> u64 {
     let time = draw::pick(seed, 66, 40);
-    let units = if time == 39 { 999999999 } else { time };
+    let units = if time == 39 { 1000000000 } else { time };
     units % 4294967296 * 1024 + drawn_delta(seed) % 1024
 }
 

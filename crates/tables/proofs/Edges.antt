@@ -215,21 +215,22 @@ pub distanceOf-least :
 unfolding forks modelOf withSegments computed
 distanceOf-least = (refl, refl, refl, refl)
 
--- "'never' .. at 1,000,000,000 units or more"
+-- "'Never' begins above 1,000,000,000 units": not above (1,000,000,000, 0)
 pub cut-edges :
     (cut (boundAt 999999999 1023) ≡ boundAt 999999999 1023) ×
-    (cut (boundAt 1000000000 0) ≡ Never) ×
+    (cut (boundAt 1000000000 0) ≡ boundAt 1000000000 0) ×
+    (cut (boundAt 1000000000 1023) ≡ boundAt 1000000000 1023) ×
     (cut (boundAt 1000000001 0) ≡ Never) ×
     (cut Never ≡ Never)
 unfolding computed
-cut-edges = (refl, refl, refl, refl)
+cut-edges = (refl, refl, refl, refl, refl)
 
 pub distanceOf-cut :
-    (distanceOf (wait 999999999) 0 1 ≡ boundAt 999999999 0) ×
-    (distanceOf (wait 1000000000) 0 1 ≡ Never) ×
-    (distanceOf (waits 999999999 0) 0 2 ≡ boundAt 999999999 1) ×
-    (distanceOf (waits 500000000 499999999) 0 2 ≡ boundAt 999999999 0) ×
-    (distanceOf (waits 500000000 500000000) 0 2 ≡ Never)
+    (distanceOf (wait 1000000000) 0 1 ≡ boundAt 1000000000 0) ×
+    (distanceOf (wait 1000000001) 0 1 ≡ Never) ×
+    (distanceOf (waits 1000000000 0) 0 2 ≡ boundAt 1000000000 1) ×
+    (distanceOf (waits 500000000 500000000) 0 2 ≡ boundAt 1000000000 0) ×
+    (distanceOf (waits 500000000 500000001) 0 2 ≡ Never)
 unfolding wait waits modelOf withSegments computed
 distanceOf-cut = (refl, refl, refl, refl, refl)
 
@@ -239,7 +240,7 @@ distanceOf-cut = (refl, refl, refl, refl, refl)
 pub wordOf-edges :
     (wordOf (boundAt 0 0) ≡ 0) ×
     (wordOf (boundAt 7 1) ≡ 7169) ×
-    (wordOf (boundAt 999999999 63) ≡ 1023999999039) ×
+    (wordOf (boundAt 1000000000 63) ≡ 1024000000063) ×
     (wordOf Never ≡ 18446744073709551615)
 unfolding computed
 wordOf-edges = (refl, refl, refl, refl)
@@ -259,9 +260,10 @@ unfolding waits modelOf withSegments computed
 wordsOf-places = refl
 
 -- "never" is stored as all ones, also where there is a path
-pub wordsOf-cut : wordsOf (wait 1000000000) ≡ 0 ∷ allOnes ∷ allOnes ∷ 0 ∷ []
+pub wordsOf-cut :
+    (wordsOf (wait 1000000000) ≡ 0 ∷ 1024000000000 ∷ allOnes ∷ 0 ∷ []) × (wordsOf (wait 1000000001) ≡ 0 ∷ allOnes ∷ allOnes ∷ 0 ∷ [])
 unfolding wait modelOf withSegments computed
-wordsOf-cut = refl
+wordsOf-cut = (refl, refl)
 
 -- "words past them are not touched"
 pub stored-past : stored (wait 7) (1 ∷ 2 ∷ 3 ∷ 4 ∷ 5 ∷ 6 ∷ []) ≡ 0 ∷ 7168 ∷ allOnes ∷ 0 ∷ 5 ∷ 6 ∷ []

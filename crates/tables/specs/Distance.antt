@@ -42,7 +42,7 @@ pub record IsLeast (n : ℕ) (E : ℕ → ℕ → Bound) (r s : ℕ) (b : Bound)
   pub below : {w : Bound} → GraphPath n E r s w → b ≼ w
   pub attained : (b ≡ Never → ⊥) → GraphPath n E r s b
 
--- "It is 'never' with no path or at 1,000,000,000 units or more."
+-- "It is 'never' with no path"; "'Never' begins above 1,000,000,000 units"
 unfoldable pub cut : Bound → Bound
 cut Never = Never
 cut (At c) = cond (ltb (c .time .0) cutTime) (At c) Never

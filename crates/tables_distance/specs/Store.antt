@@ -64,7 +64,7 @@ unfoldable pub roundsTo : ℕ → List ℕ → ℕ → List ℕ
 roundsTo n ws zero = ws
 roundsTo n ws (suc k) = roundTo n k (roundsTo n ws k) n
 
--- "It is 'never' .. at 1,000,000,000 units or more", "'never' as all ones"
+-- "'Never' begins above 1,000,000,000 units", "'never' as all ones"
 unfoldable pub cutWord : ℕ → ℕ
 cutWord w = cond (ltb w far) w allOnes
 

@@ -151,7 +151,7 @@ fn all_rounds(words: &mut [u64], n: usize)
     }
 }
 
-// "'never' as all ones", also where there is a way of 1,000,000,000 units or more.
+// "'never' as all ones", also where there is a way of more than 1,000,000,000 units.
 fn cut_words(words: &mut [u64], count: usize)
     requires { ⌜ count ≤ length (now words) ⌝ }
     ensures { λ _. ⌜ now (words .exit) ≡ cutTo (now (words .entry)) count ⌝ }

@@ -44,10 +44,10 @@ struct List {
     goes_on: bool,
 }
 
-// The stamp of thread k as key × 256 + k, if it is ready before the horizon; else NEVER.
+// The stamp of thread k as key × 256 + k, if it is ready up to the horizon; else NEVER.
 fn stamp(desk: &[u64; 640], k: u64) -> u64 {
     let x = at(desk, simulator::RECORDS, k);
-    if x % 4 != simulator::READY || at(desk, simulator::END, 0) <= key_of(x) {
+    if x % 4 != simulator::READY || at(desk, simulator::END, 0) < key_of(x) {
         return NEVER;
     }
     key_of(x) * 256 + k % 256
@@ -277,7 +277,7 @@ fn whole(
     compare::hold_answers(totals, l.seed, l.number, l.made, &out, answers);
 }
 
-// Demand 3 at the end of a list that started fresh. Where no thread is ready before the horizon, variables and records are the plain
+// Demand 3 at the end of a list that started fresh. Where no thread is ready up to the horizon, variables and records are the plain
 // run's, of as many segments as were granted.
 fn hold_ended(totals: &mut [u64; 16], file: &[u8], held: &[u64; 640], l: List) {
     let mut other = [0u64; 640];
@@ -359,17 +359,17 @@ fn hold_list(
 // A thread that no fit state of a model with n segments and e events has.
 fn spoil_thread(held: &mut [u64; 640], way: u64, n: u64, e: u64) {
     match way % 5 {
-        0 => layout::put_five(held, 0, 0, 2, 0, 2000000000, 0),
+        0 => layout::put_five(held, 0, 0, 2, 0, 2000000001, 0),
         1 => layout::put_five(held, 0, 0, 1, 0, 0, 1024),
         2 => layout::put_five(held, 0, 0, 3, e, 0, 0),
-        3 => layout::put_five(held, 0, 0, 0, 0, 2000000000, 0),
+        3 => layout::put_five(held, 0, 0, 0, 0, 2000000001, 0),
         _ => layout::put_five(held, 0, n, 2, 0, 0, 0),
     }
 }
 
 fn spoil_pair(held: &mut [u64; 640], way: u64, e: u64) {
     match way % 3 {
-        0 => layout::put_three(held, layout::PAIRS, 0, 1000000000, 0),
+        0 => layout::put_three(held, layout::PAIRS, 0, 1000000001, 0),
         1 => layout::put_three(held, layout::PAIRS, 0, 0, 1024),
         _ => layout::put_three(held, layout::PAIRS, e, 0, 0),
     }
@@ -420,7 +420,7 @@ fn hold_unfit(totals: &mut [u64; 16], seed: u64, file: &[u8], words: &[u64; 4096
     let k = any_thread(seed, start::set_up(file, seed, 3, &mut desk));
     let mut held = layout::words_of(&desk);
     if seed % 4 == 0 {
-        let far = [1024000000000u64; 4096];
+        let far = [1024000001024u64; 4096];
         refuse(totals, seed, file, &far, &mut held, k, 40);
         return;
     }

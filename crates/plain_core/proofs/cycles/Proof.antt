@@ -39,6 +39,9 @@ begun-here c = let first = c .before .before .before .before in
     let start = first .before .before .before .before in
     begun-of c (start .args .m) (record { fit = start .pre; code = first .before .pack .ensures .1; threads = refl; limit = refl; first = first .first-segments .ensures .1 })
 
+add-limit : tie.Need-add-limit Inv-loop μ-loop
+add-limit c = omega (arith, modelFault-horizon (c .before .before .args .m) (c .before .before .pre) .1)
+
 mul-limit : tie.Need-mul-limit Inv-loop μ-loop
 mul-limit c = omega (arith, modelFault-horizon (c .before .before .args .m) (c .before .before .pre) .1)
 
@@ -110,6 +113,6 @@ loop-again c = let ended = c .before .before in
 pub cycles-spec : {M : Type 1} → statement M
 cycles-spec =
     tie.close
-    (tie.spec Inv-loop μ-loop (λ c. search needs) mul-limit (λ c κs. search needs) (λ c κs. search needs)
+    (tie.spec Inv-loop μ-loop (λ c. search needs) add-limit mul-limit (λ c κs. search needs) (λ c κs. search needs)
     (λ c κs. search needs) due-of-requires loop-holds run-cycle-requires is-out-requires result-requires returns
     end-cycle-requires result-requires-2 returns-2 (λ c. omega arith) (λ c. omega arith) loop-less loop-again)
