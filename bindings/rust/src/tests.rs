@@ -162,6 +162,9 @@ fn no_buffer_is_too_short() {
     let mut state = site.fresh();
     for k in 0..32 {
         assert_eq!(site.request(&mut state, k), granted(2 * k + 1, 0, 0));
+    }
+    for k in 0..32 {
+        assert_eq!(site.request(&mut state, k), granted((2 * k + 2) % 64, 1_000_000_000, 0));
         assert_eq!(site.request(&mut state, k), refused(13));
     }
     let threads: Vec<u8> = (0..10_000u32).map(|i| (i % 256) as u8).collect();
@@ -170,7 +173,7 @@ fn no_buffer_is_too_short() {
     assert!(answers.iter().all(|a| !matches!(a, Err(Refused(11 | 16)))));
     assert_eq!(replayed, state);
     let text = sheet(&bytes, 1_000_000);
-    assert_eq!((text.lines().count(), text.lines().last()), (64 + 32 + 1, Some("n 32")));
+    assert_eq!((text.lines().count(), text.lines().last()), (64 + 32 + 1, Some("n 64")));
 }
 
 #[test]
