@@ -10,19 +10,25 @@ use Rattle.model.specs.Refusal.{wrongStatement}
 use Rattle.model.specs.Rules.{unless, opFault}
 use Rattle.reader.specs.Word.{byteAt, longAt}
 
+-- a statement by its operation, a and b
+abbrev pub opOf : ℕ → ℕ → ℕ → Op
+opOf op a b =
+    cond (eqb op 1) (Set a b)
+    (cond (eqb op 2) (Add a b)
+    (cond (eqb op 3) (Copy a b)
+    (cond (eqb op 4) (AddVariable a b)
+    (cond (eqb op 5) (SubVariable a b)
+    (Notify a)))))
+
 unfoldable pub opFrom : List ℕ → Op
-opFrom b =
-    cond (eqb (byteAt b 0) 1) (Set (byteAt b 1) (longAt b 2))
-    (cond (eqb (byteAt b 0) 2) (Add (byteAt b 1) (longAt b 2))
-    (cond (eqb (byteAt b 0) 3) (Copy (byteAt b 1) (longAt b 2))
-    (cond (eqb (byteAt b 0) 4) (AddVariable (byteAt b 1) (longAt b 2))
-    (cond (eqb (byteAt b 0) 5) (SubVariable (byteAt b 1) (longAt b 2))
-    (Notify (byteAt b 1))))))
+opFrom b = opOf (byteAt b 0) (byteAt b 1) (longAt b 2)
 
 -- "An operation byte outside 1 to 6 is refused."; "6 notifies event a, b is 0."
+abbrev pub opFormFault : ℕ → ℕ → ℕ
+opFormFault op b = unless ((leb 1 op && leb op 6) && (not (eqb op 6) || eqb b 0)) wrongStatement
+
 unfoldable pub opShapeFault : List ℕ → ℕ
-opShapeFault b =
-    unless ((leb 1 (byteAt b 0) && leb (byteAt b 0) 6) && (not (eqb (byteAt b 0) 6) || eqb (longAt b 2) 0)) wrongStatement
+opShapeFault b = opFormFault (byteAt b 0) (longAt b 2)
 
 -- "6 and 7 of each statement"
 unfoldable pub opBytesFault : ℕ → ℕ → List ℕ → ℕ
