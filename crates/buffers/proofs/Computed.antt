@@ -2,5 +2,5 @@
 -- Assumes nothing.
 
 unfoldable pub computed : Unit {0}
-unfolding Rattle.buffers.specs.Digits.lastDigits Rattle.buffers.specs.Digits.digitsOf Rattle.buffers.specs.Line.restOf Rattle.buffers.specs.Put.bytesAt Rattle.buffers.specs.Put.placeAfter Rattle.buffers.specs.Write.placedIn Rattle.buffers.specs.Write.lengthIn
+unfolding Rattle.buffers.specs.Digits.lastDigits Rattle.buffers.specs.Digits.digitsOf Rattle.buffers.specs.Line.restOf Rattle.buffers.specs.Put.bytesAt Rattle.buffers.specs.Put.placeAfter Rattle.buffers.specs.Write.placedIn Rattle.buffers.specs.Write.lengthIn Rattle.buffers.specs.Written.writtenIn Rattle.buffers.specs.Written.leftIn
 computed = tt

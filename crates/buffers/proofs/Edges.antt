@@ -4,7 +4,9 @@ use mathlib.Core.List.{[], _∷_}
 use Rattle.buffers.specs.Digits.{digitsOf}
 use Rattle.buffers.specs.Line.{restOf, lineOf}
 use Rattle.buffers.specs.Put.{bytesAt, placeAfter}
+use Rattle.buffers.specs.declared.Written.the-variants.{Length, Refused}
 use Rattle.buffers.specs.Write.{placedIn, lengthIn}
+use Rattle.buffers.specs.Written.{numberOf, lengthOf, writtenIn, leftIn}
 use Rattle.buffers.proofs.Computed.{computed}
 
 -- `0`, `9`, `10`, `99`, `100`, and the largest numbers of 32 and of 64 bits: one digit below 10, two from 10 on, no zero in front
@@ -72,3 +74,26 @@ pub lengthIn-edges :
     (lengthIn [] [] ≡ 0)
 unfolding computed
 lengthIn-edges = (refl, refl, refl, refl, refl)
+
+-- "the answer is the length": 0 and a length, or a number and 0
+pub answer-edges : (numberOf (Length 3) ≡ 0) × (lengthOf (Length 3) ≡ 3) × (numberOf (Refused 4) ≡ 4) × (lengthOf (Refused 4) ≡ 0)
+answer-edges = (refl, refl, refl, refl)
+
+-- an output of two bytes' length, of three, of one: "16, checked last, covers a short output buffer"; a number comes before it
+pub writtenIn-edges :
+    (writtenIn 0 (7 ∷ 8 ∷ []) (1 ∷ 2 ∷ []) ≡ Length 2) ×
+    (writtenIn 0 (7 ∷ 8 ∷ []) (1 ∷ 2 ∷ 3 ∷ []) ≡ Length 2) ×
+    (writtenIn 0 (7 ∷ 8 ∷ []) (1 ∷ []) ≡ Refused 16) ×
+    (writtenIn 4 (7 ∷ 8 ∷ []) (1 ∷ 2 ∷ []) ≡ Refused 4) ×
+    (writtenIn 4 (7 ∷ 8 ∷ []) (1 ∷ []) ≡ Refused 4)
+unfolding computed
+writtenIn-edges = (refl, refl, refl, refl, refl)
+
+-- "a refusal writes no output, and bytes past it stay"
+pub leftIn-edges :
+    (leftIn 0 (7 ∷ 8 ∷ []) (1 ∷ 2 ∷ []) ≡ 7 ∷ 8 ∷ []) ×
+    (leftIn 0 (7 ∷ 8 ∷ []) (1 ∷ 2 ∷ 3 ∷ []) ≡ 7 ∷ 8 ∷ 3 ∷ []) ×
+    (leftIn 0 (7 ∷ 8 ∷ []) (1 ∷ []) ≡ 1 ∷ []) ×
+    (leftIn 4 (7 ∷ 8 ∷ []) (1 ∷ 2 ∷ []) ≡ 1 ∷ 2 ∷ [])
+unfolding computed
+leftIn-edges = (refl, refl, refl, refl)

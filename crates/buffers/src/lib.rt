@@ -7,6 +7,32 @@ ghost use Rattle.buffers.specs.Digits.{digitsOf};
 ghost use Rattle.buffers.specs.Line.{restOf};
 ghost use Rattle.buffers.specs.Put.{Puts};
 ghost use Rattle.buffers.specs.Write.{Writes};
+ghost use Rattle.buffers.specs.Written.{numberOf, lengthOf};
+
+// What a call that writes a file answers: its length, or a number of refusal.
+pub enum Written {
+    Length(usize),
+    Refused(u8),
+}
+
+// The number of an answer, 0 for a length; its length, 0 beside a number.
+pub fn written_number(w: Written) -> u8
+    ensures { λ r. ⌜ r ≡ numberOf w ⌝ }
+{
+    match w {
+        Written::Length(_) => 0,
+        Written::Refused(number) => number,
+    }
+}
+
+pub fn written_length(w: Written) -> usize
+    ensures { λ r. ⌜ r ≡ lengthOf w ⌝ }
+{
+    match w {
+        Written::Length(n) => n,
+        Written::Refused(_) => 0,
+    }
+}
 
 // Numbers in wider words, and the lesser of two.
 pub fn wide(x: u8) -> usize
