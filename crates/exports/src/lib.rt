@@ -10,6 +10,7 @@ ghost use Rattle.buffers.specs.Write.{Writes};
 ghost use Rattle.sheet.specs.Sheet.{longestSheet};
 ghost use Rattle.sheet_file.specs.Report.{printed};
 ghost use Rattle.export_state.specs.Step.{keeps, Freshens, Requests, Replays};
+ghost use Rattle.export_write.specs.Call.{Models, Files};
 
 // The reader's number of a model file, 0 where it is accepted.
 #[no_mangle]
@@ -83,4 +84,20 @@ pub extern "C" fn teaselauger_replay(
     ensures { λ r. ⌜ Replays (now (file .entry)) (now (words .entry)) (now (threads .entry)) (now (answers .entry)) (keeps (now (variables .entry)) (now (log .entry)) (now (records .entry))) r (keeps (now (variables .exit)) (now (log .exit)) (now (records .exit))) (now (words .exit)) (now (answers .exit)) ⌝ }
 {
     export_state::replay_into(file, words, threads, answers, variables, log, records)
+}
+
+// A file's model as numbers at the front of a slice: the number, 0 where it is there.
+#[no_mangle]
+pub extern "C" fn teaselauger_model(file: &[u8], numbers: &mut [u32]) -> u8
+    ensures { λ r. ⌜ Models (now (file .entry)) (now (numbers .entry)) r (now (numbers .exit)) ⌝ }
+{
+    export_write::model_into(file, numbers)
+}
+
+// The file of a model held as numbers: the number, 0 where it is written, and then its length in the first place.
+#[no_mangle]
+pub extern "C" fn teaselauger_write(numbers: &[u32], out: &mut [u8], length: &mut [u64]) -> u8
+    ensures { λ r. ⌜ Files (now (numbers .entry)) (now (out .entry)) (now (length .entry)) r (now (out .exit)) (now (length .exit)) ⌝ }
+{
+    export_write::write_into(numbers, out, length)
 }

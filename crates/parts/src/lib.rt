@@ -32,3 +32,18 @@ pub fn next_part(fd: i32, buffer: &mut [u8]) -> usize
     let n = read_length(fd);
     read_part(fd, buffer, n)
 }
+
+// Whether two rows of bytes are equal.
+pub fn are_equal(a: &[u8], b: &[u8]) -> bool {
+    if a.len() != b.len() {
+        return false;
+    }
+    let mut i = 0;
+    while i < a.len() {
+        if a[i] != b[i] {
+            return false;
+        }
+        i += 1;
+    }
+    true
+}

@@ -1,11 +1,14 @@
 // The reader on stored model files, each a part: the number, and of an accepted one the whole model. H, V, E, N and T, the segments
-// with their statements, the threads' first segments.
+// with their statements, the threads' first segments. Then the writer: a file that is not written again byte by byte is told.
 use libc::STDOUT_FILENO;
 use model::Closer;
 use model::Model;
 use model::Next;
 use model::Op;
 use model::Segment;
+ghost use Rattle.io.specs.Counts.{Counts};
+ghost use Rattle.buffers.specs.Write.{Writes};
+ghost use Rattle.writer_print.specs.Again.{again};
 
 fn units(x: u8) -> u64 {
     x as u64
@@ -90,12 +93,30 @@ fn write_model(m: Model) {
     write_starts(m);
 }
 
+// A file written again at the front of out; how many bytes.
+fn write_again(file: &[u8], out: &mut [u8]) -> usize
+    ensures { λ r. ⌜ Writes (now (out .entry)) (now (out .exit)) r (again (now (file .entry))) ⌝ }
+    ensures { λ r. ⌜ Counts r (now (out .exit)) ⌝ }
+{
+    writer_print::rewrite_text(file, out)
+}
+
+// Whether a file is written again byte by byte.
+fn is_written_again(bytes: &[u8]) -> bool {
+    let mut out = io::large_buffer();
+    let n = write_again(bytes, &mut out);
+    parts::are_equal(bytes, &out[..n])
+}
+
 fn write_read(bytes: &[u8]) {
     let x = reader_file::read_file(bytes);
     io::print_decimal(STDOUT_FILENO, units(x.number));
     if x.number == 0 {
         let m = x.model;
         write_model(m);
+        if !is_written_again(bytes) {
+            io::write_all(STDOUT_FILENO, b" not written again");
+        }
     }
     io::write_all(STDOUT_FILENO, b"\n");
 }

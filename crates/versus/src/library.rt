@@ -20,6 +20,13 @@ pub fn model_in(file: &[u8]) -> Model {
     x.model
 }
 
+// Whether a file is written again byte by byte.
+pub fn is_written_again(file: &[u8]) -> bool {
+    let mut out = [0u8; 16384];
+    let n = writer_print::rewrite_text(file, &mut out);
+    parts::are_equal(file, number::first(&out, n))
+}
+
 fn hold_values(held: &mut [u64; 640], values: &[u32; 64]) {
     let mut i: usize = 0;
     while i < 64 {

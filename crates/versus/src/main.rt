@@ -147,10 +147,19 @@ fn refuse(totals: &mut [u64; 16], seed: u64, file: &[u8; 16384], size: usize) {
     }
 }
 
-// A generated model: its runs, and lists of requests.
+// A file that is not written again byte by byte is a difference.
+fn hold_written(totals: &mut [u64; 16], bytes: &[u8; 16384], size: usize) {
+    let file = number::first(bytes, size);
+    if !library::is_written_again(file) {
+        add(totals, DIFFERENCES, 1);
+    }
+}
+
+// A generated model: written again, its runs, and lists of requests.
 fn hold_drawn(runs: &mut [u64; 16], lists: &mut [u64; 16], seed: u64) {
     let mut file = [0u8; 16384];
     let size = draw::model_of(seed, &mut file) as usize;
+    hold_written(runs, &file, size);
     orders::hold_lists(lists, seed, &file, size);
     let most = if draw::is_long(seed) { 3300 } else { 300 };
     hold_all(runs, seed, &mut file, size, most);

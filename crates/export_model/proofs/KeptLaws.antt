@@ -1,0 +1,91 @@
+-- The model of numbers without a fault keeps the file rules.
+--     filledTo-at     an element of a list filled from the front
+--     segmentAt-held, startAt-held, statement-held     what the model has at each place
+--     held-kept     so it has no fault
+use Prim.Native.Nat.{ℕ, _-_, _<_}
+use mathlib.Core.Path.{_≡_, refl, ap, _∙_}
+use mathlib.Core.Bool.{false, not}
+use mathlib.Core.List.{List}
+use native.Mathlib.Nat.{zero-add}
+use native.Mathlib.Omega.{arith}
+use lib.Dec.{ltb, leb}
+use lib.ListN.{getD, replicate, List·getD-append}
+use borrow.Author.Tests.{lt-ltb, le-leb}
+use Rattle.base.specs.Index.{tabulate}
+use Rattle.base.proofs.IndexLaws.{anyBelow-empty, orElse-none, firstBelow-all, tabulate-length, tabulate-at}
+use Rattle.model.specs.declared.Statement.{Statement}
+use Rattle.model.specs.declared.Segment.{Segment}
+use Rattle.model.specs.declared.Start.{Start}
+use Rattle.model.specs.Values.{noStatement, noSegment, noStart, segmentAt, startAt}
+use Rattle.model.specs.Rules.{headFault, opFault, statementsFault, segmentFault, segmentsFault, countsFault, leavesModel, anySegmentLeaves, anyStartLeaves, targetsFault, modelFault}
+use Rattle.model_rules.proofs.FaultLaws.{unless-kept}
+use Rattle.export_model.specs.Numbers.{numberAt, countN, countT, statementPlace, startPlace, opHeld, statementsHeld}
+use Rattle.export_model.specs.Judged.{countNumbersFault, numbersNumber, segmentHeld, modelHeld}
+use Rattle.export_model.proofs.HeldLaws.{held-head, held-count, held-counts, held-statements, held-closer-value, held-op-value, held-leaves, held-first}
+use Rattle.export_model.proofs.FillLaws.{filledTo}
+
+pub filledTo-at : {A : Type 0} (most : ℕ) (d : A) (f : ℕ → A) (n j : ℕ) → j < n → getD (filledTo most d f n) j d ≡ f j
+filledTo-at most d f n j h =
+    List·getD-append (tabulate n 0 f) (replicate (most - n) d) d j (omega (arith, tabulate-length n 0 f))
+    ∙ (tabulate-at n 0 j f d h ∙ ap f (zero-add j))
+
+module _ (xs : List ℕ) where
+  pub segmentAt-held : (i : ℕ) → i < countN xs → segmentAt (modelHeld xs) i ≡ segmentHeld xs i
+  unfolding segmentAt modelHeld
+  segmentAt-held i l = filledTo-at 64 noSegment (segmentHeld xs) (countN xs) i l
+
+  pub startAt-held : (k : ℕ) → k < countT xs → startAt (modelHeld xs) k .first ≡ numberAt xs (startPlace (countN xs) k)
+  unfolding startAt modelHeld
+  startAt-held k l =
+      ap (λ (s : Start). s .first) (filledTo-at 32 noStart (λ k. record { first = numberAt xs (startPlace (countN xs) k) }) (countT xs) k l)
+
+  pub statement-held :
+      (i j : ℕ) → j < statementsHeld xs i → getD (segmentHeld xs i .statements) j noStatement .op ≡ opHeld xs (statementPlace i j)
+  unfolding segmentHeld
+  statement-held i j l =
+      ap (λ (s : Statement). s .op) (filledTo-at 32 noStatement (λ j. record { op = opHeld xs (statementPlace i j) })
+      (statementsHeld xs i) j l)
+
+  module _ (fit : numbersNumber xs ≡ 0) where
+    segment-kept : (i : ℕ) → i < countN xs → segmentFault (numberAt xs 1) (numberAt xs 2) (segmentHeld xs i) ≡ 0
+    unfolding segmentFault statementsFault segmentHeld
+    segment-kept i l =
+        orElse-none _ _ (unless-kept (leb (statementsHeld xs i) 32) 3 (le-leb _ 32 (held-statements xs fit i l)))
+        ∙ (orElse-none _ _ (held-closer-value xs fit i l)
+        ∙ firstBelow-all (statementsHeld xs i) _
+        (λ j h. ap (opFault (numberAt xs 1) (numberAt xs 2)) (statement-held i j h) ∙ held-op-value xs fit i l j h))
+
+    head-kept : headFault (modelHeld xs .horizon .0) (modelHeld xs .v) (modelHeld xs .e) ≡ 0
+    unfolding modelHeld
+    head-kept = held-head xs fit
+
+    segments-kept : segmentsFault (modelHeld xs) ≡ 0
+    unfolding segmentsFault modelHeld
+    segments-kept =
+        firstBelow-all (countN xs) _
+        (λ i l. orElse-none _ _ (unless-kept (ltb i 64) 4 (lt-ltb i 64 (omega (arith, held-counts xs fit .segments))))
+        ∙ (ap (segmentFault (numberAt xs 1) (numberAt xs 2)) (segmentAt-held i l) ∙ segment-kept i l))
+
+    counts-kept : countsFault (modelHeld xs) ≡ 0
+    unfolding countsFault modelHeld countNumbersFault
+    counts-kept = held-count xs fit
+
+    segments-stay : anySegmentLeaves (modelHeld xs) ≡ false
+    unfolding anySegmentLeaves modelHeld segmentHeld
+    segments-stay =
+        anyBelow-empty (countN xs) _ (λ i l. ap (λ (g : Segment). leavesModel (countN xs) (g .closer)) (segmentAt-held i l)
+        ∙ held-leaves xs fit i l)
+
+    starts-stay : anyStartLeaves (modelHeld xs) ≡ false
+    unfolding anyStartLeaves modelHeld
+    starts-stay =
+        anyBelow-empty (countT xs) _
+        (λ k l. ap (λ (s : ℕ). not (ltb s (countN xs))) (startAt-held k l) ∙ ap not (lt-ltb _ _ (held-first xs fit k l)))
+
+    targets-kept : targetsFault (modelHeld xs) ≡ 0
+    unfolding targetsFault
+    targets-kept = rw (segments-stay, starts-stay) refl
+
+    pub held-kept : modelFault (modelHeld xs) ≡ 0
+    unfolding modelFault
+    held-kept = orElse-none _ _ head-kept ∙ (orElse-none _ _ segments-kept ∙ (orElse-none _ _ counts-kept ∙ targets-kept))

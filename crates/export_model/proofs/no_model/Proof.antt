@@ -1,0 +1,10 @@
+-- `export_model::no_model` meets its contract.
+use borrow.Author.Needs.{needs}
+use Rattle.export_model.proofs.no_model.Statement.{statement}
+use Rattle.export_model.proofs.no_model.Tie as tie
+
+returns : tie.Need-returns
+returns c = rw (c .no-segment .ensures)
+
+pub no-model-spec : {M : Type 1} → statement M
+no-model-spec = tie.close (tie.spec (λ c κs. search needs) returns)

@@ -1,0 +1,5 @@
+pub mod JoinLaws
+pub mod SizeLaws
+pub mod ReadLaws
+pub mod FieldLaws
+pub mod BackLaws

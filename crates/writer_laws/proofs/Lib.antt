@@ -1,0 +1,12 @@
+pub mod ByteLaws
+pub mod JoinLaws
+pub mod StatementLaws
+pub mod CloserLaws
+pub mod RecordLaws
+pub mod TrimLaws
+pub mod SegmentLaws
+pub mod StepLaws
+pub mod ReadWritten
+pub mod Reading
+pub mod WrittenRead
+pub mod FaultFree
