@@ -37,3 +37,56 @@ extern "C" uint8_t native_load(const uint8_t *p, size_t len, uint64_t *w, size_t
   distances(w);
   return 0;
 }
+
+// The file of a model held as numbers: judged, then written.
+static int judged(const uint32_t *x, size_t count) {
+  uint32_t v = x[1], e = x[2], n = x[3], t = x[4];
+  if (count < 5 + 104ull * n + t) return 11;
+  if (x[0] < 1 || x[0] > 1000000000 || v > 64 || e > 32) return 4;
+  for (uint32_t i = 0; i < n; i++) {
+    const uint32_t *g = x + 5 + 104 * i;
+    if (g[7] > 32) return 3;
+    if (i >= 64) return 4;
+    if (g[0] > 2 || (g[0] == 0 && (g[1] | g[2] | g[3] | g[4] | g[5] | g[6])) || (g[0] == 1 && g[1]) || (g[0] == 2 && g[2])) return 5;
+    if (g[0] == 1 && g[2] > 1000000000) return 5;
+    if (g[0] && g[5] == 255 && (g[4] != g[3] || g[6])) return 5;
+    if ((g[0] == 2 && g[1] >= e) || (g[0] && g[5] != 255 && g[5] >= v)) return 7;
+    for (const uint32_t *s = g + 8; s < g + 8 + 3 * g[7]; s += 3) {
+      if (s[0] < 1 || s[0] > 6 || (s[0] == 6 && s[2])) return 6;
+      if (s[0] == 6 ? s[1] >= e : s[1] >= v || (s[0] > 2 && s[2] >= v)) return 7;
+    }
+  }
+  if (!n || !t) return 2;
+  if (t > 32) return 4;
+  for (uint32_t i = 0; i < n; i++) {
+    const uint32_t *g = x + 5 + 104 * i;
+    if (g[0] && (g[3] >= n || g[4] >= n)) return 8;
+  }
+  for (uint32_t k = 0; k < t; k++)
+    if (x[5 + 104 * n + k] >= n) return 8;
+  return 0;
+}
+
+static uint8_t *little(uint8_t *p, uint32_t x, int n) {
+  for (; n--; x >>= 8) *p++ = (uint8_t)x;
+  return p;
+}
+
+extern "C" uint8_t native_write(const uint32_t *x, size_t count, uint8_t *out, size_t room, uint64_t *length, size_t) {
+  if (int number = judged(x, count)) return (uint8_t)number;
+  uint32_t n = x[3], t = x[4];
+  size_t size = 14 + 5 * t;
+  for (uint32_t i = 0; i < n; i++) size += 17 + 6 * x[5 + 104 * i + 7];
+  if (room < size) return 16;
+  uint8_t *p = little(little(little(little(little(out, 10, 2), 1, 2), x[0], 4), x[1], 1), x[2], 1);
+  for (uint32_t i = 0; i < n; i++) {
+    const uint32_t *g = x + 5 + 104 * i;
+    p = little(little(little(little(little(p, 17 + 6 * g[7], 2), 2, 2), g[0], 1), g[1], 1), g[2], 4);
+    p = little(little(little(little(p, g[3], 1), g[4], 1), g[5], 1), g[6], 4);
+    for (const uint32_t *s = g + 8; s < g + 8 + 3 * g[7]; s += 3) p = little(little(little(p, s[0], 1), s[1], 1), s[2], 4);
+  }
+  for (uint32_t k = 0; k < t; k++) p = little(little(little(p, 5, 2), 3, 2), x[5 + 104 * n + k], 1);
+  little(little(p, 4, 2), 4, 2);
+  *length = size;
+  return 0;
+}

@@ -1,4 +1,4 @@
-// Model files read, and loaded with their distance tables: the proved library and native loops, round by round in one run.
+// Model files read, loaded with their distance tables, and written from numbers: the proved library and native loops, round by round in one run.
 use std::hint::black_box;
 use std::time::Instant;
 
@@ -7,6 +7,9 @@ extern "C" {
     fn teaselauger_load(file: *const u8, len: usize, words: *mut u64, count: usize) -> u8;
     fn native_read(file: *const u8, len: usize) -> u8;
     fn native_load(file: *const u8, len: usize, words: *mut u64, count: usize) -> u8;
+    fn teaselauger_model(file: *const u8, len: usize, numbers: *mut u32, count: usize) -> u8;
+    fn teaselauger_write(numbers: *const u32, count: usize, out: *mut u8, room: usize, length: *mut u64, one: usize) -> u8;
+    fn native_write(numbers: *const u32, count: usize, out: *mut u8, room: usize, length: *mut u64, one: usize) -> u8;
 }
 
 // n segments of k statements, t threads. Each segment waits and goes on to the next one, or skips one.
@@ -55,5 +58,11 @@ fn main() {
         let (a, c) = both(200, 5, &mut || unsafe { teaselauger_load(p, len, w.as_mut_ptr(), 4096) }, &mut || unsafe { native_load(p, len, x.as_mut_ptr(), 4096) });
         assert_eq!(w, x);
         println!("| {name} | {len} | load | {a:.0} | {c:.0} | {:.2} |", a / c);
+        let (mut xs, mut y, mut z, mut l, mut o) = (vec![0u32; 6693], vec![0u8; 13550], vec![0u8; 13550], 0u64, 0u64);
+        assert_eq!(unsafe { teaselauger_model(p, len, xs.as_mut_ptr(), xs.len()) }, 0);
+        let q = xs.as_ptr();
+        let (a, c) = both(200, 20, &mut || unsafe { teaselauger_write(black_box(q), 6693, y.as_mut_ptr(), 13550, &mut l, 1) }, &mut || unsafe { native_write(black_box(q), 6693, z.as_mut_ptr(), 13550, &mut o, 1) });
+        assert!(y == z && y[..len] == b[..] && l == len as u64 && o == l);
+        println!("| {name} | {len} | write | {a:.0} | {c:.0} | {:.2} |", a / c);
     }
 }

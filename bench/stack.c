@@ -10,7 +10,8 @@ enum { STACK = 1 << 22, PAINT = 0xa5, LIST = 256 };
 static uint8_t file[65536], out[TEASELAUGER_SHEET], threads[LIST], *stack;
 static size_t n;
 static uint64_t words[TEASELAUGER_WORDS], log_words[TEASELAUGER_LOG], records[TEASELAUGER_RECORDS], answers[4 * LIST];
-static uint32_t variables[TEASELAUGER_VARIABLES];
+static uint32_t variables[TEASELAUGER_VARIABLES], numbers[TEASELAUGER_MODEL];
+static uint8_t again[TEASELAUGER_FILE];
 
 static void call_read(void) { teaselauger_read(file, n); }
 static void call_load(void) { teaselauger_load(file, n, words, TEASELAUGER_WORDS); }
@@ -26,6 +27,8 @@ static void call_replay(void) {
   teaselauger_replay(file, n, words, TEASELAUGER_WORDS, threads, LIST, answers, 4 * LIST, variables, TEASELAUGER_VARIABLES, log_words, TEASELAUGER_LOG,
                      records, TEASELAUGER_RECORDS);
 }
+static void call_model(void) { teaselauger_model(file, n, numbers, TEASELAUGER_MODEL); }
+static void call_write(void) { teaselauger_write(numbers, TEASELAUGER_MODEL, again, sizeof again, answers, 1); }
 static void call_none(void) {}
 
 static void *run(void *call) {
@@ -47,9 +50,10 @@ static size_t depth(void (*call)(void)) {
 }
 
 int main(int argc, char **argv) {
-  static void (*const calls[])(void) = {call_read, call_load, call_sheet, call_fresh, call_request, call_replay};
-  static const char *const names[] = {"read", "load", "sheet", "fresh", "request", "replay"};
-  size_t most[6] = {0};
+  static void (*const calls[])(void) = {call_read, call_load, call_sheet, call_fresh, call_request, call_replay, call_model, call_write};
+  static const char *const names[] = {"read", "load", "sheet", "fresh", "request", "replay", "model", "write"};
+  enum { CALLS = sizeof calls / sizeof *calls };
+  size_t most[CALLS] = {0};
   stack = aligned_alloc(4096, STACK);
   for (int i = 0; i < LIST; i++) threads[i] = (uint8_t)(i % 4);
   size_t none = depth(call_none);
@@ -58,10 +62,10 @@ int main(int argc, char **argv) {
     if (!f) return 2;
     n = fread(file, 1, sizeof file, f);
     fclose(f);
-    for (int i = 0; i < 6; i++) {
+    for (int i = 0; i < CALLS; i++) {
       size_t d = depth(calls[i]) - none;
       if (d > most[i]) most[i] = d;
     }
   }
-  for (int i = 0; i < 6; i++) printf("| %s | %zu |\n", names[i], (most[i] + 1023) / 1024);
+  for (int i = 0; i < CALLS; i++) printf("| %s | %zu |\n", names[i], (most[i] + 1023) / 1024);
 }

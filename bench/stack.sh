@@ -2,7 +2,7 @@
 # The deepest stack, in KB: of each call of the library, and the least with which each program prints what it should.
 set -e
 cd "$(dirname "$0")/.."
-rt check plainrun replayrun >/dev/null
+rt check plainrun replayrun rewrite >/dev/null
 bindings/library.sh
 mkdir -p target/bench
 cc -O2 -Wall -Wextra -I bindings/c -o target/bench/stack bench/stack.c -L target/staticlib -lexports -lpthread
@@ -18,3 +18,4 @@ least() { # PROGRAM ARGS...
 }
 least target/bin/plainrun
 least target/bin/replayrun 0 1 0 1
+least target/bin/rewrite

@@ -20,7 +20,7 @@ step() { # NAME COMMAND...
 for tool in rt cc cargo python3; do
     command -v $tool >/dev/null || stop "$tool is not on the path"
 done
-for program in plainrun replayrun; do
+for program in plainrun replayrun rewrite; do
     [ -x target/bin/$program ] || stop "target/bin/$program is not there: rt check $program"
 done
 
@@ -28,4 +28,5 @@ step "examples for C and Rust" tests/examples/run.sh
 step "commands of docs/REFUSALS.md" python3 tests/refusals/refusals.py
 step "files above 65,536 bytes" python3 tests/refusals/long.py
 step "library beside the programs" python3 tests/boundary/boundary.py 200
+step "models as numbers and their files" python3 tests/writer/writer.py 100
 step "vectors" python3 tests/vectors/run.py

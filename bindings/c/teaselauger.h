@@ -1,4 +1,5 @@
-/* Teaselauger for C: a model file's number, tables and sheet, and requests one at a time or as a list.
+/* Teaselauger for C: a model file's number, tables and sheet, requests one at a time or as a list, and models as numbers, to be drawn,
+ * changed and saved.
  *
  * Every call answers for every argument. A number of refusal is 1 to 16 (docs/REFUSALS.md lists them, docs/RULES.md says exactly
  * when each applies); 0 says that there is none. Of several that apply the first is answered, in one order in all calls: the reader's
@@ -47,6 +48,13 @@ extern "C" {
 #define TEASELAUGER_RECORDS 160
 /* Bytes that are enough for every sheet. */
 #define TEASELAUGER_SHEET 8192
+/* A model as numbers of 32 bits: H, V, E, N, T; then 104 for each segment: the closer's kind (0 end, 1 wait for time, 2 wait for event),
+ * event, delay, A, B, test, limit, then n, then 32 places of 3 numbers for statements: operation, a, b; then the first segment of each
+ * thread. Places past n are not looked at. A model of n segments and t threads has so many; the largest has 6,693. */
+#define TEASELAUGER_NUMBERS(n, t) (5 + 104 * (n) + (t))
+#define TEASELAUGER_MODEL 6693
+/* Bytes that are enough for every model file. */
+#define TEASELAUGER_FILE 13550
 
 /* States of a thread record. The segment of a record is the next to run; of an ended thread, the last that ran. The cycle is that
  * at which it is ready, ended or overrun, or in which its wait began. */
@@ -87,6 +95,18 @@ uint8_t teaselauger_request(const uint8_t *file, size_t file_count, const uint64
 uint8_t teaselauger_replay(const uint8_t *file, size_t file_count, uint64_t *words, size_t words_count, const uint8_t *threads,
                            size_t threads_count, uint64_t *answers, size_t answers_count, uint32_t *variables,
                            size_t variables_count, uint64_t *log, size_t log_count, uint64_t *records, size_t records_count);
+
+/* The model of a file as numbers, TEASELAUGER_NUMBERS(N, T) of them, zero past each n: 0 where they are there.
+ * ORDER: the reader's number; 16 for fewer numbers than the model has. */
+uint8_t teaselauger_model(const uint8_t *file, size_t file_count, uint32_t *numbers, size_t numbers_count);
+
+/* The model file of a model held as numbers: 0 where it is written, and then length has how many bytes it takes (1 word); bytes of out
+ * past them stay. The model is judged as the reader would judge that file, numbers above 255 in a field of one byte included: they are
+ * no variable, event, segment, kind or operation.
+ * ORDER: 11 for no place for the length, or for fewer numbers than N and T ask for; 2 to 8, in file order; 16 for an output that is
+ * too short. */
+uint8_t teaselauger_write(const uint32_t *numbers, size_t numbers_count, uint8_t *out, size_t out_count, uint64_t *length,
+                          size_t length_count);
 
 #ifdef __cplusplus
 }

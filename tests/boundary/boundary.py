@@ -101,7 +101,7 @@ class Calls:
         number = getattr(self.lib, "teaselauger_" + name)(*arguments)
         after = {p: x.values() for p, x in lent.items()}
         assert all(after[p] == given[p] for p in ONLY_READ.get(name, ["file"])), "%s: what is only read is written to" % name
-        del after["file"]
+        after.pop("file", None)
         return number, after
 
     def refused(self, name, number, given, what):

@@ -7,6 +7,8 @@ pub const LOG: usize = 385;
 pub const RECORDS: usize = 160;
 pub const ANSWER: usize = 3;
 pub const SHEET: usize = 8192;
+pub const MODEL: usize = 6693;
+pub const FILE: usize = 13550;
 
 /// The distance table of the largest model has as many words.
 pub type Words = [u64; WORDS];
@@ -48,11 +50,35 @@ mod c {
             file: *const u8, n: usize, words: *mut u64, w: usize, threads: *const u8, t: usize, answers: *mut u64, a: usize,
             variables: *mut u32, v: usize, log: *mut u64, l: usize, records: *mut u64, r: usize,
         ) -> u8;
+        pub fn teaselauger_model(file: *const u8, n: usize, numbers: *mut u32, m: usize) -> u8;
+        pub fn teaselauger_write(
+            numbers: *const u32, m: usize, out: *mut u8, o: usize, length: *mut u64, l: usize,
+        ) -> u8;
     }
 }
 
 pub fn read(file: &[u8]) -> u8 {
     unsafe { c::teaselauger_read(file.as_ptr(), file.len()) }
+}
+
+pub fn model(file: &[u8], numbers: &mut [u32]) -> u8 {
+    unsafe { c::teaselauger_model(file.as_ptr(), file.len(), numbers.as_mut_ptr(), numbers.len()) }
+}
+
+/// With the length, where the number is 0.
+pub fn write(numbers: &[u32], out: &mut [u8]) -> (u8, u64) {
+    let mut length = [0; 1];
+    let number = unsafe {
+        c::teaselauger_write(
+            numbers.as_ptr(),
+            numbers.len(),
+            out.as_mut_ptr(),
+            out.len(),
+            length.as_mut_ptr(),
+            length.len(),
+        )
+    };
+    (number, length[0])
 }
 
 pub fn load(file: &[u8], words: &mut Words) -> u8 {

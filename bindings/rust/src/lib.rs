@@ -22,7 +22,7 @@ mod calls;
 #[cfg(test)]
 mod tests;
 
-use calls::{Kept, Words, ANSWER, LOG, RECORDS, SHEET, VARIABLES};
+use calls::{Kept, Words, ANSWER, FILE, LOG, MODEL, RECORDS, SHEET, VARIABLES};
 use std::{error, fmt, sync::Arc};
 
 /// A number of refusal, 1 to 16.
@@ -125,6 +125,43 @@ pub fn sheet(file: &[u8], budget: u64) -> String {
     let mut out = [0; SHEET];
     let n = calls::sheet(file, budget, &mut out);
     out[..n].iter().map(|&byte| char::from(byte)).collect()
+}
+
+/// A model as numbers, to be drawn, changed and saved: H, V, E, N, T; then 104 numbers for each segment (the closer's kind, event, delay,
+/// A, B, test and limit, n, and 32 places of operation, a, b); then each thread's first segment. `docs/MODEL-FILE.md` has the layout.
+///
+/// ```
+/// let file = std::fs::read("../../models/m.model")?;
+/// let mut drawing = teaselauger::Drawing::open(&file)?;
+/// assert_eq!(drawing.numbers[..5], [1261, 3, 1, 4, 2]);
+/// assert_eq!(drawing.save()?, file);
+/// drawing.numbers[0] = 0;
+/// assert_eq!(drawing.save(), Err(teaselauger::Refused(4)));
+/// # Ok::<(), Box<dyn std::error::Error>>(())
+/// ```
+#[derive(Clone, Debug, PartialEq, Eq)]
+pub struct Drawing {
+    /// The numbers, in their layout.
+    pub numbers: Vec<u32>,
+}
+
+impl Drawing {
+    /// The model of a file; the reader's number where it is refused.
+    pub fn open(file: &[u8]) -> Result<Drawing, Refused> {
+        let mut numbers = vec![0; MODEL];
+        checked(calls::model(file, &mut numbers))?;
+        numbers.truncate(5 + 104 * numbers[3] as usize + numbers[4] as usize);
+        Ok(Drawing { numbers })
+    }
+
+    /// The model file, or the number of the first fault: 11 for fewer numbers than N and T ask for, then 2 to 8 in file order.
+    pub fn save(&self) -> Result<Vec<u8>, Refused> {
+        let mut out = vec![0; FILE];
+        let (number, length) = calls::write(&self.numbers, &mut out);
+        checked(number)?;
+        out.truncate(length as usize);
+        Ok(out)
+    }
 }
 
 struct Opened {
