@@ -317,30 +317,6 @@ fn small(x: u32) -> u8
     x as u8
 }
 
-fn no_segment() -> Segment
-    ensures { λ r. ⌜ r ≡ noSegment ⌝ }
-{
-    Segment {
-        closer: Closer::End,
-        n: 0,
-        statements: [Statement { op: Op::Set(0, 0) }; 32],
-    }
-}
-
-fn no_model() -> Model
-    ensures { λ r. ⌜ r ≡ noModel ⌝ }
-{
-    Model {
-        horizon: Time(0),
-        v: 0,
-        e: 0,
-        n: 0,
-        t: 0,
-        segments: [no_segment(); 64],
-        starts: [Start { first: 0 }; 32],
-    }
-}
-
 // What comes after the closer at p.
 fn next_held(xs: &[u32], p: usize) -> Next
     requires { ⌜ (p + 104 ≤ length (now xs)) × (numberAt (now xs) (p + 3) < 256) × (numberAt (now xs) (p + 4) < 256) × (numberAt (now xs) (p + 5) < 256) ⌝ }
@@ -413,7 +389,7 @@ fn segments_held(xs: &[u32], n: usize) -> [Segment; 64]
     requires { ⌜ (segmentPlace n ≤ length (now xs)) × (n ≤ 64) × (numbersNumber (now xs) ≡ 0) × (n ≡ countN (now xs)) ⌝ }
     ensures { λ r. ⌜ r ≡ tabulate n 0 (λ i. segmentHeld (now (xs .entry)) i) ++ replicate (64 - n) noSegment ⌝ }
 {
-    let mut segments = [no_segment(); 64];
+    let mut segments = [model_effect::no_segment(); 64];
     let mut i = 0;
     while i < n {
         segments[i] = segment_held(xs, i);
@@ -460,7 +436,7 @@ pub fn model_held(xs: &[u32]) -> Model
     ensures { λ r. ⌜ r ≡ heldOr (now (xs .entry)) ⌝ }
 {
     if held_number(xs) != 0 {
-        return no_model();
+        return model_effect::no_model();
     }
     model_kept(xs)
 }

@@ -8,11 +8,14 @@ use clock::Time;
 use clock::Wait;
 use model::Closer;
 use model::Events;
+use model::Model;
 use model::Next;
 use model::Op;
 use model::Ran;
 use model::Segment;
+use model::Start;
 use model::State;
+use model::Statement;
 use model::Thread;
 use model::Threads;
 use model::Variables;
@@ -20,7 +23,7 @@ ghost use mathlib.Core.Path.{_≡_};
 ghost use Prim.Native.Nat.{_<_, _+_, _-_, _%_, _^_};
 ghost use lib.ListN.{length, getD, set, replicate};
 ghost use Rattle.clock.specs.Wait.{waitEnds, heldStep};
-ghost use Rattle.model.specs.Values.{noStatement, bodyOf};
+ghost use Rattle.model.specs.Values.{noStatement, noSegment, noModel, bodyOf};
 ghost use Rattle.model.specs.Statement.{executeOp, execute, notifiedBy};
 ghost use Rattle.model.specs.Record.{noThread, readyCycle, cycleOf, stateAfter};
 ghost use Rattle.model.specs.Effect.{nextOf, closedAt, effectIn, withOp, heldThread, heldEvents, heldEffect};
@@ -233,4 +236,29 @@ pub fn no_threads() -> Threads
         state: State::Ended(c),
     };
     Threads { at: [x; 32] }
+}
+
+// What stands past a model's counts, and beside a number: all zero.
+pub fn no_segment() -> Segment
+    ensures { λ r. ⌜ r ≡ noSegment ⌝ }
+{
+    Segment {
+        closer: Closer::End,
+        n: 0,
+        statements: [Statement { op: Op::Set(0, 0) }; 32],
+    }
+}
+
+pub fn no_model() -> Model
+    ensures { λ r. ⌜ r ≡ noModel ⌝ }
+{
+    Model {
+        horizon: Time(0),
+        v: 0,
+        e: 0,
+        n: 0,
+        t: 0,
+        segments: [no_segment(); 64],
+        starts: [Start { first: 0 }; 32],
+    }
 }

@@ -27,7 +27,8 @@ use Rattle.reader.specs.Record.{framingFault, bodyFault, withRecord}
 use Rattle.reader.specs.File.{readOr, readEnd, readFrom, readFile}
 use Rattle.reader_laws.proofs.FrameLaws.{framed}
 use Rattle.reader_laws.proofs.ReadSoFar.{SoFar, nothing-read, Follows, head, segment, thread, ending, follows→, record-kept}
-use Rattle.reader_laws.proofs.Accepted.{readOr-accepted, refused-zero}
+use Rattle.reader_laws.proofs.Reading.{readOr-accepted}
+use Rattle.reader_laws.proofs.Accepted.{refused-zero}
 use Rattle.reader_segment.specs.Parts.{segmentIn}
 use Rattle.reader_segment.proofs.SegmentLaws.{part-rest, fits-length}
 use Rattle.reader_file.specs.declared.Counts.{Counts}

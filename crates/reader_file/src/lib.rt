@@ -1,11 +1,7 @@
 // Document 01, "Model file": bytes to a model, or the first number that applies.
 use clock::Time;
-use model::Closer;
 use model::Model;
-use model::Op;
-use model::Segment;
 use model::Start;
-use model::Statement;
 use reader::Read;
 ghost use mathlib.Core.Path.{_≡_};
 ghost use Prim.Native.Nat.{_≤_, _<_, max};
@@ -35,16 +31,6 @@ fn units(x: u32) -> u64
     ensures { λ r. ⌜ r ≡ x ⌝ }
 {
     x as u64
-}
-
-fn no_segment() -> Segment
-    ensures { λ r. ⌜ r ≡ noSegment ⌝ }
-{
-    Segment {
-        closer: Closer::End,
-        n: 0,
-        statements: [Statement { op: Op::Set(0, 0) }; 32],
-    }
 }
 
 // Whether a record's head and its length are there.
@@ -121,20 +107,6 @@ fn count_fault(kind: u32, c: Counts, r: &[u8]) -> u8
         2 => model_rules::unless(c.n < 64, 4),
         3 => model_rules::unless(c.t < 32, 4),
         _ => 0,
-    }
-}
-
-fn no_model() -> Model
-    ensures { λ r. ⌜ r ≡ noModel ⌝ }
-{
-    Model {
-        horizon: Time(0),
-        v: 0,
-        e: 0,
-        n: 0,
-        t: 0,
-        segments: [no_segment(); 64],
-        starts: [Start { first: 0 }; 32],
     }
 }
 
@@ -249,7 +221,7 @@ pub fn refused(number: u8) -> Read
 {
     Read {
         number,
-        model: no_model(),
+        model: model_effect::no_model(),
     }
 }
 
@@ -264,7 +236,7 @@ fn model_from(bytes: &[u8]) -> Model
     let e = head[9];
     let mut n = 0;
     let mut t = 0;
-    let mut segments = [no_segment(); 64];
+    let mut segments = [model_effect::no_segment(); 64];
     let mut starts = [Start { first: 0 }; 32];
     let mut at = 10;
     while 4 < bytes.len() - at {

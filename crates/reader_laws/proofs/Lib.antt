@@ -1,3 +1,4 @@
 pub mod FrameLaws
 pub mod ReadSoFar
+pub mod Reading
 pub mod Accepted

@@ -13,7 +13,8 @@ use Rattle.model.specs.Values.{noModel}
 use Rattle.model.specs.Rules.{modelFault, headFault}
 use Rattle.reader.specs.declared.Read.{Read}
 use Rattle.reader.specs.File.{readOr, readFile}
-use Rattle.reader_laws.proofs.Accepted.{accepted-kept, readOr-accepted, readOr-refused, refused-zero}
+use Rattle.reader_laws.proofs.Reading.{readOr-accepted}
+use Rattle.reader_laws.proofs.Accepted.{accepted-kept, readOr-refused, refused-zero}
 use Rattle.tables.specs.Conflict.{marksOf, noMarks}
 use Rattle.tables.specs.Word.{stored}
 use Rattle.tables.specs.Outcome.{isShort, distancesNumber, distancesBuffer, conflictMarks}

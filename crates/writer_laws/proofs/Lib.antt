@@ -7,6 +7,5 @@ pub mod TrimLaws
 pub mod SegmentLaws
 pub mod StepLaws
 pub mod ReadWritten
-pub mod Reading
 pub mod WrittenRead
 pub mod FaultFree

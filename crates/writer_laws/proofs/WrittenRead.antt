@@ -16,7 +16,7 @@ use Rattle.model.specs.declared.Segment.{Segment}
 use Rattle.model.specs.declared.Start.{Start}
 use Rattle.model.specs.declared.Model.{Model}
 use Rattle.model.specs.Values.{noSegment, noStart, noModel, segmentAt, startAt, withHead, withSegment, withStart}
-use Rattle.model.specs.Rules.{unless}
+use Rattle.model.specs.Rules.{unless, targetsFault}
 use Rattle.model_rules.proofs.FaultLaws.{unless-zero}
 use Rattle.reader.specs.Word.{byteAt, wordAt, longAt}
 use Rattle.reader.specs.Record.{lengthFits, segmentFrom, segmentBytesFault, bodyFault, withRecord}
@@ -30,7 +30,7 @@ use Rattle.writer_laws.proofs.JoinLaws.{joined-set}
 use Rattle.writer_laws.proofs.RecordLaws.{record-again}
 use Rattle.writer_laws.proofs.TrimLaws.{filled-set}
 use Rattle.writer_laws.proofs.SegmentLaws.{segmentFrom-trimmed, segmentBytes-again}
-use Rattle.writer_laws.proofs.Reading.{Taken, read-induct}
+use Rattle.reader_laws.proofs.Reading.{Taken, read-induct}
 
 -- the bytes of what m holds, after a record of kind last
 segmentsOf : Model → List ℕ
@@ -191,9 +191,9 @@ pub written-read : (b : List ℕ) → AllBytes b → readFile b .number ≡ 0 �
 unfolding readFile writtenTo
 written-read b below e = read-induct Written at-end at-record (length b) 0 b noModel nothing-read e below
   where
-    at-end : (last : ℕ) (b : List ℕ) (m : Model) → Taken last b m → last ≡ 3 → wordAt b 2 ≡ 4 → drop (wordAt b 0) b ≡ []
+    at-end : (last : ℕ) (b : List ℕ) (m : Model) → Taken last b m → last ≡ 3 → wordAt b 2 ≡ 4 → drop (wordAt b 0) b ≡ [] → targetsFault m ≡ 0
         → Written last b m m
-    at-end last b m w z kind empty below =
+    at-end last b m w z kind empty targets below =
         subst (λ (l : ℕ). Taken l b m → fileOf m ≡ writtenTo l m ++ b) (sym z) (λ w. file-ended b m w below kind empty) w
 
     at-record : (last : ℕ) (b : List ℕ) (m n : Model) → Taken last b m → (wordAt b 2 ≡ 4 → ⊥)
@@ -256,7 +256,7 @@ nothing-trimmed = refl
 pub accepted-trimmed : (b : List ℕ) → readFile b .number ≡ 0 → trimmed (readFile b .model) ≡ readFile b .model
 unfolding readFile
 accepted-trimmed b e =
-    read-induct Kept (λ last b m w z kind empty same. same) at-record (length b) 0 b noModel nothing-read e nothing-trimmed
+    read-induct Kept (λ last b m w z kind empty targets same. same) at-record (length b) 0 b noModel nothing-read e nothing-trimmed
   where
     at-record : (last : ℕ) (b : List ℕ) (m n : Model) → Taken last b m → (wordAt b 2 ≡ 4 → ⊥)
         → Kept (wordAt b 2) (drop (wordAt b 0) b) (withRecord (wordAt b 2) m (take (wordAt b 0) b)) n → Kept last b m n

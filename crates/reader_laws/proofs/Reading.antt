@@ -17,10 +17,13 @@ use Rattle.model_rules.proofs.FaultLaws.{unless-zero}
 use Rattle.reader.specs.declared.Read.{Read}
 use Rattle.reader.specs.Word.{wordAt}
 use Rattle.reader.specs.Record.{follows, lengthFits, framingFault, bodyFault, withRecord}
-use Rattle.reader.specs.File.{readEnd, readFrom}
+use Rattle.reader.specs.File.{readOr, readEnd, readFrom}
 use Rattle.reader_laws.proofs.FrameLaws.{Framed, framed}
 use Rattle.reader_laws.proofs.ReadSoFar.{SoFar, Follows, head, segment, thread, ending, follows→, record-kept}
-use Rattle.reader_laws.proofs.Accepted.{readOr-accepted}
+
+-- a number that is 0 comes with the model that was read
+pub readOr-accepted : (n : ℕ) (m : Model) → readOr n m .number ≡ 0 → (n ≡ 0) × (readOr n m .model ≡ m)
+readOr-accepted n m = cond-case (λ (x : Read). x .number ≡ 0 → (n ≡ 0) × (x .model ≡ m)) (eqb n 0) (λ t e. (eqb→eq n 0 t, refl)) (λ t e. absurd (T-not (eqb n 0) t (eq→eqb n 0 e)))
 
 -- the record that begins the bytes b, without fault after what m holds
 pub record Taken (last : ℕ) (b : List ℕ) (m : Model) : Type 0 where
@@ -41,7 +44,7 @@ no-bytes (x ∷ b) e = absurd (omega arith)
 
 -- P is about the kind of the last record, the bytes left, the model read so far and the model in the end
 module _ (P : ℕ → List ℕ → Model → Model → Type 0)
-    (at-end : (last : ℕ) (b : List ℕ) (m : Model) → Taken last b m → last ≡ 3 → wordAt b 2 ≡ 4 → drop (wordAt b 0) b ≡ [] → P last b m m)
+    (at-end : (last : ℕ) (b : List ℕ) (m : Model) → Taken last b m → last ≡ 3 → wordAt b 2 ≡ 4 → drop (wordAt b 0) b ≡ [] → targetsFault m ≡ 0 → P last b m m)
     (at-record : (last : ℕ) (b : List ℕ) (m n : Model) → Taken last b m → (wordAt b 2 ≡ 4 → ⊥)
     → P (wordAt b 2) (drop (wordAt b 0) b) (withRecord (wordAt b 2) m (take (wordAt b 0) b)) n → P last b m n)
   where
@@ -71,7 +74,7 @@ module _ (P : ℕ → List ℕ → Model → Model → Type 0)
             let (none, same) = readOr-accepted (orElse (unless (eqb (length rest) 0) 9) (targetsFault m)) m z in
             let empty = unless-zero (eqb (length rest) 0) 9 (λ e. omega arith) (orElse-zero _ _ none .0) in
             subst (P last b m) (sym same)
-            (at-end last b m w (last-thread last k (w .next) e) e (no-bytes rest (eqb-true (length rest) 0 empty)))
+            (at-end last b m w (last-thread last k (w .next) e) e (no-bytes rest (eqb-true (length rest) 0 empty)) (orElse-zero _ _ none .1))
 
         go : (framingFault last b ≡ 0) × (bodyFault k m r ≡ 0)
             → cond (eqb k 4) (readEnd rest m) (readFrom most k rest (withRecord k m r)) .number ≡ 0

@@ -1,7 +1,7 @@
--- `reader_file::no_model` meets its contract.
+-- `model_effect::no_model` meets its contract.
 use borrow.Author.Needs.{needs}
-use Rattle.reader_file.proofs.no_model.Statement.{statement}
-use Rattle.reader_file.proofs.no_model.Tie as tie
+use Rattle.model_effect.proofs.no_model.Statement.{statement}
+use Rattle.model_effect.proofs.no_model.Tie as tie
 
 returns : tie.Need-returns
 returns c = rw (c .no-segment .ensures)
