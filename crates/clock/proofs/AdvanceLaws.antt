@@ -1,18 +1,22 @@
 -- Sums of bounds as the clock says: one sum after another, order, no advance and one delta, and the words that hold them.
 use Prim.Native.Nat.{ℕ, zero, suc, _+_, _<_, _≤_, _^_}
-use mathlib.Core.Path.{_≡_, refl, sym, ap}
+use mathlib.Core.Path.{_≡_, refl, sym, ap, _∙_}
 use native.Mathlib.Nat.{add-zero, add-suc}
 use native.Mathlib.Omega.{arith}
 use native.Mathlib.Decide.{decLt}
 use Rattle.clock.specs.declared.Cycle.{Cycle}
-use Rattle.clock.specs.declared.Wait.the-variants.{Event, Time}
+use Rattle.clock.specs.declared.Wait.{Wait}
+use Rattle.clock.specs.declared.Wait.the-variants.{Event}
+use Rattle.clock.specs.declared.Passage.the-variants.{DeltaNotification, ZeroWait, TimedWait}
 use Rattle.clock.specs.declared.Delay.{Delay}
 use Rattle.clock.specs.declared.Bound.{Bound}
 use Rattle.clock.specs.declared.Bound.the-variants.{Never, At}
 use Rattle.clock.specs.Cycle.{cycleAt}
 use Rattle.clock.specs.Order.{_⊑_, _≼_, sooner, same-time}
-use Rattle.clock.specs.Advance.{least, deltaAfter, plusOf, _⊕_, noAdvance, oneDelta, advanceOfUnits, advanceOf}
+use Rattle.clock.specs.Passage.{passageOf}
+use Rattle.clock.specs.Advance.{least, deltaAfter, plusOf, _⊕_, noAdvance, oneDelta, advanceOver, advanceOf}
 use Rattle.clock.proofs.OrderLaws.{cycle-path, ⊑-trans, At-same, At-not-Never, ≼-refl, ≼-antisym}
+use Rattle.clock.proofs.PassageLaws.{passage-event, Passing, notified, instant, timed, passing, timed-units}
 use Rattle.clock.proofs.LeastLaws.{least-left, least-right, least-glb, least-case}
 
 -- the delta that is left
@@ -189,23 +193,45 @@ pub ⊕-least : (a b c : Bound) → a ⊕ least b c ≡ least (a ⊕ b) (a ⊕ c
     (⊕-mono a a (least b c) c (≼-refl a) (least-right b c)))
     (least-case (λ (x : Bound). least (a ⊕ b) (a ⊕ c) ≼ a ⊕ x) b c (least-left (a ⊕ b) (a ⊕ c)) (least-right (a ⊕ b) (a ⊕ c)))
 
--- what a wait advances, opened
+-- what a wait advances, by its passage
+
+pub advance-delta-notification : (w : Wait) → passageOf w ≡ DeltaNotification → advanceOf w ≡ oneDelta
+unfolding advanceOf advanceOver
+advance-delta-notification w e = rw e refl
+
+pub advance-zero-wait : (w : Wait) → passageOf w ≡ ZeroWait → advanceOf w ≡ oneDelta
+unfolding advanceOf advanceOver
+advance-zero-wait w e = rw e refl
+
+pub advance-timed-wait : (w : Wait) (k : Delay) → passageOf w ≡ TimedWait k → advanceOf w ≡ At (cycleAt (k .0) 0)
+unfolding advanceOf advanceOver
+advance-timed-wait w k e = rw e refl
 
 pub advanceOf-Event : advanceOf Event ≡ oneDelta
-unfolding advanceOf
-advanceOf-Event = refl
+advanceOf-Event = advance-delta-notification Event passage-event
 
-pub advanceOf-none : (k : Delay) → k .0 ≡ 0 → advanceOf (Time k) ≡ oneDelta
-unfolding advanceOf advanceOfUnits
-advanceOf-none k e = rw e refl
-
-pub advanceOf-more : (k : Delay) → (k .0 ≡ 0 → ⊥) → advanceOf (Time k) ≡ At (cycleAt (k .0) 0)
-unfolding advanceOf advanceOfUnits
-advanceOf-more k other = go (k .0) other
+-- a wait advances at most one delta
+pub advanceOf-delta : (w : Wait) {c : Cycle} → advanceOf w ≡ At c → c .delta .0 ≤ 1
+advanceOf-delta w {c} e = go (passing w)
   where
-    go : (n : ℕ) → (n ≡ 0 → ⊥) → advanceOfUnits n ≡ At (cycleAt n 0)
-    go zero h = absurd (h refl)
-    go (suc n) h = refl
+    by : (d : Cycle) → advanceOf w ≡ At d → d .delta .0 ≤ 1 → c .delta .0 ≤ 1
+    by d f h = rw (← At-same (sym f ∙ e)) h
+
+    go : Passing w → c .delta .0 ≤ 1
+    go (notified p) = by (cycleAt 0 1) (advance-delta-notification w p) (omega arith)
+    go (instant p) = by (cycleAt 0 1) (advance-zero-wait w p) (omega arith)
+    go (timed k h p) = by (cycleAt (k .0) 0) (advance-timed-wait w k p) (omega arith)
+
+-- a sum over a wait, by its passage: "the delta of a sum is not cut at 1,023"
+
+pub sum-delta-notification : (w : Wait) → passageOf w ≡ DeltaNotification → (c : Cycle) → At c ⊕ advanceOf w ≡ At (cycleAt (c .time .0) (c .delta .0 + 1))
+sum-delta-notification w e c = rw (advance-delta-notification w e) (⊕-oneDelta c)
+
+pub sum-zero-wait : (w : Wait) → passageOf w ≡ ZeroWait → (c : Cycle) → At c ⊕ advanceOf w ≡ At (cycleAt (c .time .0) (c .delta .0 + 1))
+sum-zero-wait w e c = rw (advance-zero-wait w e) (⊕-oneDelta c)
+
+pub sum-timed-wait : (w : Wait) (k : Delay) → passageOf w ≡ TimedWait k → (c : Cycle) → At c ⊕ advanceOf w ≡ At (cycleAt (c .time .0 + k .0) 0)
+sum-timed-wait w k e c = let u = timed-units w k e in rw (advance-timed-wait w k e) (⊕-units c (k .0) (λ z. omega arith))
 
 -- the parts of a sum that is not never
 pub ⊕-parts : (a b : Bound) {c : Cycle} → a ⊕ b ≡ At c → (x : Cycle) × (y : Cycle) × (a ≡ At x) × (b ≡ At y) × (plusOf x y ≡ c)

@@ -6,13 +6,15 @@ use native.Mathlib.Omega.{arith}
 use lib.Dec.{lit<, lit≤}
 use Rattle.clock.specs.declared.Wait.{Wait}
 use Rattle.clock.specs.declared.Wait.the-variants.{Event, Time}
+use Rattle.clock.specs.declared.Passage.the-variants.{DeltaNotification, ZeroWait, TimedWait}
 use Rattle.clock.specs.declared.Step.the-variants.{Ready, Overrun}
 use Rattle.clock.specs.declared.Bound.{Bound}
 use Rattle.clock.specs.declared.Bound.the-variants.{Never, At}
 use Rattle.clock.specs.Cycle.{cycleAt, stampAt, isBefore, isSame, isStampBefore}
 use Rattle.clock.specs.Order.{Before, _⊑_, _≼_, sooner, same-time}
-use Rattle.clock.specs.Wait.{nextDelta, afterUnits, waitEnds, heldStep}
-use Rattle.clock.specs.Advance.{isBoundBefore, least, leastBelow, deltaAfter, plusOf, _⊕_, noAdvance, oneDelta, advanceOfUnits, advanceOf}
+use Rattle.clock.specs.Passage.{passageOf}
+use Rattle.clock.specs.Wait.{nextDelta, stepOver, waitEnds, heldStep}
+use Rattle.clock.specs.Advance.{isBoundBefore, least, leastBelow, deltaAfter, plusOf, _⊕_, noAdvance, oneDelta, advanceOver, advanceOf}
 
 abbrev boundAt : ℕ → ℕ → Bound
 boundAt t d = At (cycleAt t d)
@@ -114,12 +116,69 @@ pub nextDelta-edges :
 unfolding nextDelta
 nextDelta-edges = (refl, refl, refl)
 
+-- the passage of a wait for an event, and of waits of 0, 1 and 2 units
+pub passageOf-edges :
+    (passageOf Event ≡ DeltaNotification) ×
+    (passageOf (unitsOf 0) ≡ ZeroWait) ×
+    (passageOf (unitsOf 1) ≡ TimedWait (record { 0 = 1 })) ×
+    (passageOf (unitsOf 2) ≡ TimedWait (record { 0 = 2 }))
+unfolding passageOf
+passageOf-edges = (refl, refl, refl, refl)
+
+-- "From (3, 1022): zero wait (3, 1023), notification (3, 1023), wait of 1 (4, 0)."
+pub waitEnds-1022 :
+    (waitEnds (unitsOf 0) (cycleAt 3 1022) ≡ Ready (cycleAt 3 1023)) ×
+    (waitEnds Event (cycleAt 3 1022) ≡ Ready (cycleAt 3 1023)) ×
+    (waitEnds (unitsOf 1) (cycleAt 3 1022) ≡ Ready (cycleAt 4 0))
+unfolding waitEnds stepOver passageOf nextDelta
+waitEnds-1022 = (refl, refl, refl)
+
+-- "From (3, 1023): zero wait and notification overrun and keep (3, 1023); wait of 1 gives (4, 0)."
+pub waitEnds-1023 :
+    (waitEnds (unitsOf 0) (cycleAt 3 1023) ≡ Overrun (cycleAt 3 1023)) ×
+    (waitEnds Event (cycleAt 3 1023) ≡ Overrun (cycleAt 3 1023)) ×
+    (waitEnds (unitsOf 1) (cycleAt 3 1023) ≡ Ready (cycleAt 4 0))
+unfolding waitEnds stepOver passageOf nextDelta
+waitEnds-1023 = (refl, refl, refl)
+
+-- a timed wait of 2 from (0, 1023): (2, 0)
+pub waitEnds-two : waitEnds (unitsOf 2) (cycleAt 0 1023) ≡ Ready (cycleAt 2 0)
+unfolding waitEnds stepOver passageOf
+waitEnds-two = refl
+
+-- waits of 0, 7 and 0 units from (0, 0), each begun where the one before ended: (0, 1), (7, 0), (7, 1)
+pub waitEnds-three :
+    (waitEnds (unitsOf 0) (cycleAt 0 0) ≡ Ready (cycleAt 0 1)) ×
+    (waitEnds (unitsOf 7) (cycleAt 0 1) ≡ Ready (cycleAt 7 0)) ×
+    (waitEnds (unitsOf 0) (cycleAt 7 0) ≡ Ready (cycleAt 7 1))
+unfolding waitEnds stepOver passageOf nextDelta
+waitEnds-three = (refl, refl, refl)
+
+-- the last wait that a file can hold
+pub waitEnds-longest : waitEnds (unitsOf 4294967295) (cycleAt 3 1023) ≡ Ready (cycleAt 4294967298 0)
+unfolding waitEnds stepOver passageOf
+waitEnds-longest = refl
+
+-- the steps over the passages themselves, at the last delta
+pub stepOver-edges :
+    (stepOver DeltaNotification (cycleAt 3 1023) ≡ Overrun (cycleAt 3 1023)) ×
+    (stepOver ZeroWait (cycleAt 3 1023) ≡ Overrun (cycleAt 3 1023)) ×
+    (stepOver (TimedWait (record { 0 = 1 })) (cycleAt 3 1023) ≡ Ready (cycleAt 4 0))
+unfolding stepOver nextDelta
+stepOver-edges = (refl, refl, refl)
+
+-- a bound is not cut: "thread 0 at (0, 990), 40 zero waits from the segment that writes x": (0, 1030), below (1, 0)
+pub bound-uncut :
+    (boundAt 0 990 ⊕ boundAt 0 40 ≡ boundAt 0 1030) × (isBoundBefore (boundAt 0 990 ⊕ boundAt 0 40) (boundAt 1 0) ≡ true)
+unfolding _⊕_ plusOf deltaAfter isBoundBefore isBefore
+bound-uncut = (refl, refl)
+
 -- "A wait of k units ends at (time + k, 0) if k is 1 or more, and at (time, delta + 1) if k is 0."
 pub waitEnds-units :
     (waitEnds (unitsOf 0) (cycleAt 9 4) ≡ Ready (cycleAt 9 5)) ×
     (waitEnds (unitsOf 1) (cycleAt 9 4) ≡ Ready (cycleAt 10 0)) ×
     (waitEnds (unitsOf 2) (cycleAt 9 4) ≡ Ready (cycleAt 11 0))
-unfolding waitEnds afterUnits nextDelta
+unfolding waitEnds stepOver passageOf nextDelta
 waitEnds-units = (refl, refl, refl)
 
 -- at delta 1,023 a wait of 0 units is overrun, and one of 1 unit is not
@@ -127,7 +186,7 @@ pub waitEnds-full :
     (waitEnds (unitsOf 0) (cycleAt 9 1022) ≡ Ready (cycleAt 9 1023)) ×
     (waitEnds (unitsOf 0) (cycleAt 9 1023) ≡ Overrun (cycleAt 9 1023)) ×
     (waitEnds (unitsOf 1) (cycleAt 9 1023) ≡ Ready (cycleAt 10 0))
-unfolding waitEnds afterUnits nextDelta
+unfolding waitEnds stepOver passageOf nextDelta
 waitEnds-full = (refl, refl, refl)
 
 -- "becomes ready at the next delta", or overrun
@@ -135,7 +194,7 @@ pub waitEnds-event :
     (waitEnds Event (cycleAt 9 4) ≡ Ready (cycleAt 9 5)) ×
     (waitEnds Event (cycleAt 9 1022) ≡ Ready (cycleAt 9 1023)) ×
     (waitEnds Event (cycleAt 9 1023) ≡ Overrun (cycleAt 9 1023))
-unfolding waitEnds nextDelta
+unfolding waitEnds stepOver passageOf nextDelta
 waitEnds-event = (refl, refl, refl)
 
 -- a step's words: the last time that they hold, and the two after it
@@ -220,12 +279,12 @@ pub advanceOf-edges :
     (advanceOf (unitsOf 0) ≡ boundAt 0 1) ×
     (advanceOf (unitsOf 1) ≡ boundAt 1 0) ×
     (advanceOf (unitsOf 2) ≡ boundAt 2 0)
-unfolding advanceOf advanceOfUnits
+unfolding advanceOf advanceOver passageOf
 advanceOf-edges = (refl, refl, refl, refl)
 
 -- case 10: "over waits 0 then 7 is (7, 0); over 7 then 0 it is (7, 1)"
 pub advanceOf-two :
     (noAdvance ⊕ advanceOf (unitsOf 0) ⊕ advanceOf (unitsOf 7) ≡ boundAt 7 0) ×
     (noAdvance ⊕ advanceOf (unitsOf 7) ⊕ advanceOf (unitsOf 0) ≡ boundAt 7 1)
-unfolding _⊕_ plusOf deltaAfter advanceOf advanceOfUnits
+unfolding _⊕_ plusOf deltaAfter advanceOf advanceOver passageOf
 advanceOf-two = (refl, refl)

@@ -1,6 +1,7 @@
 pub mod OrderLaws
 pub mod CycleLaws
 pub mod LeastLaws
+pub mod PassageLaws
 pub mod AdvanceLaws
 pub mod RelaxLaws
 pub mod WaitLaws

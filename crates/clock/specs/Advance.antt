@@ -4,10 +4,12 @@ use Prim.Native.Nat.{ℕ, zero, suc, _+_}
 use mathlib.Core.Bool.{Bool, true, false, cond}
 use Rattle.clock.specs.declared.Cycle.{Cycle}
 use Rattle.clock.specs.declared.Wait.{Wait}
-use Rattle.clock.specs.declared.Wait.the-variants.{Event, Time}
+use Rattle.clock.specs.declared.Passage.{Passage}
+use Rattle.clock.specs.declared.Passage.the-variants.{DeltaNotification, ZeroWait, TimedWait}
 use Rattle.clock.specs.declared.Bound.{Bound}
 use Rattle.clock.specs.declared.Bound.the-variants.{Never, At}
 use Rattle.clock.specs.Cycle.{cycleAt, isBefore}
+use Rattle.clock.specs.Passage.{passageOf}
 
 -- every cycle is before never
 unfoldable pub isBoundBefore : Bound → Bound → Bool
@@ -44,12 +46,12 @@ noAdvance = At (cycleAt 0 0)
 abbrev pub oneDelta : Bound
 oneDelta = At (cycleAt 0 1)
 
--- what a wait of k units advances
-unfoldable pub advanceOfUnits : ℕ → Bound
-advanceOfUnits zero = oneDelta
-advanceOfUnits (suc k) = At (cycleAt (suc k) 0)
-
 -- "A step over a time wait counts as the clock says; over an event wait it is one delta."
+unfoldable pub advanceOver : Passage → Bound
+advanceOver DeltaNotification = oneDelta
+advanceOver ZeroWait = oneDelta
+advanceOver (TimedWait k) = At (cycleAt (k .0) 0)
+
+-- what a wait advances
 unfoldable pub advanceOf : Wait → Bound
-advanceOf Event = oneDelta
-advanceOf (Time k) = advanceOfUnits (k .0)
+advanceOf w = advanceOver (passageOf w)

@@ -1,4 +1,5 @@
 pub mod Cycle
+pub mod Passage
 pub mod Wait
 pub mod Advance
 pub mod Order

@@ -1,7 +1,8 @@
 // Document 01, "Clock", and the bounds of "Early issue".
 ghost use mathlib.Core.Path.{_≡_};
 ghost use Rattle.clock.specs.Cycle.{isBefore, isSame};
-ghost use Rattle.clock.specs.Wait.{waitEnds, heldStep};
+ghost use Rattle.clock.specs.Passage.{passageOf};
+ghost use Rattle.clock.specs.Wait.{stepOver, waitEnds, heldStep};
 ghost use Rattle.clock.specs.Advance.{isBoundBefore, least};
 
 // Document 01: "Times, deltas and thread numbers are counted separately".
@@ -30,6 +31,15 @@ pub struct Stamp {
 pub enum Wait {
     Event,
     Time(Delay),
+}
+
+// How a thread passes over a wait to a later cycle, after IEEE 1666-2011, 4.2.1: the first two in the delta notification
+// phase, the third in the timed notification phase.
+pub enum Passage {
+    DeltaNotification,
+    ZeroWait,
+    // its units, at least 1
+    TimedWait(Delay),
 }
 
 // Where the end of a wait leaves a thread.
@@ -64,13 +74,40 @@ pub fn is_same(a: Cycle, b: Cycle) -> bool
 pub fn wait_ends(w: Wait, c: Cycle) -> Step
     ensures { λ r. ⌜ r ≡ heldStep (waitEnds w c) ⌝ }
 {
+    step_over(passage_of(w), c)
+}
+
+// The passage over a wait.
+fn passage_of(w: Wait) -> Passage
+    ensures { λ r. ⌜ r ≡ passageOf w ⌝ }
+{
     match w {
-        Wait::Event => next_delta(c),
-        Wait::Time(k) => after_units(k, c),
+        Wait::Event => Passage::DeltaNotification,
+        Wait::Time(k) => passage_of_units(k),
     }
 }
 
-// Where a wait for an event that is notified at c leads: it adds nothing to a time.
+fn passage_of_units(k: Delay) -> Passage
+    ensures { λ r. ⌜ r ≡ passageOf (Wait.Time k) ⌝ }
+{
+    if k.0 == 0 {
+        return Passage::ZeroWait;
+    }
+    Passage::TimedWait(k)
+}
+
+// Document 02: "the step of a cycle over a wait or a wake [..] as cases".
+fn step_over(p: Passage, c: Cycle) -> Step
+    ensures { λ r. ⌜ r ≡ heldStep (stepOver p c) ⌝ }
+{
+    match p {
+        Passage::DeltaNotification => next_delta(c),
+        Passage::ZeroWait => next_delta(c),
+        Passage::TimedWait(k) => after_units(k, c),
+    }
+}
+
+// Where a wait for an event that is notified at c leads, and a zero wait begun at c: it adds nothing to a time.
 pub fn next_delta(c: Cycle) -> Step
     ensures { λ r. ⌜ r ≡ waitEnds Wait.Event c ⌝ }
 {
@@ -84,12 +121,10 @@ pub fn next_delta(c: Cycle) -> Step
     Step::Overrun(c)
 }
 
+// A timed wait begun at c.
 fn after_units(k: Delay, c: Cycle) -> Step
-    ensures { λ r. ⌜ r ≡ heldStep (waitEnds (Wait.Time k) c) ⌝ }
+    ensures { λ r. ⌜ r ≡ heldStep (stepOver (Passage.TimedWait k) c) ⌝ }
 {
-    if k.0 == 0 {
-        return next_delta(c);
-    }
     Step::Ready(Cycle {
         time: Time(std::num::wrapping_add_u64(c.time.0, k.0 as u64)),
         delta: Delta(0),

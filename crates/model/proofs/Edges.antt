@@ -8,7 +8,8 @@ use lib.ListN.{length, getD, replicate}
 use Rattle.base.specs.Index.{anyBelow, orElse, firstBelow}
 use Rattle.clock.specs.declared.Bound.the-variants.{Never, At}
 use Rattle.clock.specs.Cycle.{cycleAt}
-use Rattle.clock.specs.Wait.{nextDelta, afterUnits, waitEnds}
+use Rattle.clock.specs.Passage.{passageOf}
+use Rattle.clock.specs.Wait.{nextDelta, stepOver, waitEnds}
 use Rattle.model.specs.declared.Op.{Op}
 use Rattle.model.specs.declared.Op.the-variants.{Set, Add, Copy, AddVariable, SubVariable, Notify}
 use Rattle.model.specs.declared.Statement.{Statement}
@@ -227,14 +228,14 @@ closing :
     (closedAt 3 (waits 0 (always 1)) (cycleAt 5 1022) [] ≡ record { segment = 1; state = Ready (cycleAt 5 1023) }) ×
     (closedAt 3 (waits 0 (always 1)) (cycleAt 5 1023) [] ≡ record { segment = 1; state = Overrun (cycleAt 5 1023) }) ×
     (closedAt 3 (waits 7 (always 1)) (cycleAt 5 1023) [] ≡ record { segment = 1; state = Ready (cycleAt 12 0) })
-unfolding closedAt nextOf waitEnds afterUnits nextDelta
+unfolding closedAt nextOf waitEnds stepOver passageOf nextDelta
 closing = (refl, refl, refl, refl, refl)
 
 -- the limit is tested on the variables after the statements
 tested-after :
     (effectIn (segment (waits 1 (next 1 2 0 5)) (does (Add 0 1) ∷ [])) 0 (cycleAt 0 0) (3 ∷ []) .thread .segment ≡ 1) ×
     (effectIn (segment (waits 1 (next 1 2 0 5)) (does (Add 0 1) ∷ [])) 0 (cycleAt 0 0) (4 ∷ []) .thread .segment ≡ 2)
-unfolding effectIn closedAt nextOf execute bodyOf waitEnds afterUnits
+unfolding effectIn closedAt nextOf execute bodyOf waitEnds stepOver passageOf
 tested-after = (refl, refl)
 
 -- segment s of the model, whichever the thread

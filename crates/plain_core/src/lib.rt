@@ -30,7 +30,7 @@ const ENDED: u64 = 9223372036854775808;
 
 const OVERRUN: u64 = 13835058055282163712;
 
-// Document 01: "ready at the next delta"; "A thread whose next delta would be 1,024 is overrun".
+// The clock's step by a delta, for a delta notification and a zero wait: "A thread whose next delta would be 1,024 is overrun".
 fn next_delta(key: u64) -> u64
     requires { ⌜ key < 2 ^ 44 ⌝ }
     ensures { λ r. ⌜ r ≡ nextWord key ⌝ }
@@ -41,7 +41,7 @@ fn next_delta(key: u64) -> u64
     OVERRUN + key
 }
 
-// A thread whose segment ends so, at a cycle.
+// A thread whose segment ends so, at a cycle: over, waiting, or past a zero wait or a timed wait.
 fn close_word(end: u64, key: u64) -> u64
     requires { ⌜ key < 2 ^ 44 ⌝ }
     ensures { λ r. ⌜ r ≡ closeWord end key ⌝ }

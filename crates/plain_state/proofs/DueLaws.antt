@@ -26,7 +26,7 @@ use Rattle.plain_words.proofs.ReachLaws.{widened-length, widened-new, widened-k
 use Rattle.plain_state.specs.Words.{waiting, ended, overrun, span, cycleFrom, stateFrom, nextWord, closeWord, isTold, wakeWord, leastWord}
 use Rattle.plain_state.specs.Turn.{Locals, waitedBy, ranBy, turnOn, turnsTo}
 use Rattle.plain_state.specs.Due.{Between, Late, WaitsFor, IsLeast}
-use Rattle.plain_state.proofs.ExitLaws.{nextWord-ready, nextWord-overrun, closeWord-over, closeWord-event, closeWord-delta, closeWord-units, awaited-ready, awaited-over, awaited-waiting, wakeWord-ready, wakeWord-over, wakeWord-unmarked, turnOn-passed}
+use Rattle.plain_state.proofs.ExitLaws.{nextWord-ready, nextWord-overrun, closeWord-over, closeWord-event, closeWord-zero-wait, closeWord-timed-wait, awaited-ready, awaited-over, awaited-waiting, wakeWord-ready, wakeWord-over, wakeWord-unmarked, turnOn-passed}
 use Rattle.plain_state.proofs.LeastLaws.{leastWord-≤, leastWord-most, leastWord-one}
 
 -- the greatest word
@@ -233,8 +233,8 @@ closeWord-waits end now e small w = go (ℕ-discrete (end % 4) 0) (ℕ-discrete 
         (waiting ≤ closeWord end now) × ((closeWord end now < ended) × ((closeWord end now - waiting) / span % 32 ≡ e)) → (end % 4 ≡ 2) × (end / 1024 % 32 ≡ e)
     go (yes p) q r (a, (b, d)) = let f = closeWord-over now end p in absurd (omega arith)
     go (no p) (yes q) r (a, (b, d)) = let f : waiting + span * (end / 1024 % 32) + now ≡ closeWord end now = closeWord-event now end p q in (q, omega arith)
-    go (no p) (no q) (yes r) (a, (b, d)) = absurd (delta (closeWord-delta now end p q r) (nextWord-or now) a b)
-    go (no p) (no q) (no r) (a, (b, d)) = let f : 1024 * (now / 1024 + end / 1024 % 4294967296) ≡ closeWord end now = closeWord-units now end p q r in absurd (omega arith)
+    go (no p) (no q) (yes r) (a, (b, d)) = absurd (delta (closeWord-zero-wait now end p q r) (nextWord-or now) a b)
+    go (no p) (no q) (no r) (a, (b, d)) = let f : 1024 * (now / 1024 + end / 1024 % 4294967296) ≡ closeWord end now = closeWord-timed-wait now end p q r in absurd (omega arith)
 
 -- threads that are not due are passed over
 module _ (code : List ℕ) (now budget : ℕ) where

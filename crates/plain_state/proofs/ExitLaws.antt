@@ -12,29 +12,37 @@ use lib.ListN.{getD, set}
 use borrow.Author.Tests.{lt-ltb, le-ltb, le-leb, lt-leb, eq-eqb, ne-eqb}
 use Rattle.base.proofs.BoolLaws.{T-case, T→true, T→false}
 use Rattle.clock.specs.declared.Delay.{Delay}
+use Rattle.clock.specs.declared.Step.{Step}
+use Rattle.clock.specs.declared.Wait.the-variants as wait
 use Rattle.clock.specs.Cycle.{isBefore}
+use Rattle.clock.specs.Wait.{waitEnds}
 use Rattle.clock.specs.Order.{Before, _⊑_, sooner, same-time}
 use Rattle.clock.proofs.CycleLaws.{isBefore→Before, not-isBefore→⊑}
-use Rattle.clock.proofs.WaitLaws.{waitEnds-Event, waitEnds-none, waitEnds-more, nextDelta-ready, nextDelta-overrun}
+use Rattle.clock.proofs.PassageLaws.{passage-event, passage-none, passage-units}
+use Rattle.clock.proofs.WaitLaws.{NextDelta, delta-notification, nextDelta-same, zero-wait, timed-wait}
 use Rattle.model.specs.declared.State.the-variants.{Ended, Overrun, Ready, Waiting}
-use Rattle.model.specs.Record.{nothing, awaits, awaitedBy}
+use Rattle.model.specs.Record.{nothing, awaits, awaitedBy, stateAfter}
 use Rattle.plain_words.specs.Unpack.{endBy, followBy}
 use Rattle.plain_words.specs.Shared.{Shared, shared, executeBy}
-use Rattle.plain_state.specs.Words.{waiting, ended, overrun, span, keyOf, cycleFrom, stateFrom, nextWord, endedBy, closeWord, isTold, wakeWord}
+use Rattle.plain_state.specs.Words.{waiting, ended, overrun, span, keyOf, cycleFrom, wordOf, stateFrom, nextWord, endedBy, closeWord, isTold, wakeWord}
 use Rattle.plain_state.specs.Turn.{Locals, locals, waitedBy, ranBy, turnOn, turnsTo}
 
 -- a cycle as a number, and back
 pub keyOf-from : (k : ℕ) → keyOf (cycleFrom k) ≡ k
 keyOf-from k = omega arith
 
+-- A word is stepped by the cases of the clock: a delta notification, a zero wait, a timed wait.
 module _ (k : ℕ) where
+  notified : NextDelta (cycleFrom k) (waitEnds wait.Event (cycleFrom k))
+  notified = delta-notification wait.Event passage-event (cycleFrom k)
+
   pub nextWord-ready : k % 1024 < 1023 → k + 1 ≡ nextWord k
   unfolding nextWord
-  nextWord-ready h = rw (waitEnds-Event (cycleFrom k), nextDelta-ready (cycleFrom k) h) (omega arith)
+  nextWord-ready h = rw (notified .ready h) (omega arith)
 
   pub nextWord-overrun : 1023 ≤ k % 1024 → overrun + k ≡ nextWord k
   unfolding nextWord
-  nextWord-overrun h = rw (waitEnds-Event (cycleFrom k), nextDelta-overrun (cycleFrom k) h) (omega arith)
+  nextWord-overrun h = rw (notified .overrun h) (omega arith)
 
   module _ (e : ℕ) where
     delay : Delay
@@ -48,13 +56,22 @@ module _ (k : ℕ) where
     unfolding closeWord endedBy
     closeWord-event n h = rw (ne-eqb (e % 4) 0 n, eq-eqb (e % 4) 2 h) (omega arith)
 
-    pub closeWord-delta : (e % 4 ≡ 0 → ⊥) → (e % 4 ≡ 2 → ⊥) → e / 1024 % 4294967296 ≡ 0 → nextWord k ≡ closeWord e k
+    pub closeWord-zero-wait : (e % 4 ≡ 0 → ⊥) → (e % 4 ≡ 2 → ⊥) → e / 1024 % 4294967296 ≡ 0 → nextWord k ≡ closeWord e k
     unfolding closeWord endedBy nextWord delay
-    closeWord-delta n o h = rw (ne-eqb (e % 4) 0 n, ne-eqb (e % 4) 2 o, waitEnds-none delay (cycleFrom k) h, waitEnds-Event (cycleFrom k)) refl
+    closeWord-zero-wait n o h = rw (ne-eqb (e % 4) 0 n, ne-eqb (e % 4) 2 o) (ap (λ (s : Step). wordOf (stateAfter s)) same)
+      where
+        waited : NextDelta (cycleFrom k) (waitEnds (wait.Time delay) (cycleFrom k))
+        waited = zero-wait (wait.Time delay) (passage-none delay h) (cycleFrom k)
 
-    pub closeWord-units : (e % 4 ≡ 0 → ⊥) → (e % 4 ≡ 2 → ⊥) → (e / 1024 % 4294967296 ≡ 0 → ⊥) → 1024 * (k / 1024 + e / 1024 % 4294967296) ≡ closeWord e k
+        same : waitEnds wait.Event (cycleFrom k) ≡ waitEnds (wait.Time delay) (cycleFrom k)
+        same = nextDelta-same notified waited
+
+    pub closeWord-timed-wait : (e % 4 ≡ 0 → ⊥) → (e % 4 ≡ 2 → ⊥) → (e / 1024 % 4294967296 ≡ 0 → ⊥) → 1024 * (k / 1024 + e / 1024 % 4294967296) ≡ closeWord e k
     unfolding closeWord endedBy delay
-    closeWord-units n o h = rw (ne-eqb (e % 4) 0 n, ne-eqb (e % 4) 2 o, waitEnds-more delay (cycleFrom k) h) (omega arith)
+    closeWord-timed-wait n o h =
+        rw
+        (ne-eqb (e % 4) 0 n, ne-eqb (e % 4) 2 o, timed-wait (wait.Time delay) delay (passage-units delay (omega arith)) (cycleFrom k) .ready)
+        (omega arith)
 
 module _ (w : ℕ) where
   pub stateFrom-ready : w < waiting → Ready (cycleFrom (w % span)) ≡ stateFrom w

@@ -11,12 +11,17 @@ use Rattle.base.proofs.BoolLaws.{T→true, T→false, T-case}
 use Rattle.clock.specs.declared.Cycle.{Cycle}
 use Rattle.clock.specs.declared.Bound.{Bound}
 use Rattle.clock.specs.declared.Bound.the-variants.{Never, At}
+use Rattle.clock.specs.declared.Wait.{Wait}
 use Rattle.clock.specs.declared.Wait.the-variants as wait
+use Rattle.clock.specs.declared.Step.the-variants.{Ready}
 use Rattle.clock.specs.Cycle.{cycleAt}
+use Rattle.clock.specs.Wait.{waitEnds}
 use Rattle.clock.specs.Order.{_≼_, sooner, same-time}
 use Rattle.clock.specs.Advance.{isBoundBefore, least, deltaAfter, plusOf, _⊕_, noAdvance, advanceOf}
 use Rattle.clock.proofs.LeastLaws.{isBoundBefore→≼, not-isBoundBefore→≼, least-before, least-other}
-use Rattle.clock.proofs.AdvanceLaws.{deltaAfter-≤, ⊕-parts}
+use Rattle.clock.proofs.OrderLaws.{At-same}
+use Rattle.clock.proofs.AdvanceLaws.{deltaAfter-≤, ⊕-parts, advanceOf-delta}
+use Rattle.clock.proofs.WaitLaws.{waitEnds-advance}
 use Rattle.model.specs.declared.Closer.{Closer}
 use Rattle.model.specs.declared.Closer.the-variants.{End, Time, Event}
 use Rattle.model.specs.Limits.{cutTime}
@@ -101,6 +106,12 @@ heldWord-sum (At a) (At b) p q = go (decLt (a .time .0) cutTime) (decLt (b .time
     go (yes h) (yes l) =
         rw (heldWord-near a h (p a refl), heldWord-near b l (q b refl)) (ap (min far) (near-sum a b (p a refl) (q b refl) l))
 
+-- The sum with a step, tied to the clock: where a wait begun at c ends ready at d, its word on top of that of c is that of d.
+pub heldWord-step : (w : Wait) (c d : Cycle) → waitEnds w c ≡ Ready d → c .delta .0 ≤ 1023 → min far (sumWord (heldWord (At c)) (heldWord (advanceOf w))) ≡ heldWord (At d)
+heldWord-step w c d e h =
+    heldWord-sum (At c) (advanceOf w) (λ x f. rw (← At-same f) h) (λ x f. let l = advanceOf-delta w f in omega arith)
+    ∙ ap heldWord (waitEnds-advance w c e)
+
 -- one relaxation
 pub heldWord-relaxed :
     (x a b : Bound) → SmallDelta 1023 x → SmallDelta 1023 a → SmallDelta 1023 b → SmallDelta 1023 (a ⊕ b) →
@@ -144,7 +155,7 @@ no-choice false true = sym heldWord-never
 no-choice false false = sym heldWord-never
 
 pub directWord-heldWord : (x : Closer) (r s : ℕ) → directWord (stepsOf x) r s ≡ heldWord (cond (eqb r s) noAdvance (stepOf x s))
-unfolding directWord stepsOf stepOf goesTo advanceOf
+unfolding directWord stepsOf stepOf goesTo
 directWord-heldWord End r s = no-choice (eqb r s) (eqb 0 s || eqb 0 s)
 directWord-heldWord (Time k x) r s = choice (eqb r s) (eqb (x .a) s || eqb (x .b) s) (heldWord (advanceOf (wait.Time k))) (advanceOf (wait.Time k)) refl
-directWord-heldWord (Event w x) r s = choice (eqb r s) (eqb (x .a) s || eqb (x .b) s) 1 (advanceOf wait.Event) (sym (heldWord-near (cycleAt 0 1) (omega arith) (omega arith)))
+directWord-heldWord (Event w x) r s = choice (eqb r s) (eqb (x .a) s || eqb (x .b) s) (heldWord (advanceOf wait.Event)) (advanceOf wait.Event) refl

@@ -1,5 +1,5 @@
 -- The exits of the functions that make the words, one law for each.
-use Prim.Native.Nat.{ℕ, zero, suc, _+_, _*_, _/_, _≤_, _<_}
+use Prim.Native.Nat.{ℕ, zero, suc, min, _+_, _*_, _/_, _≤_, _<_}
 use mathlib.Core.Path.{_≡_, refl, ap, sym, _∙_}
 use mathlib.Core.List.{List}
 use native.Mathlib.Omega.{arith}
@@ -11,9 +11,13 @@ use borrow.Author.Tests.{lt-ltb, le-ltb, eq-eqb, ne-eqb}
 use Rattle.base.proofs.BoolLaws.{cond-case}
 use Rattle.base.proofs.IndexLaws.{storeTo-more, storeTo-left, storeTo-length}
 use Rattle.clock.specs.declared.Delay.{Delay}
+use Rattle.clock.specs.declared.Wait.{Wait}
 use Rattle.clock.specs.declared.Wait.the-variants as wait
+use Rattle.clock.specs.declared.Passage.the-variants.{DeltaNotification, ZeroWait, TimedWait}
+use Rattle.clock.specs.Passage.{passageOf}
 use Rattle.clock.specs.Advance.{advanceOf}
-use Rattle.clock.proofs.AdvanceLaws.{advanceOf-none, advanceOf-more}
+use Rattle.clock.proofs.PassageLaws.{passage-none, passage-units}
+use Rattle.clock.proofs.AdvanceLaws.{advance-delta-notification, advance-zero-wait, advance-timed-wait}
 use Rattle.model.specs.declared.Next.{Next}
 use Rattle.model.specs.declared.Closer.{Closer}
 use Rattle.model.specs.declared.Closer.the-variants.{End, Time, Event}
@@ -39,18 +43,29 @@ module _ (a b : ℕ) where
   unfolding sumWord
   sumWord-more h l = rw (lt-ltb b far h, le-ltb b 1024 l) refl
 
+-- the word of a step, by the cases of the clock
+module _ (w : Wait) where
+  pub word-delta-notification : passageOf w ≡ DeltaNotification → 1 ≡ heldWord (advanceOf w)
+  unfolding heldWord wordOf
+  word-delta-notification e = rw (advance-delta-notification w e) refl
+
+  pub word-zero-wait : passageOf w ≡ ZeroWait → 1 ≡ heldWord (advanceOf w)
+  unfolding heldWord wordOf
+  word-zero-wait e = rw (advance-zero-wait w e) refl
+
+  pub word-timed-wait : (k : Delay) → passageOf w ≡ TimedWait k → min far (k .0 * 1024) ≡ heldWord (advanceOf w)
+  unfolding heldWord wordOf
+  word-timed-wait k e = rw (advance-timed-wait w k e) (omega arith)
+
 module _ (k : Delay) where
   pub unitsWord-none : k .0 ≡ 0 → 1 ≡ heldWord (advanceOf (wait.Time k))
-  unfolding heldWord wordOf
-  unitsWord-none e = rw (advanceOf-none k e) refl
+  unitsWord-none e = word-zero-wait (wait.Time k) (passage-none k e)
 
   pub unitsWord-far : cutTime ≤ k .0 → far ≡ heldWord (advanceOf (wait.Time k))
-  unfolding heldWord wordOf
-  unitsWord-far h = rw (advanceOf-more k (λ e. omega arith)) (omega arith)
+  unitsWord-far h = rw (← word-timed-wait (wait.Time k) k (passage-units k (omega arith))) (omega arith)
 
   pub unitsWord-more : (k .0 ≡ 0 → ⊥) → k .0 < cutTime → k .0 * 1024 ≡ heldWord (advanceOf (wait.Time k))
-  unfolding heldWord wordOf
-  unitsWord-more other h = rw (advanceOf-more k other) (omega arith)
+  unitsWord-more other h = rw (← word-timed-wait (wait.Time k) k (passage-units k (omega arith))) (omega arith)
 
 module _ (x : Closer) where
   pub stepsOf-end : x ≡ End → record { a = 0; b = 0; word = far } ≡ stepsOf x
@@ -61,7 +76,7 @@ module _ (x : Closer) where
   unfolding stepsOf
   stepsOf-time k y w e f = rw (e, f) refl
 
-  pub stepsOf-event : (w v : ℕ) (y : Next) → x ≡ Event w y → v ≡ 1 → record { a = y .a; b = y .b; word = v } ≡ stepsOf x
+  pub stepsOf-event : (w v : ℕ) (y : Next) → x ≡ Event w y → v ≡ heldWord (advanceOf wait.Event) → record { a = y .a; b = y .b; word = v } ≡ stepsOf x
   unfolding stepsOf
   stepsOf-event w v y e f = rw (e, f) refl
 

@@ -33,7 +33,7 @@ sumWord a b = cond (ltb b far) (cond (ltb b 1024) (a + b) (a / 1024 * 1024 + b))
 unfoldable pub stepsOf : Closer → Steps
 stepsOf End = record { a = 0; b = 0; word = far }
 stepsOf (Time k x) = record { a = x .a; b = x .b; word = heldWord (advanceOf (wait.Time k)) }
-stepsOf (Event e x) = record { a = x .a; b = x .b; word = 1 }
+stepsOf (Event e x) = record { a = x .a; b = x .b; word = heldWord (advanceOf wait.Event) }
 
 unfoldable pub directWord : Steps → ℕ → ℕ → ℕ
 directWord g r s = cond (eqb r s) 0 (cond (eqb (g .a) s || eqb (g .b) s) (g .word) far)

@@ -27,7 +27,7 @@ struct Steps {
     word: u64,
 }
 
-// Document 01: "A step over a time wait counts as the clock says".
+// Document 01: "A step over a time wait counts as the clock says": a zero wait is one delta, a timed wait its units.
 fn units_word(k: Delay) -> u64
     ensures { λ r. ⌜ r ≡ heldWord (advanceOf (Wait.Time k)) ⌝ }
 {

@@ -14,11 +14,13 @@ use Rattle.clock.specs.declared.Cycle.{Cycle}
 use Rattle.clock.specs.declared.Delay.{Delay}
 use Rattle.clock.specs.declared.Bound.{Bound}
 use Rattle.clock.specs.declared.Bound.the-variants.{Never, At}
+use Rattle.clock.specs.declared.Wait.{Wait}
 use Rattle.clock.specs.declared.Wait.the-variants as wait
 use Rattle.clock.specs.Order.{_≼_, sooner, same-time}
-use Rattle.clock.specs.Advance.{_⊕_, noAdvance, advanceOf, advanceOfUnits}
+use Rattle.clock.specs.Advance.{_⊕_, noAdvance, oneDelta, advanceOf}
+use Rattle.clock.proofs.PassageLaws.{Passing, notified, instant, timed, passing}
 use Rattle.clock.proofs.OrderLaws.{At-same, At-not-Never, ≼-refl, ≼-trans}
-use Rattle.clock.proofs.AdvanceLaws.{⊕-assoc, ⊕-mono, ⊕-inflate-right}
+use Rattle.clock.proofs.AdvanceLaws.{⊕-assoc, ⊕-mono, ⊕-inflate-right, advance-delta-notification, advance-zero-wait, advance-timed-wait}
 use Rattle.model.specs.declared.Next.{Next}
 use Rattle.model.specs.declared.Closer.{Closer}
 use Rattle.model.specs.declared.Closer.the-variants.{End, Time, Event}
@@ -59,20 +61,25 @@ cut-At (At x) {c} e =
 
 -- the steps
 
-advanceOfUnits-step : (k : ℕ) (c : Cycle) → advanceOfUnits k ≡ At c → IsStep c
-unfolding advanceOfUnits
-advanceOfUnits-step zero c e = let f = At-same e in delta-step (sym (ap (λ (u : Cycle). u .time .0) f)) (sym (ap (λ (u : Cycle). u .delta .0) f))
-advanceOfUnits-step (suc k) c e = time-step (sym (ap (λ (u : Cycle). u .delta .0) (At-same e)))
+-- by the cases of the clock
+advanceOf-step : (w : Wait) (c : Cycle) → advanceOf w ≡ At c → IsStep c
+advanceOf-step w c e = go (passing w)
+  where
+    by-delta : advanceOf w ≡ oneDelta → IsStep c
+    by-delta a = let f = At-same (sym a ∙ e) in delta-step (sym (ap (λ (u : Cycle). u .time .0) f)) (sym (ap (λ (u : Cycle). u .delta .0) f))
+
+    go : Passing w → IsStep c
+    go (notified p) = by-delta (advance-delta-notification w p)
+    go (instant p) = by-delta (advance-zero-wait w p)
+    go (timed k h p) = time-step (sym (ap (λ (u : Cycle). u .delta .0) (At-same (sym (advance-timed-wait w k p) ∙ e))))
 
 pub stepOf-step : (x : Closer) (s : ℕ) (c : Cycle) → stepOf x s ≡ At c → IsStep c
-unfolding stepOf advanceOf
+unfolding stepOf
 stepOf-step End s c e = absurd (At-not-Never (sym e))
 stepOf-step (Time k x) s c e =
-    cond-case (λ (b : Bound). b ≡ At c → IsStep c) (goesTo x s) (λ t f. advanceOfUnits-step (k .0) c f) (λ t f. absurd (At-not-Never (sym f))) e
+    cond-case (λ (b : Bound). b ≡ At c → IsStep c) (goesTo x s) (λ t f. advanceOf-step (wait.Time k) c f) (λ t f. absurd (At-not-Never (sym f))) e
 stepOf-step (Event w x) s c e =
-    cond-case (λ (b : Bound). b ≡ At c → IsStep c) (goesTo x s)
-    (λ t f. let g = At-same f in delta-step (sym (ap (λ (u : Cycle). u .time .0) g)) (sym (ap (λ (u : Cycle). u .delta .0) g)))
-    (λ t f. absurd (At-not-Never (sym f))) e
+    cond-case (λ (b : Bound). b ≡ At c → IsStep c) (goesTo x s) (λ t f. advanceOf-step wait.Event c f) (λ t f. absurd (At-not-Never (sym f))) e
 
 pub edge-step : (m : Model) → StepsOnly (edge m)
 unfolding edge

@@ -1,6 +1,6 @@
 -- `plain_core::close_word` meets its contract.
 use mathlib.Core.Path.{_∙_}
-use Rattle.plain_state.proofs.ExitLaws.{closeWord-over, closeWord-event, closeWord-delta, closeWord-units}
+use Rattle.plain_state.proofs.ExitLaws.{closeWord-over, closeWord-event, closeWord-zero-wait, closeWord-timed-wait}
 use borrow.Author.Needs.{needs}
 use Rattle.plain_core.proofs.close_word.Statement.{statement}
 use Rattle.plain_core.proofs.close_word.Tie as tie
@@ -14,12 +14,12 @@ returns-2 c = let a = c .before .before .args in closeWord-event (a .key) (a .en
 returns-3 : tie.Need-returns-3
 returns-3 c = let second = c .before .before in
     let a = second .before .before .args in
-    c .next-delta .ensures ∙ closeWord-delta (a .key) (a .end) (second .before .if1 .left) (second .if2 .left) (c .before .if3 .taken)
+    c .next-delta .ensures ∙ closeWord-zero-wait (a .key) (a .end) (second .before .if1 .left) (second .if2 .left) (c .before .if3 .taken)
 
 returns-4 : tie.Need-returns-4
 returns-4 c = let second = c .before in
     let a = second .before .before .args in
-    closeWord-units (a .key) (a .end) (second .before .if1 .left) (second .if2 .left) (c .if3 .left)
+    closeWord-timed-wait (a .key) (a .end) (second .before .if1 .left) (second .if2 .left) (c .if3 .left)
 
 pub close-word-spec : {M : Type 1} → statement M
 close-word-spec =
