@@ -10,13 +10,20 @@ use lib.Dec.{T, ltb, T-not}
 use borrow.Author.Tests.{lt-ltb, le-ltb, eq-eqb, ne-eqb}
 use Rattle.base.proofs.BoolLaws.{T-case, T→true, T→false}
 use Rattle.clock.specs.declared.Cycle.{Cycle}
+use Rattle.clock.specs.declared.Delay.{Delay}
+use Rattle.clock.specs.declared.Wait.{Wait}
+use Rattle.clock.specs.declared.Passage.the-variants.{DeltaNotification, ZeroWait, TimedWait}
+use Rattle.clock.specs.declared.Step.the-variants.{Ready}
 use Rattle.clock.specs.declared.Bound.{Bound}
 use Rattle.clock.specs.declared.Bound.the-variants.{Never, At}
 use Rattle.clock.specs.Cycle.{stampAt, isBefore, isSame}
-use Rattle.clock.specs.Advance.{isBoundBefore, least, leastBelow, plusOf, _⊕_, oneDelta}
+use Rattle.clock.specs.Passage.{passageOf}
+use Rattle.clock.specs.Wait.{waitEnds}
+use Rattle.clock.specs.Advance.{isBoundBefore, least, leastBelow, plusOf, _⊕_, oneDelta, advanceOf}
 use Rattle.clock.proofs.OrderLaws.{cycle-path}
 use Rattle.clock.proofs.CycleLaws.{isBefore-same, isBefore-other, isSame→≡, ≡→isSame, isStampBefore-same, isStampBefore-other}
-use Rattle.clock.proofs.AdvanceLaws.{deltaAfter-none, deltaAfter-more}
+use Rattle.clock.proofs.AdvanceLaws.{deltaAfter-none, deltaAfter-more, advance-delta-notification, advance-zero-wait, advance-timed-wait}
+use Rattle.clock.proofs.WaitLaws.{waitEnds-advance}
 use Rattle.model.specs.Limits.{cutTime}
 use Rattle.tables.specs.Word.{allOnes, boundOf}
 use Rattle.early.specs.Hazard.{isSooner}
@@ -131,6 +138,25 @@ limitOf-⊕ (At a) (At b) p q = go (ℕ-discrete (b .time .0) 0)
         let sum = sumOf-large x y (omega arith) (omega arith) (omega arith) in
         omega arith
 
+-- A limit is stepped by the cases of the clock.
+module _ (w : Wait) where
+  pub limit-delta-notification : passageOf w ≡ DeltaNotification → limitOf (advanceOf w) ≡ 1
+  unfolding limitOf
+  limit-delta-notification e = rw (advance-delta-notification w e) refl
+
+  pub limit-zero-wait : passageOf w ≡ ZeroWait → limitOf (advanceOf w) ≡ 1
+  unfolding limitOf
+  limit-zero-wait e = rw (advance-zero-wait w e) refl
+
+  pub limit-timed-wait : (k : Delay) → passageOf w ≡ TimedWait k → limitOf (advanceOf w) ≡ k .0 * unit
+  unfolding limitOf
+  limit-timed-wait k e = rw (advance-timed-wait w k e) (omega arith)
+
+  -- where a wait begun at c ends ready at d, its limit on top of that of c is that of d
+  pub limit-step : (c d : Cycle) → waitEnds w c ≡ Ready d → Limited (At c) → Limited (advanceOf w) → sumOf (limitOf (At c)) (limitOf (advanceOf w)) ≡ limitOf (At d)
+  limit-step c d e p q = sym (limitOf-⊕ (At c) (advanceOf w) p q) ∙ ap limitOf (waitEnds-advance w c e)
+
+-- a thread is woken one delta after the notification
 pub limitOf-oneDelta : (a : Bound) → Limited a → limitOf (a ⊕ oneDelta) ≡ sumOf (limitOf a) 1
 unfolding limitOf
 limitOf-oneDelta a p = limitOf-⊕ a oneDelta p (omega arith)
