@@ -4,6 +4,7 @@ import os
 import struct
 
 SET, ADD, COPY, ADD_VARIABLE, SUB_VARIABLE, NOTIFY = 1, 2, 3, 4, 5, 6
+PORT, UNUSED = 128, 255
 
 
 def end(*statements):
@@ -23,13 +24,17 @@ def notify(event):
 
 
 def model(horizon, variables, events, segments, threads):
+    """A thread is its first segment, or that and the variables of its ports from port 0 on."""
     out = struct.pack("<HHIBB", 10, 1, horizon, variables, events)
     for *closer, statements in segments:
         out += struct.pack("<HHBBIBBBI", 17 + 6 * len(statements), 2, *closer)
         for statement in statements:
             out += struct.pack("<BBI", *statement)
-    for first in threads:
+    for thread in threads:
+        first, *ports = thread if isinstance(thread, tuple) else (thread,)
         out += struct.pack("<HHB", 5, 3, first)
+        if ports:
+            out += struct.pack("<HH8B", 12, 5, *ports, *[UNUSED] * (8 - len(ports)))
     return out + struct.pack("<HH", 4, 4)
 
 
@@ -62,6 +67,7 @@ FILES = {
     "lastpoll": model(5, 0, 0, [wait(5, 0)], [0]),
     "horizon": model(5, 0, 0, [wait(6, 0)], [0]),
     "calls": model(10, 0, 32, [end(), wait(1, 1, *[notify(e) for e in range(32)])], [0, 1]),
+    "loops": model(10, 2, 0, [wait(3, 0, (ADD, PORT, 1), b=1, test=PORT, limit=2), end()], [(0, 0), (0, 1)]),
     "refused7": model(10, 0, 0, [end((SET, 0, 1))], [0]),
 }
 

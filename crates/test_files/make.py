@@ -16,6 +16,7 @@ def count(n): return struct.pack("<H", n)
 def part(b): return count(len(b)) + b
 
 for n, f in files.TABLE: assert files.judge(f) == (n,), n
+for n, f in files.port_edges(): assert files.judge(f)[0] == n, (n, files.judge(f), f)
 stored, runs = files.stored(), orders.runs()
 with open(here + "/data/files", "wb") as o:
     for f in stored: o.write(part(f))

@@ -4,12 +4,12 @@ Requests are made here a second time, plainly from document 01, and the plain ru
 up to the horizon, variables, records, histories and the count of segments must be the plain run's, else the next request of the
 least stamp must be granted. What document 01 itself says of a case is held against the lines.
 """
-import os, sys
+import copy, os, sys
 
-from files import M, judge
+from files import EVERY, LOOPS, M, PORTS, UNUSED, END as FILE_END, judge, ports as port_record
 
 sys.path.insert(0, os.path.join(os.path.dirname(os.path.abspath(__file__)), "..", "versus"))
-from models import NOTIFY, SET, always, atomic, dvd_player, end, manager_and_workers, model, model_m, two_behaviours, two_writes, wait, wait_for
+from models import ADD, ADD_VARIABLE, COPY, NOTIFY, SET, always, atomic, below, dvd_player, end, manager_and_workers, model, model_m, two_behaviours, two_writes, wait, wait_for
 
 NEVER = (float("inf"), 0)
 READY, WAIT, ENDED, OVERRUN = "ready", "wait", "ended", "overrun"
@@ -31,14 +31,16 @@ def advanced(c, k):
 class Model:
     def __init__(self, b):
         self.number = judge(b)[0]
-        self.segments, self.firsts = [], []
+        self.segments, self.firsts, self.ports = [], [], []
         while not self.number and b:
             size, kind = int.from_bytes(b[0:2], "little"), b[2]
             r, b = b[4:size], b[size:]
             if kind == 1: self.H, self.V, self.E = int.from_bytes(r[:4], "little"), r[4], r[5]
             if kind == 2: self.segments.append(Segment(r))
-            if kind == 3: self.firsts.append(r[0])
+            if kind == 3: self.firsts.append(r[0]); self.ports.append(bytes([UNUSED] * 8))
+            if kind == 5: self.ports[-1] = r
         self.N = len(self.segments)
+        self.mapped = [[g.under(eight) for g in self.segments] for eight in self.ports]
         self.reach = [self.distances(r) for r in range(self.N)]
 
     def distances(self, r):
@@ -54,8 +56,9 @@ class Model:
                     if c < best[t]: best[t], changed = c, True
         return [d if d[0] <= 10**9 else NEVER for d in best]
 
-    def conflict(self, r, s):
-        a, b = self.segments[r], self.segments[s]
+    def conflict(self, i, r, j, s):
+        """Document 02: "between a thread's segment and another thread's segment, after mapping"."""
+        a, b = self.mapped[i][r], self.mapped[j][s]
         return bool(a.writes & (b.reads | b.writes) or b.writes & a.reads)
 
     def notifying(self, e):
@@ -68,9 +71,19 @@ class Segment:
         self.a, self.b, self.test, self.limit = r[6], r[7], r[8], int.from_bytes(r[9:13], "little")
         self.statements = [(r[i], r[i + 1], int.from_bytes(r[i + 2:i + 6], "little")) for i in range(13, len(r), 6)]
         self.nexts = {self.a, self.b} if self.kind else set()
-        self.reads = {b for op, a, b in self.statements if op in (3, 4, 5)} | ({self.test} if self.kind and self.test != 255 else set())
-        self.writes = {a for op, a, b in self.statements if op != 6}
         self.notifies = [a for op, a, b in self.statements if op == 6]
+
+    def under(self, ports):
+        """The segment of a thread with these ports: what it does, its test, and the variables that it reads and writes."""
+        def variable(x): return ports[x - PORTS[0]] if x in PORTS else x
+        g = copy.copy(self)
+        g.test = variable(self.test)
+        g.statements = [(op, a if op == 6 else variable(a), variable(b) if op in (3, 4, 5) else b) for op, a, b in self.statements]
+        g.reads = {b for op, a, b in g.statements if op in (3, 4, 5)} | ({g.test} if g.kind else set())
+        g.writes = {a for op, a, b in g.statements if op != 6}
+        g.reads -= {UNUSED}
+        g.writes -= {UNUSED}
+        return g
 
     def run(self, vs):
         """The variables after the statements, and the next segment."""
@@ -105,7 +118,7 @@ class State:
     def execute(self, k):
         """Thread k runs its segment whole, and its closer is applied; what it notified, in statement order."""
         s, _, c, _ = self.records[k]
-        g = self.m.segments[s]
+        g = self.m.mapped[k][s]
         self.variables, then = g.run(self.variables)
         self.records[k] = g.closed(s, then, c)
         self.histories[k].append((s, c))
@@ -153,7 +166,7 @@ class State:
     def hazard(self, k):
         s, _, c, _ = self.records[k]
         bounds = self.earliest()
-        return any(self.m.conflict(s, q) and (plus(bounds[j], self.m.reach[self.records[j][0]][q]), j) < (c, k)
+        return any(self.m.conflict(k, s, j, q) and (plus(bounds[j], self.m.reach[self.records[j][0]][q]), j) < (c, k)
                    for j in self.live() if j != k for q in range(self.m.N))
 
     def floor(self): return min([c for _, state, c, _ in self.records if state == READY], default=None)
@@ -363,10 +376,59 @@ def end_time():
     assert "t 0 0 ready 2000000000 0" in got and "l 0 1000000000 0" in got
 
 
+def mapped(file, eights):
+    """The file with the record of kind 5 that each thread has, b"" for none."""
+    first = len(file) - len(FILE_END) - 5 * len(eights)
+    threads = [file[first + 5 * k:first + 5 * k + 5] for k in range(len(eights))]
+    return file[:first] + b"".join(t + x for t, x in zip(threads, eights)) + FILE_END
+
+
+def ports():
+    """Document 02, slip 4: what a segment does and what it conflicts with is the thread's, after mapping."""
+    here, left = case("Two counters through one segment", LOOPS, [1, 1, 1, 0])
+    assert here[:6] == ["r 1 granted 0 0 0", "r 1 granted 0 3 0", "r 1 granted 1 6 0", "r 0 granted 0 0 0", "v 0 1", "v 1 2"] and left[-4:-2] == ["v 0 2", "v 1 2"]
+    here, left = case("One counter through one segment", LOOPS.replace(port_record(p0=1), port_record(p0=0)), [1, 0, 1])
+    assert here[:5] == ["r 1 refused 14", "r 0 granted 0 0 0", "r 1 granted 0 0 0", "v 0 2", "v 1 0"] and left[-4:-2] == ["v 0 3", "v 1 0"]
+
+    # case 6 with thread 1 at its port
+    def writers(a, b, *eights): return mapped(model(20, 2, 0, [wait(5, always(1)), end(a), wait(10, always(3)), b], [0, 2]), eights)
+    def second(file, name, answer):
+        here, left = case(name, file, [1, 1])
+        assert here[1] == "r 1 " + answer, name
+        return left
+    through = end((SET, 135, 2))
+    left = second(writers((SET, 0, 1), through, b"", port_record(p7=0)), "A port meets a variable", "refused 14")
+    assert "v 0 2" in left
+    second(writers((SET, 0, 1), through, b"", port_record(p7=1)), "A port beside a variable", "granted 3 10 0")
+    second(writers((SET, 128, 1), end((SET, 129, 2)), port_record(p0=0), port_record(p1=0)), "Two ports of one variable", "refused 14")
+    second(writers((SET, 128, 1), end((SET, 128, 2)), port_record(p0=0), port_record(p0=1)), "One port of two variables", "granted 3 10 0")
+    second(writers((SET, 128, 1), end((SET, 1, 2)), port_record(p0=1), b""), "A variable meets a port", "refused 14")
+    second(writers((SET, 0, 1), wait(1, below(128, 1, 3, 3)), b"", port_record(p0=0)), "A test through a port", "refused 14")
+    second(writers((COPY, 1, 0), wait(1, below(128, 1, 3, 3)), b"", port_record(p0=0)), "Two readers", "granted 3 10 0")
+    second(writers((COPY, 1, 128), end((ADD, 0, 1)), port_record(p0=0), b""), "A reader through a port", "refused 14")
+    second(writers((SET, 0, 1), end((COPY, 1, 128)), b"", port_record(p0=0, p1=0)), "A copy through a port", "refused 14")
+    second(writers((SET, 0, 1), end((SET, 1, 2)), b"", port_record(p0=0)), "A port that nobody names", "granted 3 10 0")
+    # a port of a variable that the segment also names directly
+    m = mapped(model(9, 2, 0, [end((SET, 0, 4), (ADD, 128, 3), (ADD_VARIABLE, 0, 128), (COPY, 129, 0))], [0]), [port_record(p0=0, p1=1)])
+    assert run("A variable and its port", m, [0])[1:3] == ["v 0 14", "v 1 14"]
+    # what a thread reaches through a port counts before the stamp, as in case 5
+    m = mapped(model(20, 1, 1, [wait(1, always(1), (NOTIFY, 0, 0)), end((SET, 128, 1)), wait_for(0, always(3)), end((ADD, 129, 1))], [0, 2]), [port_record(p0=0), port_record(p1=0)])
+    here, left = case("A wake that leads to a port", m, [0, 0, 1, 0, 1])
+    assert here[1] == "r 0 refused 14" and "v 0 1" in left
+    m = model(9, 1, 0, [end((SET, 0, 128), (ADD, 0, 135))], [0])
+    assert run("A constant is no port", m, [0])[1] == "v 0 263"
+    m = model(9, 64, 0, [end((SET, 135, 5))], [0])
+    assert run("The last port and the last variable", mapped(m, [port_record(p7=63)]), [0])[64] == "v 63 5"
+    run("Ports in every place", EVERY, asked(EVERY, [], most_ahead))
+    assert run("Number 17", mapped(m, [port_record(p7=64)]), [0]) == ["refused 17"]
+    assert run("Number 18", m, [0]) == ["refused 18"]
+
+
 def runs():
     cases()
     orders_of_m()
     papers()
     sentences()
     end_time()
+    ports()
     return RUNS

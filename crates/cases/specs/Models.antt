@@ -10,6 +10,7 @@ use Rattle.model.specs.declared.Closer.{Closer}
 use Rattle.model.specs.declared.Closer.the-variants.{End, Time, Event}
 use Rattle.model.specs.declared.Segment.{Segment}
 use Rattle.model.specs.declared.Model.{Model}
+use Rattle.model.specs.Port.{noPorts}
 use Rattle.model.specs.Values.{noStatement, noModel, withHead, withSegment, withStart}
 
 -- case 1: "the 36-byte file of H = 10, V = E = 0, one ending segment, one thread"
@@ -54,14 +55,14 @@ only o = segmentOf End 1 31 (says o ∷ [])
 abbrev pub ending : Segment
 ending = segmentOf End 0 32 []
 
--- a model from its head, its segments and its threads' first segments
+-- a model from its head, its segments and its threads' first segments, without ports
 unfoldable pub withSegments : Model → List Segment → Model
 withSegments m [] = m
 withSegments m (g ∷ gs) = withSegments (withSegment m g) gs
 
 unfoldable pub withStarts : Model → List ℕ → Model
 withStarts m [] = m
-withStarts m (s ∷ ss) = withStarts (withStart m (record { first = s })) ss
+withStarts m (s ∷ ss) = withStarts (withStart m (record { first = s; ports = noPorts })) ss
 
 unfoldable pub modelOf : ℕ → ℕ → ℕ → List Segment → List ℕ → Model
 modelOf h v e gs ss = withStarts (withSegments (withHead noModel h v e) gs) ss

@@ -18,6 +18,7 @@ use Rattle.model.specs.declared.Model.{Model}
 use Rattle.model.specs.declared.State.{State}
 use Rattle.model.specs.declared.State.the-variants.{Ended, Overrun, Ready, Waiting}
 use Rattle.model.specs.declared.Thread.{Thread}
+use Rattle.model.specs.Port.{noPorts}
 use Rattle.model.specs.Values.{noStatement, noModel, withHead, withSegment, withStart}
 use Rattle.tables.specs.Word.{allOnes}
 use Rattle.early.specs.declared.Notification.{Notification}
@@ -59,7 +60,7 @@ onward s = record { a = s; b = s; test = 255; limit = 0 }
 -- so many threads that start at segment 0
 unfoldable pub withStarts : ℕ → Model → Model
 withStarts zero m = m
-withStarts (suc t) m = withStart (withStarts t m) (record { first = 0 })
+withStarts (suc t) m = withStart (withStarts t m) (record { first = 0; ports = noPorts })
 
 -- Three segments that end: segment 0 notifies nothing, 1 notifies event 0 and 2 event 1.
 unfoldable pub sayers : ℕ → Model

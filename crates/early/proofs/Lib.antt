@@ -2,3 +2,4 @@ pub mod Computed
 pub mod EdgeModels
 pub mod Edges
 pub mod RequestEdges
+pub mod PortEdges

@@ -13,6 +13,7 @@ use Rattle.model.specs.declared.Thread.{Thread}
 use Rattle.model.specs.Refusal.{accepted}
 use Rattle.model.specs.Limits.{cutTime, recordTime}
 use Rattle.model.specs.Record.{threadAt, cycleOf, Awaited, nothing, awaits, awaitedBy}
+use Rattle.model.specs.Reach.{lacksFrom}
 use Rattle.model.specs.Rules.{modelFault}
 use Rattle.tables.specs.Word.{allOnes}
 use Rattle.early.specs.declared.Notification.{Notification}
@@ -28,9 +29,12 @@ unfoldable pub isFitWait : Model → Awaited → Bool
 isFitWait m nothing = true
 isFitWait m (awaits e since) = ltb e (m .e)
 
--- the record of thread k: no "segment not below N"; "a record time of exactly 2,000,000,000" is the last
+-- the record of thread k: no "segment not below N"; "a record time of exactly 2,000,000,000" is the last; no "record from whose
+-- segment its thread could reach such a port"
 unfoldable pub isFitThread : Model → ℕ → Thread → Bool
-isFitThread m k t = ltb (t .segment) (m .n) && (isFitCycle recordTime (cycleOf (t .state)) && isFitWait m (awaitedBy (t .state)))
+isFitThread m k t =
+    ltb (t .segment) (m .n)
+    && (isFitCycle recordTime (cycleOf (t .state)) && (isFitWait m (awaitedBy (t .state)) && not (lacksFrom m k (t .segment))))
 
 -- "a log time .. of exactly 1,000,000,000" is the last
 unfoldable pub isFitPair : Model → Notification → Bool

@@ -2,14 +2,17 @@
 -- `proofs/StoreLaws.antt` says that the places are those of `reachOf`.
 use Prim.Native.Nat.{ℕ, _+_, _*_, _/_, _%_, _≤_, _<_}
 use mathlib.Core.Path.{_≡_}
-use mathlib.Core.Bool.{Bool, not, cond, _&&_}
+use mathlib.Core.Bool.{Bool, false, not, cond, _&&_, _||_}
 use mathlib.Core.List.{List}
 use lib.Dec.{ltb, eqb}
 use lib.ListN.{length, getD}
 use Rattle.model.specs.declared.Op.{Op}
 use Rattle.model.specs.declared.Op.the-variants.{Set, Add, Copy, AddVariable, SubVariable, Notify}
+use Rattle.model.specs.declared.Start.{Start}
 use Rattle.model.specs.Footprint.{has}
 use Rattle.tables.specs.Word.{allOnes}
+use Rattle.early_ports.specs.declared.Footprint.{Footprint}
+use Rattle.early_ports.specs.Cross.{footprintOf, crosses, portsIn}
 use Rattle.early_limits.specs.Limit.{limitOfWord, lesser}
 use Rattle.early_limits.specs.Ahead.{threatensLimit}
 
@@ -40,6 +43,11 @@ eventOf (AddVariable a b) = 255
 eventOf (SubVariable a b) = 255
 eventOf (Notify w) = w
 
--- whether thread j, another than i, threatens i at c by a segment of the row
-unfoldable pub threatAt : List Bool → List ℕ → ℕ → List ℕ → List ℕ → ℕ → ℕ → ℕ → Bool
-threatAt row ws n segments xs i c j = not (eqb j i) && threatensLimit row ws n (getD segments j 0) (getD xs j allOnes) j c i
+-- whether the asker, with its own footprint, conflicts in segment s with a thread of ports ps: by the row of marks, or through a port
+unfoldable pub conflictsBy : List Bool → Footprint → List ℕ → List ℕ → ℕ → Bool
+conflictsBy row own names ps s = getD row s false || crosses own (footprintOf names ps s)
+
+-- whether thread j, another than i, threatens i at c by a segment that conflicts
+unfoldable pub threatAt : List Bool → Footprint → List ℕ → List Start → List ℕ → ℕ → List ℕ → List ℕ → ℕ → ℕ → ℕ → Bool
+threatAt row own names starts ws n segments xs i c j =
+    not (eqb j i) && threatensLimit (conflictsBy row own names (portsIn starts j)) ws n (getD segments j 0) (getD xs j allOnes) j c i

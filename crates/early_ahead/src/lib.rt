@@ -3,10 +3,12 @@ use clock::Cycle;
 use clock::Stamp;
 use early_limits::Crew;
 use early_limits::Limits;
+use early_ports::Footprint;
 use model::CUT_TIME;
 use model::Model;
 use model::Op;
 use model::Segment;
+use model::Start;
 ghost use mathlib.Core.Path.{_≡_};
 ghost use mathlib.Core.Bool.{true};
 ghost use Prim.Native.Nat.{_+_, _*_, _≤_, _<_};
@@ -17,7 +19,8 @@ ghost use Rattle.model.specs.Statement.{notifiedBy};
 ghost use Rattle.tables.specs.Word.{allOnes};
 ghost use Rattle.early_limits.specs.Limit.{limitOfCycle, limitOfWord, lesser, sumOf, isSoonerLimit, atMost};
 ghost use Rattle.early_limits.specs.Ahead.{reachIn, forecastAt, relaxedAt, relaxedLimits, earliestLimits, threatensLimit, hazardAt};
-ghost use Rattle.early_ahead.specs.Store.{Places, cleared, columnLowered, lowered, eventOf, threatAt};
+ghost use Rattle.early_ports.specs.Cross.{conflictsOn};
+ghost use Rattle.early_ahead.specs.Store.{Places, cleared, columnLowered, lowered, eventOf, conflictsBy, threatAt};
 
 // Document 01: "'never' as all ones".
 const NEVER: u64 = 18446744073709551615;
@@ -271,9 +274,27 @@ pub fn earliest(reach: &[u64], crew: Crew, xs: Limits, t: u8) -> Limits
     x
 }
 
-// Whether thread j, in the segment and no sooner than b, could run a marked segment before thread i at c. A sum is no sooner than b.
+// Whether the asker, with its own footprint, conflicts in segment s with a thread of these ports: by the row of marks, or through a port.
+fn conflicts_at(row: [bool; 64], own: Footprint, names: &[u64], ports: [u8; 8], s: usize) -> bool
+    requires { ⌜ s < 64 ⌝ }
+    ensures { λ r. ⌜ r ≡ conflictsBy row own (now (names .entry)) ports s ⌝ }
+{
+    if row[s] {
+        return true;
+    }
+    if own.uses == 0 {
+        return false;
+    }
+    let other = early_ports::footprint_of(names, ports, s);
+    early_ports::crosses(own, other)
+}
+
+// Whether thread j, in the segment and no sooner than b, could run one that conflicts before thread i at c. A sum is no sooner than b.
 fn threatens(
     row: [bool; 64],
+    own: Footprint,
+    names: &[u64],
+    ports: [u8; 8],
     words: &[u64],
     count: u8,
     segment: u8,
@@ -282,7 +303,7 @@ fn threatens(
     c: u64,
     i: usize,
 ) -> bool
-    ensures { λ r. ⌜ r ≡ threatensLimit row (now (words .entry)) count segment b j c i ⌝ }
+    ensures { λ r. ⌜ r ≡ threatensLimit (conflictsBy row own (now (names .entry)) ports) (now (words .entry)) count segment b j c i ⌝ }
 {
     if !is_sooner_limit(b, j, c, i) {
         return false;
@@ -291,7 +312,7 @@ fn threatens(
     let k = at_most(64, count);
     let mut s = 0;
     while s < k {
-        if row[s] {
+        if conflicts_at(row, own, names, ports, s) {
             if is_sooner_limit(sum_of(b, way(words, count, q, s)), j, c, i) {
                 return true;
             }
@@ -301,9 +322,13 @@ fn threatens(
     false
 }
 
-// Document 01: "another live thread could run, at a smaller stamp by earliest plus distance, a segment that conflicts". The row has the marks of thread i's segment.
+// Document 01: "another live thread could run, at a smaller stamp by earliest plus distance, a segment that conflicts". The row has the
+// marks of thread i's segment, its own footprint is that of thread i in it.
 fn any_threatens(
     row: [bool; 64],
+    own: Footprint,
+    names: &[u64],
+    starts: [Start; 32],
     words: &[u64],
     n: u8,
     t: u8,
@@ -312,7 +337,7 @@ fn any_threatens(
     i: usize,
     c: u64,
 ) -> bool
-    ensures { λ r. ⌜ r ≡ anyBelow (atMost 32 t) (threatAt row (now (words .entry)) n (crew .segments) (xs .at) i c) ⌝ }
+    ensures { λ r. ⌜ r ≡ anyBelow (atMost 32 t) (threatAt row own (now (names .entry)) starts (now (words .entry)) n (crew .segments) (xs .at) i c) ⌝ }
 {
     let k = at_most(32, t);
     let mut j = 0;
@@ -320,7 +345,8 @@ fn any_threatens(
         if j != i {
             let segment = crew.segments[j];
             let b = xs.at[j];
-            if threatens(row, words, n, segment, b, j, c, i) {
+            let ports = early_ports::ports_of(starts, j);
+            if threatens(row, own, names, ports, words, n, segment, b, j, c, i) {
                 return true;
             }
         }
@@ -339,9 +365,11 @@ fn segment_of(crew: Crew, k: usize) -> usize
     0
 }
 
-// Term: hazard; the marks are handed on by value.
+// Term: hazard; the marks are handed on by value. Document 02: it "goes by them or by a conflict through a port".
 pub fn hazard(
     marks: [[bool; 64]; 64],
+    names: &[u64],
+    starts: [Start; 32],
     words: &[u64],
     n: u8,
     t: u8,
@@ -349,7 +377,7 @@ pub fn hazard(
     xs: Limits,
     at: Stamp,
 ) -> bool
-    ensures { λ r. ⌜ r ≡ hazardAt marks (now (words .entry)) n t (crew .segments) (xs .at) at ⌝ }
+    ensures { λ r. ⌜ r ≡ hazardAt (conflictsOn marks (now (names .entry)) starts) (now (words .entry)) n t (crew .segments) (xs .at) at ⌝ }
 {
     let i = buffers::wide(at.thread.0);
     let r = segment_of(crew, i);
@@ -357,6 +385,20 @@ pub fn hazard(
         return false;
     }
     let row = marks[r];
+    let ports = early_ports::ports_of(starts, i);
+    let own = early_ports::footprint_of(names, ports, r);
     let cycle = at.cycle;
-    any_threatens(row, words, n, t, crew, xs, i, limit_of(cycle))
+    any_threatens(
+        row,
+        own,
+        names,
+        starts,
+        words,
+        n,
+        t,
+        crew,
+        xs,
+        i,
+        limit_of(cycle),
+    )
 }

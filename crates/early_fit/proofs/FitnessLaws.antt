@@ -2,7 +2,7 @@
 use Prim.Native.Nat.{ℕ, _<_, _≤_, _*_, _/_}
 use mathlib.Core.Path.{_≡_, refl, ap, sym, _∙_}
 use mathlib.Core.Logic.{inl, inr}
-use mathlib.Core.Bool.{Bool, true, false, not, _&&_, _||_, and-true, or-true}
+use mathlib.Core.Bool.{Bool, true, false, not, _&&_, _||_, and-true, and-false, or-true}
 use mathlib.Core.List.{List}
 use native.Mathlib.Nat.{mul-le-mul, le-of-lt}
 use native.Mathlib.Omega.{arith}
@@ -19,6 +19,7 @@ use Rattle.model.specs.declared.State.the-variants.{Waiting}
 use Rattle.model.specs.declared.Thread.{Thread}
 use Rattle.model.specs.Limits.{cutTime, recordTime}
 use Rattle.model.specs.Record.{noThread, threadAt, cycleOf, nothing, awaitedBy}
+use Rattle.model.specs.Reach.{lacksFrom}
 use Rattle.model.specs.Rules.{modelFault}
 use Rattle.plain_laws.proofs.RecordLaws.{threadAt-at}
 use Rattle.tables.specs.Word.{allOnes}
@@ -54,9 +55,15 @@ module _ (m : Model) (s : State) (c : Cycle) where
   isFitState-late q h = rw (q, h) refl
 
 module _ (m : Model) (k : ℕ) (t : Thread) where
-  pub isFitThread-below : (r : Bool) → t .segment < m .n → r ≡ isFitState m (t .state) → r ≡ isFitThread m k t
+  pub isFitThread-below : (r : Bool) → t .segment < m .n → lacksFrom m k (t .segment) ≡ false → r ≡ isFitState m (t .state) → r ≡ isFitThread m k t
   unfolding isFitThread
-  isFitThread-below r h e = rw (lt-ltb (t .segment) (m .n) h) e
+  isFitThread-below r h none e =
+      rw (lt-ltb (t .segment) (m .n) h, none) (e ∙ ap (λ (b : Bool). isFitCycle recordTime (cycleOf (t .state)) && b) (sym (and-true (isFitWait m (awaitedBy (t .state))))))
+
+  pub isFitThread-lacks : lacksFrom m k (t .segment) ≡ true → false ≡ isFitThread m k t
+  unfolding isFitThread
+  isFitThread-lacks some =
+      rw (some, and-false (isFitWait m (awaitedBy (t .state))), and-false (isFitCycle recordTime (cycleOf (t .state)))) (sym (and-false (ltb (t .segment) (m .n))))
 
   pub isFitThread-above : m .n ≤ t .segment → false ≡ isFitThread m k t
   unfolding isFitThread

@@ -11,11 +11,14 @@ use model::Thread;
 use model::Threads;
 ghost use mathlib.Core.Path.{_≡_};
 ghost use mathlib.Core.Bool.{_&&_, _||_};
-ghost use Prim.Native.Nat.{ℕ, _*_, _≤_};
+ghost use Prim.Native.Nat.{ℕ, _*_, _≤_, _<_};
 ghost use lib.ListN.{length};
+ghost use Rattle.masks.specs.Mask.{bitAt};
 ghost use Rattle.model.specs.declared.Model.{Model};
 ghost use Rattle.model.specs.Limits.{recordTime};
 ghost use Rattle.model.specs.Record.{cycleOf, awaitedBy};
+ghost use Rattle.model.specs.Reach.{lacksFrom};
+ghost use Rattle.model_reach.specs.Lacks.{HoldsLacks};
 ghost use Rattle.early.specs.Fit.{isFitCycle, isFitWait, isFitThread, isFitPair, isUnfitThreads, isUnfitLog, isUnfitWords, isUnfit};
 
 // Document 01: "all ones apart".
@@ -48,15 +51,18 @@ fn is_fit_state(state: State, e: u8) -> bool
     }
 }
 
-// No "segment not below N".
-fn is_fit_thread(x: Thread, n: u8, e: u8) -> bool
-    ensures { λ r. ⌜ ((m : Model) (k : ℕ) → m .n ≡ n → m .e ≡ e → r ≡ isFitThread m k x) ⌝ }
+// No "segment not below N", and none from which its thread could reach a port it leaves unused: those are the bits of a word.
+fn is_fit_thread(x: Thread, n: u8, e: u8, lacking: u64) -> bool
+    ensures { λ r. ⌜ ((m : Model) (k : ℕ) → m .n ≡ n → m .e ≡ e → ((s : ℕ) → s < m .n → bitAt lacking s ≡ lacksFrom m k s) → r ≡ isFitThread m k x) ⌝ }
 {
     let state = x.state;
-    if x.segment < n {
-        return is_fit_state(state, e);
+    if n <= x.segment {
+        return false;
     }
-    false
+    if masks::has(lacking, buffers::wide(x.segment)) {
+        return false;
+    }
+    is_fit_state(state, e)
 }
 
 // No "event not below E" in the log.
@@ -70,17 +76,18 @@ fn is_fit_pair(x: Notification, e: u8) -> bool
     false
 }
 
-// The records of the first t threads.
-fn is_unfit_threads(threads: Threads, t: u8, n: u8, e: u8) -> bool
-    requires { ⌜ t ≤ 32 ⌝ }
-    ensures { λ r. ⌜ ((m : Model) → m .t ≡ t → m .n ≡ n → m .e ≡ e → r ≡ isUnfitThreads m (threads .at)) ⌝ }
+// The records of the first t threads; word k has the segments from which thread k could reach a port it leaves unused.
+fn is_unfit_threads(threads: Threads, t: u8, n: u8, e: u8, lacking: [u64; 32]) -> bool
+    requires { ⌜ (t ≤ 32) × (n ≤ 64) ⌝ }
+    ensures { λ r. ⌜ ((m : Model) → m .t ≡ t → m .n ≡ n → m .e ≡ e → HoldsLacks m lacking → r ≡ isUnfitThreads m (threads .at)) ⌝ }
 {
     let count = buffers::wide(t);
     let mut k = 0;
     while k < count {
         let x = threads.at[k];
+        let w = lacking[k];
         k += 1;
-        if !is_fit_thread(x, n, e) {
+        if !is_fit_thread(x, n, e, w) {
             return true;
         }
     }
@@ -125,11 +132,11 @@ fn is_unfit_words(words: &[u64], count: usize) -> bool
 }
 
 // The records and the log, under a model of t threads, n segments and e events.
-fn is_unfit_state(site: Site, threads: Threads, t: u8, n: u8, e: u8) -> bool
-    requires { ⌜ t ≤ 32 ⌝ }
-    ensures { λ r. ⌜ ((m : Model) → m .t ≡ t → m .n ≡ n → m .e ≡ e → r ≡ (isUnfitThreads m (threads .at) || isUnfitLog m site)) ⌝ }
+fn is_unfit_state(site: Site, threads: Threads, t: u8, n: u8, e: u8, lacking: [u64; 32]) -> bool
+    requires { ⌜ (t ≤ 32) × (n ≤ 64) ⌝ }
+    ensures { λ r. ⌜ ((m : Model) → m .t ≡ t → m .n ≡ n → m .e ≡ e → HoldsLacks m lacking → r ≡ (isUnfitThreads m (threads .at) || isUnfitLog m site)) ⌝ }
 {
-    if is_unfit_threads(threads, t, n, e) {
+    if is_unfit_threads(threads, t, n, e, lacking) {
         return true;
     }
     is_unfit_log(site, e)
@@ -151,10 +158,15 @@ fn is_unfit_table(words: &[u64], n: u8) -> bool
 pub fn is_unfit(m: Model, words: &[u64], site: Site, threads: Threads) -> bool
     ensures { λ r. ⌜ r ≡ isUnfit m (now (words .entry)) site (threads .at) ⌝ }
 {
-    if model_rules::model_fault(m) != 0 {
+    if model_rules::parts_fault(m) != 0 {
         return true;
     }
-    if is_unfit_state(site, threads, m.t, m.n, m.e) {
+    let lacking = model_reach::lacks(m);
+    let starts = m.starts;
+    if model_rules::lack_in(starts, m.t, lacking) != 0 {
+        return true;
+    }
+    if is_unfit_state(site, threads, m.t, m.n, m.e, lacking) {
         return true;
     }
     is_unfit_table(words, m.n)

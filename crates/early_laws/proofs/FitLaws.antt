@@ -22,6 +22,7 @@ use Rattle.model.specs.Refusal.{accepted}
 use Rattle.model.specs.Limits.{cutTime, recordTime}
 use Rattle.model.specs.Record as view
 use Rattle.model.specs.Record.{threadAt, cycleOf, awaitedBy, viewOf, View, awaitedOf}
+use Rattle.model.specs.Reach.{lacksFrom}
 use Rattle.model.specs.Rules.{modelFault}
 use Rattle.tables.specs.Word.{allOnes}
 use Rattle.early.specs.declared.Notification.{Notification}
@@ -50,34 +51,43 @@ unfolding isFitCycle
     (lt→ltb (c .time .0) limit (f .time))
     (le→leb (c .delta .0) lastDelta (f .delta))
 
-pub record FitThread (m : Model) (t : Thread) : Type 0 where
+pub record FitThread (m : Model) (k : ℕ) (t : Thread) : Type 0 where
   pub segment : t .segment < m .n
   pub cycle : FitCycle recordTime (cycleOf (t .state))
   pub event : (e : ℕ) (since : Cycle) → viewOf (t .state) ≡ view.waits e since → e < m .e
+  pub lacks : lacksFrom m k (t .segment) ≡ false
 
-pub isFitThread→ : (m : Model) (k : ℕ) (t : Thread) → T (isFitThread m k t) → FitThread m t
+pub isFitThread→ : (m : Model) (k : ℕ) (t : Thread) → T (isFitThread m k t) → FitThread m k t
 unfolding isFitThread isFitWait
 isFitThread→ m k t u =
-    let (p, q) = and→both (ltb (t .segment) (m .n)) (isFitCycle recordTime (cycleOf (t .state)) && isFitWait m (awaitedBy (t .state))) u in
-    let (r, s) = and→both (isFitCycle recordTime (cycleOf (t .state))) (isFitWait m (awaitedBy (t .state))) q in
+    let lacked = lacksFrom m k (t .segment) in
+    let waits = isFitWait m (awaitedBy (t .state)) in
+    let timely = isFitCycle recordTime (cycleOf (t .state)) in
+    let (p, q) = and→both (ltb (t .segment) (m .n)) (timely && (waits && not lacked)) u in
+    let (r, x) = and→both timely (waits && not lacked) q in
+    let (s, n) = and→both waits (not lacked) x in
     record {
       segment = ltb→lt (t .segment) (m .n) p;
       cycle = isFitCycle→ recordTime (cycleOf (t .state)) r;
       event = λ e since w. ltb→lt e (m .e) (subst (λ (v : View). T (isFitWait m (awaitedOf v))) w s);
+      lacks = T→false lacked n;
     }
 
-pub →isFitThread : (m : Model) (k : ℕ) (t : Thread) → FitThread m t → T (isFitThread m k t)
+pub →isFitThread : (m : Model) (k : ℕ) (t : Thread) → FitThread m k t → T (isFitThread m k t)
 unfolding isFitThread isFitWait
 →isFitThread m k t f =
+    let lacked = lacksFrom m k (t .segment) in
+    let waits = isFitWait m (awaitedBy (t .state)) in
+    let timely = isFitCycle recordTime (cycleOf (t .state)) in
     both→and
     (ltb (t .segment) (m .n))
-    (isFitCycle recordTime (cycleOf (t .state)) && isFitWait m (awaitedBy (t .state)))
+    (timely && (waits && not lacked))
     (lt→ltb (t .segment) (m .n) (f .segment))
     (both→and
-    (isFitCycle recordTime (cycleOf (t .state)))
-    (isFitWait m (awaitedBy (t .state)))
+    timely
+    (waits && not lacked)
     (→isFitCycle recordTime (cycleOf (t .state)) (f .cycle))
-    (wait (viewOf (t .state)) (f .event)))
+    (both→and waits (not lacked) (wait (viewOf (t .state)) (f .event)) (false→T lacked (f .lacks))))
   where
     wait : (v : View) → ((e : ℕ) (since : Cycle) → v ≡ view.waits e since → e < m .e) → T (isFitWait m (awaitedOf v))
     wait view.idle h = tt

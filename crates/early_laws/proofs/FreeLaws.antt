@@ -29,7 +29,7 @@ use Rattle.early.specs.declared.Site.{Site}
 use Rattle.early.specs.declared.Notification.{Notification}
 use Rattle.early.specs.Log.{places, pairOf, logOf, holds, withPair, withPairs, dropBefore, isDropped}
 use Rattle.early.specs.Earliest.{earliestOf}
-use Rattle.early.specs.Hazard.{threadsConflict, isSooner, threatens, hazard}
+use Rattle.early.specs.Hazard.{portsConflict, threadsConflict, isSooner, threatens, hazard}
 use Rattle.early.specs.Fit.{isFitPair, isUnfitThreads, isUnfitLog, isUnfitWords, isUnfit, isUnfitState}
 use Rattle.early.specs.Grant.{effectAt, logAfter, threadsAfter, siteAfter}
 use Rattle.early.specs.Answer.{numberOf}
@@ -44,9 +44,9 @@ module _ (m : Model) (ws : List ℕ) (ts : List Thread) (k : ℕ) (marks others 
   threatens-row c j b =
       anyBelow-same
       (m .n)
-      (λ s. markAt marks (threadAt ts k .segment) s && isSooner (b ⊕ distanceIn m ws (threadAt ts j .segment) s) j (stampAt c k))
-      (λ s. markAt others (threadAt ts k .segment) s && isSooner (b ⊕ distanceIn m ws (threadAt ts j .segment) s) j (stampAt c k))
-      (λ s h. ap (λ (x : Bool). x && isSooner (b ⊕ distanceIn m ws (threadAt ts j .segment) s) j (stampAt c k)) (row s h))
+      (λ s. threadsConflict m marks k (threadAt ts k .segment) j s && isSooner (b ⊕ distanceIn m ws (threadAt ts j .segment) s) j (stampAt c k))
+      (λ s. threadsConflict m others k (threadAt ts k .segment) j s && isSooner (b ⊕ distanceIn m ws (threadAt ts j .segment) s) j (stampAt c k))
+      (λ s h. ap (λ (x : Bool). (x || portsConflict m k (threadAt ts k .segment) j s) && isSooner (b ⊕ distanceIn m ws (threadAt ts j .segment) s) j (stampAt c k)) (row s h))
 
   pub hazard-row : (l : List Notification) (c : Cycle) → hazard m marks ws l ts k c ≡ hazard m others ws l ts k c
   unfolding hazard

@@ -1,5 +1,5 @@
 -- The hazard test read as a fact: without a hazard no other live thread comes, at a smaller stamp by earliest plus distance, to a segment
--- that is marked as in conflict; with one, some thread does.
+-- that is in conflict, by a mark or through a port; with one, some thread does.
 use Prim.Native.Nat.{ℕ, _<_}
 use mathlib.Core.Path.{_≡_, refl, sym, _∙_, subst}
 use mathlib.Core.Logic.{inl, inr}

@@ -19,4 +19,5 @@ pub mod RequestLaws
 pub mod FreeLaws
 pub mod AgreeLaws
 pub mod AlikeLaws
+pub mod EntryLaws
 pub mod PastLaws

@@ -3,53 +3,52 @@
 --     requestOf-variables, requestOf-untouched     variables past V
 --     requestOf-entries     entries past the counts
 use Prim.Native.Nat.{ℕ, zero, suc, _<_, _≤_}
-use mathlib.Core.Path.{_≡_, refl, ap, sym, fun-ext, _∙_}
+use mathlib.Core.Path.{_≡_, refl, ap, fun-ext, _∙_}
 use mathlib.Core.Bool.{Bool, true, false, cond, not, _&&_, _||_}
 use mathlib.Core.List.{List}
 use native.Mathlib.Omega.{arith}
 use native.Mathlib.Decide.{decLt, ℕ-discrete}
-use lib.Dec.{not-T, ltb, leb}
-use lib.ListN.{length, getD, take}
-use lib.Seq.{getD-take}
+use lib.Dec.{not-T, ltb, eqb}
+use lib.ListN.{length, getD}
 use borrow.Author.Tests.{le-ltb, eq-eqb, ne-eqb}
-use Rattle.base.specs.Index.{orElse}
 use Rattle.base.proofs.BoolLaws.{T→false}
-use Rattle.base.proofs.IndexLaws.{anyBelow-same, firstBelow-same, tabulate-same}
+use Rattle.base.proofs.IndexLaws.{anyBelow-same, tabulate-same}
 use Rattle.clock.specs.declared.Cycle.{Cycle}
 use Rattle.clock.specs.declared.Bound.{Bound}
 use Rattle.clock.specs.declared.Bound.the-variants.{Never}
+use Rattle.clock.specs.Cycle.{stampAt}
 use Rattle.clock.specs.Advance.{least, leastBelow, _⊕_, oneDelta, isBoundBefore}
 use Rattle.clock.proofs.LeastLaws.{leastBelow-same}
-use Rattle.model.specs.declared.Statement.{Statement}
 use Rattle.model.specs.declared.Segment.{Segment}
 use Rattle.model.specs.declared.Start.{Start}
 use Rattle.model.specs.declared.Model.{Model}
 use Rattle.model.specs.declared.Thread.{Thread}
 use Rattle.model.specs.declared.Variables.{Variables}
-use Rattle.model.specs.Refusal.{accepted, wrongThread, wrongLength, wrongCount, unfit}
-use Rattle.model.specs.Values.{noStatement, segmentAt, startAt, segmentFor, bodyOf}
+use Rattle.model.specs.Refusal.{accepted, wrongThread, unfit}
+use Rattle.model.specs.Values.{segmentAt, startAt}
+use Rattle.model.specs.Limits.{recordTime}
 use Rattle.model.specs.Record.{threadAt, isLive, cycleOf, Awaited, nothing, awaits, awaitedBy}
-use Rattle.model.specs.Statement.{notifiedBy}
-use Rattle.model.specs.Effect.{effectIn, effectOf}
 use Rattle.model.specs.Footprint.{has, writesIn, listedIn, notifiesIn}
-use Rattle.model.specs.Rules.{unless, closerFault, opFault, statementsFault, segmentFault, segmentsFault, countsFault, leavesModel, anySegmentLeaves, anyStartLeaves, targetsFault, modelFault}
-use Rattle.model_effect.proofs.FrameLaws.{Agree, Alike, effectOf-within, effectOf-frame}
+use Rattle.model.specs.Reach.{lacksFrom}
+use Rattle.model.specs.Rules.{modelFault}
+use Rattle.model_effect.proofs.FrameLaws.{Agree, effectOf-within, effectOf-frame}
+use Rattle.model_reach.proofs.ReachLaws.{lacksFrom-self}
 use Rattle.model_rules.proofs.RuleLaws.{modelFault-uses, modelFault-writes}
 use Rattle.tables.specs.Word.{distanceIn}
-use Rattle.plain.specs.History.{Item}
 use Rattle.early.specs.declared.Site.{Site}
 use Rattle.early.specs.declared.Notification.{Notification}
 use Rattle.early.specs.Log.{logOf, siteOf}
 use Rattle.early.specs.Earliest.{sources, soonestNotify, afterNotify, linkTo, relaxed, withLinks, earliestOf}
 use Rattle.early.specs.Forecast.{forecastOf}
-use Rattle.early.specs.Hazard.{threadsConflict, threatens, hazard}
+use Rattle.early.specs.Hazard.{threadsConflict, isSooner, threatens, hazard}
 use Rattle.early.specs.Deliver.{forecastSooner}
-use Rattle.early.specs.Fit.{isFitWait, isFitThread, isFitPair, isUnfitThreads, isUnfitLog, isUnfitWords, isUnfit, isUnfitState}
+use Rattle.early.specs.Fit.{isFitCycle, isFitWait, isFitThread, isFitPair, isUnfitThreads, isUnfitLog, isUnfitWords, isUnfit, isUnfitState}
 use Rattle.early.specs.Grant.{logBy, effectAt, logAfter, closedThreads, itemsAfter}
 use Rattle.early.specs.Request.{numberFor, numberIn, Requested, refusedWith, grantedTo, answeredBy, requestFit, requestOf}
-use Rattle.early_laws.proofs.FitLaws.{isFitThread→, isUnfitThreads→, isUnfit→}
+use Rattle.early_laws.proofs.FitLaws.{FitThread, isFitThread→, isUnfitThreads→, isUnfit→}
 use Rattle.early_laws.proofs.NumberLaws.{numberFor→passed}
 use Rattle.early_laws.proofs.RequestLaws as asked
+use Rattle.early_laws.proofs.EntryLaws.{withEntries, SameSegment, modelFault-same, listedIn-same, effectOf-same, lacksFrom-same, threadsConflict-same}
 
 -- VARIABLES PAST V
 
@@ -71,12 +70,13 @@ module _ (m : Model) (marks : List (List Bool)) (ws : List ℕ) (ts : List Threa
     refused-alike : (n : ℕ) → AlikeBelow m (refusedWith n site ts) (refusedWith n (withVariables site v) ts)
     refused-alike n = record { answer = refl; threads = refl; items = λ j. refl; variables = same; log = refl; count = refl }
 
-    granted-alike : (c : Cycle) → modelFault m ≡ accepted → threadAt ts k .segment < m .n
+    granted-alike : (c : Cycle) → modelFault m ≡ accepted → k < m .t → FitThread m k (threadAt ts k)
         → AlikeBelow m (grantedTo m ws site ts k c) (grantedTo m ws (withVariables site v) ts k c)
     unfolding grantedTo itemsAfter logAfter closedThreads effectAt logOf siteOf
-    granted-alike c fit h =
+    granted-alike c fit l f =
         let s = threadAt ts k .segment in
-        let x = effectOf-within m k s c (λ i. i < m .v) (modelFault-uses m fit k s h) (site .variables .at) (v .at) same in
+        let none = lacksFrom-self m k s (f .segment) (f .lacks) in
+        let x = effectOf-within m k s c (λ i. i < m .v) (modelFault-uses m fit k s (f .segment) l none) (site .variables .at) (v .at) same in
         record {
           answer = refl;
           threads = rw (x .same-notified, x .same-thread) refl;
@@ -102,7 +102,7 @@ module _ (m : Model) (marks : List (List Bool)) (ws : List ℕ) (ts : List Threa
         decided e (yes d) =
             let fit = isUnfit→ m ws site ts e in
             let (_, p) = numberFor→passed _ _ _ _ _ _ ts k d in
-            rw (eq-eqb n accepted d) (granted-alike c (fit .model) (isFitThread→ m k (threadAt ts k) (isUnfitThreads→ m ts (fit .threads) .1 k (p .thread)) .segment))
+            rw (eq-eqb n accepted d) (granted-alike c (fit .model) (p .thread) (isFitThread→ m k (threadAt ts k) (isUnfitThreads→ m ts (fit .threads) .1 k (p .thread))))
 
         whole : (b : Bool) → isUnfit m ws site ts ≡ b
             → AlikeBelow m (cond b (refusedWith unfit site ts) (requestFit m marks ws site ts k)) (cond b (refusedWith unfit (withVariables site v) ts) (requestFit m marks ws (withVariables site v) ts k))
@@ -119,8 +119,10 @@ module _ (m : Model) (marks : List (List Bool)) (ws : List ℕ) (ts : List Threa
       go (asked.granted c g) =
           let fit = isUnfit→ m ws site ts (g .fit) in
           let s = threadAt ts k .segment in
-          let l = isFitThread→ m k (threadAt ts k) (isUnfitThreads→ m ts (fit .threads) .1 k (g .thread)) .segment in
-          effectOf-frame m k s c (site .variables .at) i (T→false (writesIn m k s i) (not-T (writesIn m k s i) (λ t. absurd (omega (arith, modelFault-writes m (fit .model) k s l i t)))))
+          let f = isFitThread→ m k (threadAt ts k) (isUnfitThreads→ m ts (fit .threads) .1 k (g .thread)) in
+          let none = lacksFrom-self m k s (f .segment) (f .lacks) in
+          effectOf-frame m k s c (site .variables .at) i
+          (T→false (writesIn m k s i) (not-T (writesIn m k s i) (λ t. absurd (omega (arith, modelFault-writes m (fit .model) k s (f .segment) (g .thread) none i t)))))
 
 -- ENTRIES PAST THE COUNTS
 
@@ -129,55 +131,11 @@ numberIn-past : (m : Model) (marks : List (List Bool)) (ws : List ℕ) (site : S
 unfolding numberIn numberFor
 numberIn-past m marks ws site ts k other = rw (le-ltb k (m .t) (omega arith)) refl
 
--- the same counts, other entries
-abbrev pub withEntries : Model → List Segment → List Start → Model
-withEntries m gs ss = record { horizon = m .horizon; v = m .v; e = m .e; n = m .n; t = m .t; segments = gs; starts = ss }
-
--- two segments that close alike, with the same statements at the front
-pub record SameSegment (g h : Segment) : Type 0 where
-  pub closer : g .closer ≡ h .closer
-  pub size : g .n ≡ h .n
-  pub body : bodyOf g ≡ bodyOf h
-
 module _ (m : Model) (gs : List Segment) (ss : List Start)
     (segments : (s : ℕ) → s < m .n → SameSegment (segmentAt (withEntries m gs ss) s) (segmentAt m s))
     (starts : (k : ℕ) → k < m .t → startAt (withEntries m gs ss) k ≡ startAt m k) where
   o : Model
   o = withEntries m gs ss
-
-  segmentFault-same : (v e : ℕ) (g h : Segment) → SameSegment g h → segmentFault v e g ≡ segmentFault v e h
-  unfolding segmentFault statementsFault bodyOf
-  segmentFault-same v e g h same =
-      rw (same .closer, same .size)
-      (ap
-      (λ (x : ℕ). orElse (unless (leb (h .n) 32) wrongLength) (orElse (closerFault v e (h .closer)) x))
-      (firstBelow-same (h .n) (λ j. opFault v e (getD (g .statements) j noStatement .op)) (λ j. opFault v e (getD (h .statements) j noStatement .op)) (λ j l. ap (λ (x : Statement). opFault v e (x .op)) (at j l))))
-    where
-      at : (j : ℕ) → j < h .n → getD (g .statements) j noStatement ≡ getD (h .statements) j noStatement
-      at j l =
-          sym (getD-take (g .n) (g .statements) j noStatement (omega (arith, same .size))) ∙
-          ap (λ (xs : List Statement). getD xs j noStatement) (same .body) ∙
-          getD-take (h .n) (h .statements) j noStatement l
-
-  modelFault-same : modelFault o ≡ modelFault m
-  unfolding o modelFault segmentsFault countsFault targetsFault anySegmentLeaves anyStartLeaves
-  modelFault-same =
-      rw (
-        firstBelow-same (m .n) (λ i. orElse (unless (ltb i 64) wrongCount) (segmentFault (m .v) (m .e) (segmentAt (withEntries m gs ss) i))) (λ i. orElse (unless (ltb i 64) wrongCount) (segmentFault (m .v) (m .e) (segmentAt m i)))
-            (λ i l. ap (orElse (unless (ltb i 64) wrongCount)) (segmentFault-same (m .v) (m .e) (segmentAt (withEntries m gs ss) i) (segmentAt m i) (segments i l))),
-        anyBelow-same (m .n) (λ i. leavesModel (m .n) (segmentAt (withEntries m gs ss) i .closer)) (λ i. leavesModel (m .n) (segmentAt m i .closer)) (λ i l. ap (leavesModel (m .n)) (segments i l .closer)),
-        anyBelow-same (m .t) (λ k. not (ltb (startAt (withEntries m gs ss) k .first) (m .n))) (λ k. not (ltb (startAt m k .first) (m .n))) (λ k l. ap (λ (x : Start). not (ltb (x .first) (m .n))) (starts k l)),
-      )
-      refl
-
-  -- what a thread does and lists in a segment below N
-  listedIn-same : (k s : ℕ) → s < m .n → listedIn o k s ≡ listedIn m k s
-  unfolding o listedIn segmentFor
-  listedIn-same k s l = ap notifiedBy (segments s l .body)
-
-  effectOf-same : (k s : ℕ) (c : Cycle) (v : List ℕ) → s < m .n → effectOf o k s c v ≡ effectOf m k s c v
-  unfolding o effectOf effectIn segmentFor
-  effectOf-same k s c v l = rw (segments s l .body, segments s l .closer) refl
 
   module _ (ws : List ℕ) where
     soonestNotify-same : (ts : List Thread) (k : ℕ) (x : Bound) (e : ℕ) → soonestNotify o ws ts k x e ≡ soonestNotify m ws ts k x e
@@ -189,7 +147,7 @@ module _ (m : Model) (gs : List Segment) (ss : List Start)
         (m .n)
         (λ s. cond (has (listedIn (withEntries m gs ss) k s) e) (x ⊕ distanceIn m ws (threadAt ts k .segment) s) Never)
         (λ s. cond (has (listedIn m k s) e) (x ⊕ distanceIn m ws (threadAt ts k .segment) s) Never)
-        (λ s l. ap (λ (es : List ℕ). cond (has es e) (x ⊕ distanceIn m ws (threadAt ts k .segment) s) Never) (listedIn-same k s l)))
+        (λ s l. ap (λ (es : List ℕ). cond (has es e) (x ⊕ distanceIn m ws (threadAt ts k .segment) s) Never) (listedIn-same m gs ss segments starts k s l)))
 
     linkTo-same : (ts : List Thread) (j k : ℕ) (x : Bound) → linkTo o ws ts j k x ≡ linkTo m ws ts j k x
     unfolding linkTo afterNotify
@@ -227,23 +185,40 @@ module _ (m : Model) (gs : List Segment) (ss : List Start)
       sooner-same =
           fun-ext (λ ts. fun-ext (λ e. fun-ext (λ x. ap (λ (b : Bound). isBoundBefore b x) (leastBelow-same (m .t) (λ k. soonestNotify (withEntries m gs ss) ws ts k (getD (earliestOf (withEntries m gs ss) ws l ts) k Never) e) (λ k. soonestNotify m ws ts k (getD (earliestOf m ws l ts) k Never) e) (λ k h. soonestNotify-same ts k _ e ∙ ap (λ (xs : List Bound). soonestNotify m ws ts k (getD xs k Never) e) (earliestOf-same ts))))))
 
-      hazard-same : (marks : List (List Bool)) (ts : List Thread) (i : ℕ) → hazard o marks ws l ts i ≡ hazard m marks ws l ts i
-      unfolding o hazard threatens distanceIn threadsConflict
-      hazard-same marks ts i = fun-ext (λ c. rw (earliestOf-same ts) refl)
+      hazard-same : (marks : List (List Bool)) (ts : List Thread) (i : ℕ) → i < m .t → threadAt ts i .segment < m .n → hazard o marks ws l ts i ≡ hazard m marks ws l ts i
+      unfolding o hazard threatens distanceIn
+      hazard-same marks ts i it rn =
+          fun-ext (λ c.
+          rw (earliestOf-same ts)
+          (anyBelow-same
+          (m .t)
+          (λ j. (not (eqb j i) && isLive (threadAt ts j .state)) && threatens (withEntries m gs ss) marks ws ts i c j (getD (earliestOf m ws l ts) j Never))
+          (λ j. (not (eqb j i) && isLive (threadAt ts j .state)) && threatens m marks ws ts i c j (getD (earliestOf m ws l ts) j Never))
+          (λ j jt. ap (λ (b : Bool). (not (eqb j i) && isLive (threadAt ts j .state)) && b) (threat c j (getD (earliestOf m ws l ts) j Never) jt))))
+        where
+          threat : (c : Cycle) (j : ℕ) (b : Bound) → j < m .t → threatens (withEntries m gs ss) marks ws ts i c j b ≡ threatens m marks ws ts i c j b
+          threat c j b jt =
+              anyBelow-same
+              (m .n)
+              (λ s. threadsConflict (withEntries m gs ss) marks i (threadAt ts i .segment) j s && isSooner (b ⊕ distanceIn m ws (threadAt ts j .segment) s) j (stampAt c i))
+              (λ s. threadsConflict m marks i (threadAt ts i .segment) j s && isSooner (b ⊕ distanceIn m ws (threadAt ts j .segment) s) j (stampAt c i))
+              (λ s sn.
+              ap (λ (x : Bool). x && isSooner (b ⊕ distanceIn m ws (threadAt ts j .segment) s) j (stampAt c i))
+              (threadsConflict-same m gs ss segments starts marks i (threadAt ts i .segment) j s it rn jt sn))
 
   module _ (marks : List (List Bool)) (ws : List ℕ) (site : Site) (ts : List Thread) (k : ℕ) where
-    items-same : (c : Cycle) → threadAt ts k .segment < m .n → itemsAfter o ws site ts k c ≡ itemsAfter m ws site ts k c
+    items-same : (c : Cycle) → k < m .t → threadAt ts k .segment < m .n → itemsAfter o ws site ts k c ≡ itemsAfter m ws site ts k c
     unfolding o itemsAfter logAfter closedThreads effectAt
-    items-same c h = fun-ext (λ j. rw (effectOf-same k (threadAt ts k .segment) c (site .variables .at) h, sooner-same ws (logBy site c (effectAt m site ts k c))) refl)
+    items-same c l h = fun-ext (λ j. rw (effectOf-same m gs ss segments starts k (threadAt ts k .segment) c (site .variables .at) l h, sooner-same ws (logBy site c (effectAt m site ts k c))) refl)
 
-    granted-same : (c : Cycle) → threadAt ts k .segment < m .n → grantedTo o ws site ts k c ≡ grantedTo m ws site ts k c
+    granted-same : (c : Cycle) → k < m .t → threadAt ts k .segment < m .n → grantedTo o ws site ts k c ≡ grantedTo m ws site ts k c
     unfolding o grantedTo effectAt
-    granted-same c h =
-        rw (effectOf-same k (threadAt ts k .segment) c (site .variables .at) h, sooner-same ws (logBy site c (effectAt m site ts k c)), items-same c h) refl
+    granted-same c l h =
+        rw (effectOf-same m gs ss segments starts k (threadAt ts k .segment) c (site .variables .at) l h, sooner-same ws (logBy site c (effectAt m site ts k c)), items-same c l h) refl
 
-    number-same : threadAt ts k .segment < m .n → numberIn o marks ws site ts k ≡ numberIn m marks ws site ts k
+    number-same : k < m .t → threadAt ts k .segment < m .n → numberIn o marks ws site ts k ≡ numberIn m marks ws site ts k
     unfolding o numberIn
-    number-same h = rw (hazard-same ws (logOf site) marks ts k, listedIn-same k (threadAt ts k .segment) h) refl
+    number-same l h = rw (hazard-same ws (logOf site) marks ts k l h, listedIn-same m gs ss segments starts k (threadAt ts k .segment) h) refl
 
     isFitWait-same : (a : Awaited) → isFitWait o a ≡ isFitWait m a
     unfolding o isFitWait
@@ -259,11 +234,18 @@ module _ (m : Model) (gs : List Segment) (ss : List Start)
         (m .t)
         (λ j. not (isFitThread (withEntries m gs ss) j (threadAt ts j)))
         (λ j. not (isFitThread m j (threadAt ts j)))
-        (λ j h. rw (isFitWait-same (awaitedBy (threadAt ts j .state))) refl))
+        (λ j h. rw (isFitWait-same (awaitedBy (threadAt ts j .state))) (ap not (go j h (decLt (threadAt ts j .segment) (m .n))))))
+      where
+        -- a segment not below N is refused before what it lacks is asked
+        go : (j : ℕ) → j < m .t → Dec (threadAt ts j .segment < m .n)
+            → (ltb (threadAt ts j .segment) (m .n) && (isFitCycle recordTime (cycleOf (threadAt ts j .state)) && (isFitWait m (awaitedBy (threadAt ts j .state)) && not (lacksFrom (withEntries m gs ss) j (threadAt ts j .segment)))))
+            ≡ (ltb (threadAt ts j .segment) (m .n) && (isFitCycle recordTime (cycleOf (threadAt ts j .state)) && (isFitWait m (awaitedBy (threadAt ts j .state)) && not (lacksFrom m j (threadAt ts j .segment)))))
+        go j h (yes l) = rw (lacksFrom-same m gs ss segments starts j (threadAt ts j .segment) h l) refl
+        go j h (no l) = rw (le-ltb (threadAt ts j .segment) (m .n) (omega arith)) refl
 
     isUnfit-same : isUnfit o ws site ts ≡ isUnfit m ws site ts
     unfolding o isUnfit isUnfitState isUnfitLog isFitPair isUnfitWords
-    isUnfit-same = rw (modelFault-same, isUnfitThreads-same) refl
+    isUnfit-same = rw (modelFault-same m gs ss segments starts, isUnfitThreads-same) refl
 
     -- a request asks of a model its counts, and what stands below them
     pub requestOf-entries : requestOf (withEntries m gs ss) marks ws site ts k ≡ requestOf m marks ws site ts k
@@ -273,7 +255,7 @@ module _ (m : Model) (gs : List Segment) (ss : List Start)
         past : isUnfit m ws site ts ≡ false → Dec (k < m .t) → requestFit o marks ws site ts k ≡ requestFit m marks ws site ts k
         past e (yes l) =
             let h = isFitThread→ m k (threadAt ts k) (isUnfitThreads→ m ts (isUnfit→ m ws site ts e .threads) .1 k l) .segment in
-            rw (number-same h, granted-same (cycleOf (threadAt ts k .state)) h) refl
+            rw (number-same l h, granted-same (cycleOf (threadAt ts k .state)) l h) refl
         past e (no l) = rw (numberIn-past m marks ws site ts k l, numberIn-past o marks ws site ts k l) refl
 
         whole : (b : Bool) → isUnfit m ws site ts ≡ b → cond b (refusedWith unfit site ts) (requestFit o marks ws site ts k) ≡ cond b (refusedWith unfit site ts) (requestFit m marks ws site ts k)

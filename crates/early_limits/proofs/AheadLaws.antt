@@ -1,8 +1,8 @@
 -- Looking ahead on limits says what `early` says on bounds, on a fit state: forecasts, and hazards, which need not ask whether a thread is live.
 use Prim.Native.Nat.{ℕ, _+_, _*_, _<_}
-use mathlib.Core.Path.{_≡_, refl, ap, sym, _∙_}
+use mathlib.Core.Path.{_≡_, refl, ap, ap₂, sym, _∙_}
 use mathlib.Core.Bool.{Bool, true, false, not, _&&_}
-use mathlib.Core.List.{List, []}
+use mathlib.Core.List.{List}
 use native.Mathlib.Omega.{arith}
 use lib.Dec.{T, ltb, eqb, not-T}
 use lib.ListN.{getD}
@@ -18,7 +18,6 @@ use Rattle.model.specs.declared.Model.{Model}
 use Rattle.model.specs.declared.Thread.{Thread}
 use Rattle.model.specs.Limits.{cutTime, recordTime}
 use Rattle.model.specs.Record.{threadAt, isLive}
-use Rattle.tables.specs.Conflict.{markAt}
 use Rattle.tables.specs.Word.{allOnes, distanceIn}
 use Rattle.early.specs.declared.Notification.{Notification}
 use Rattle.early.specs.Log.{leastHeard}
@@ -108,33 +107,36 @@ module _ (m : Model) (ws : List ℕ) (l : List Notification) (ts : List Thread) 
         (within-limited sumTime 34815 (x ⊕ d) (omega arith) (omega arith) (sum-small m ws l ts (fit-threads fit) (fit .log) (fit-words fit) j s (fit-counts fit .threads) h p))
         (omega (arith, fits .time, fits .delta)))
 
-    threatens-limit : (j : ℕ) → j < m .t
-        → threatensLimit (getD marks (threadAt ts i .segment) []) ws (m .n) (threadAt ts j .segment) (getD (limitsOf m ws l ts) j allOnes) j (limitOfCycle c) i
-        ≡ threatens m marks ws ts i c j (earliestAt m ws l ts j)
-    unfolding threatensLimit threatens threadsConflict markAt
-    threatens-limit j h =
-        rw
-        (atMost-is 64 (m .n) (fit-counts fit .segments))
-        (anyBelow-same
-        (m .n)
-        (λ s. getD (getD marks (threadAt ts i .segment) []) s false && isSoonerLimit (sumOf (getD (limitsOf m ws l ts) j allOnes) (limitOfWord (getD ws (threadAt ts j .segment * m .n + s) 0))) j (limitOfCycle c) i)
-        (λ s. getD (getD marks (threadAt ts i .segment) []) s false && isSooner (earliestAt m ws l ts j ⊕ distanceIn m ws (threadAt ts j .segment) s) j (stampAt c i))
-        (λ s p. ap (λ (t : Bool). getD (getD marks (threadAt ts i .segment) []) s false && t) (sooner-limit j s h p)))
+    -- by conflicts that are those of threads in their segments
+    module _ (conflicts : ℕ → ℕ → ℕ → ℕ → Bool)
+        (same : (r j s : ℕ) → r < m .n → j < m .t → s < m .n → conflicts i r j s ≡ threadsConflict m marks i r j s) where
+      threatens-limit : (j : ℕ) → j < m .t
+          → threatensLimit (conflicts i (threadAt ts i .segment) j) ws (m .n) (threadAt ts j .segment) (getD (limitsOf m ws l ts) j allOnes) j (limitOfCycle c) i
+          ≡ threatens m marks ws ts i c j (earliestAt m ws l ts j)
+      unfolding threatensLimit threatens
+      threatens-limit j h =
+          rw
+          (atMost-is 64 (m .n) (fit-counts fit .segments))
+          (anyBelow-same
+          (m .n)
+          (λ s. conflicts i (threadAt ts i .segment) j s && isSoonerLimit (sumOf (getD (limitsOf m ws l ts) j allOnes) (limitOfWord (getD ws (threadAt ts j .segment * m .n + s) 0))) j (limitOfCycle c) i)
+          (λ s. threadsConflict m marks i (threadAt ts i .segment) j s && isSooner (earliestAt m ws l ts j ⊕ distanceIn m ws (threadAt ts j .segment) s) j (stampAt c i))
+          (λ s p. ap₂ _&&_ (same (threadAt ts i .segment) j s (fit-segment fit i asks) h p) (sooner-limit j s h p)))
 
-    pub hazard-limit : hazardAt marks ws (m .n) (m .t) (segmentsOf (m .t) ts) (limitsOf m ws l ts) (stampAt c i) ≡ hazard m marks ws l ts i c
-    unfolding hazardAt hazard
-    hazard-limit =
-        rw
-        (atMost-is 32 (m .t) (fit-counts fit .threads), segmentsOf-at (m .t) ts i (fit-counts fit .threads) asks)
-        (anyBelow-same
-        (m .t)
-        (λ j. not (eqb j i) && threatensLimit (getD marks (threadAt ts i .segment) []) ws (m .n) (getD (segmentsOf (m .t) ts) j 0) (getD (limitsOf m ws l ts) j allOnes) j (limitOfCycle c) i)
-        (λ j. (not (eqb j i) && isLive (threadAt ts j .state)) && threatens m marks ws ts i c j (earliestAt m ws l ts j))
-        (λ j h.
-        rw
-        (segmentsOf-at (m .t) ts j (fit-counts fit .threads) h, threatens-limit j h)
-        (and-drop
-        (not (eqb j i))
-        (isLive (threadAt ts j .state))
-        (threatens m marks ws ts i c j (earliestAt m ws l ts j))
-        (λ t. ap (threatens m marks ws ts i c j) (earliest-idle m ws l ts j h t) ∙ threatens-never m marks ws ts i c j))))
+      pub hazard-limit : hazardAt conflicts ws (m .n) (m .t) (segmentsOf (m .t) ts) (limitsOf m ws l ts) (stampAt c i) ≡ hazard m marks ws l ts i c
+      unfolding hazardAt hazard
+      hazard-limit =
+          rw
+          (atMost-is 32 (m .t) (fit-counts fit .threads), segmentsOf-at (m .t) ts i (fit-counts fit .threads) asks)
+          (anyBelow-same
+          (m .t)
+          (λ j. not (eqb j i) && threatensLimit (conflicts i (threadAt ts i .segment) j) ws (m .n) (getD (segmentsOf (m .t) ts) j 0) (getD (limitsOf m ws l ts) j allOnes) j (limitOfCycle c) i)
+          (λ j. (not (eqb j i) && isLive (threadAt ts j .state)) && threatens m marks ws ts i c j (earliestAt m ws l ts j))
+          (λ j h.
+          rw
+          (segmentsOf-at (m .t) ts j (fit-counts fit .threads) h, threatens-limit j h)
+          (and-drop
+          (not (eqb j i))
+          (isLive (threadAt ts j .state))
+          (threatens m marks ws ts i c j (earliestAt m ws l ts j))
+          (λ t. ap (threatens m marks ws ts i c j) (earliest-idle m ws l ts j h t) ∙ threatens-never m marks ws ts i c j))))

@@ -35,7 +35,7 @@ use Rattle.early_laws.proofs.LookLaws.{heardAt, heardThread, heardNow-at, heard
 use Rattle.early_laws.proofs.SettleLaws.{settled-carries}
 use Rattle.early_laws.proofs.FitLaws.{→isFitThread, FitPair, isUnfitThreads→, →isUnfitThreads, →isUnfit, siteOf-fit}
 use Rattle.early_laws.proofs.GrantLaws.{logAfter-counted, isFull-none, closedThreads-self, closedThreads-other, closedThreads-length}
-use Rattle.early_limits.proofs.StateLaws.{FitState, fit-segment, ready-fit}
+use Rattle.early_limits.proofs.StateLaws.{FitState, fit-segment, fit-lacks, ready-fit}
 
 -- records of which one is changed, to a fit one
 changed-fit : (m : Model) (ts us : List Thread) (k : ℕ) → isUnfitThreads m ts ≡ false → length us ≡ length ts
@@ -62,6 +62,7 @@ module _ (m : Model) (ws : List ℕ) (l : List Notification) where
         segment = fit-segment fit k h;
         cycle = record { time = omega (arith, heard-time x, pair .time); delta = heard-delta x (pair .delta) };
         event = λ e c w. absurd (stateAfter-not-waits (waitEnds wait.Event x) e c w);
+        lacks = fit-lacks fit k h;
       })
 
   pub lookedAt-fit : (ts : List Thread) (k : ℕ) → FitState m ws l ts → FitState m ws l (lookedAt m ws l ts k)
@@ -116,6 +117,7 @@ module _ (m : Model) (ws : List ℕ) (site : Site) (ts : List Thread) (fit : Fit
                 delta = kept .delta k s c v (ready-fit fit k c thread ready .delta);
               };
           event = λ e d w. kept .event k s c v e d (fit-segment fit k thread) w;
+          lacks = kept .next-lacks k s c v (fit-segment fit k thread) (fit-lacks fit k thread);
         })
 
     logged-fit : (x : Notification) → In x (logAfter m site ts k c) → FitPair m x

@@ -1,12 +1,14 @@
 -- Limits, and what looks ahead with them, at, below and above their edges: closed examples, worked out from document 01.
-use Prim.Native.Nat.{_-_}
+use Prim.Native.Nat.{ℕ, _-_}
 use mathlib.Core.Path.{_≡_, refl}
-use mathlib.Core.Bool.{true, false}
-use mathlib.Core.List.{[], _∷_, _++_}
+use mathlib.Core.Bool.{Bool, true, false, _&&_}
+use mathlib.Core.List.{List, [], _∷_, _++_}
+use lib.Dec.{eqb}
 use lib.ListN.{getD, length, replicate}
 use Rattle.clock.specs.declared.Bound.the-variants.{Never}
 use Rattle.clock.specs.Cycle.{cycleAt, stampAt}
 use Rattle.model.specs.Record.{nothing, awaits}
+use Rattle.tables.specs.Conflict.{markAt}
 use Rattle.tables.specs.Word.{allOnes}
 use Rattle.early.proofs.EdgeModels.{boundAt, note, readyIn, waitingIn, endedIn, segmentOf, withStarts, sayers, farWords, oneMark}
 use Rattle.early_limits.specs.Limit.{top, limitOf, limitOfCycle, limitOfWord, lesser, lesserBelow, sumOf, isSoonerLimit, atMost}
@@ -165,30 +167,49 @@ pub afterRounds-edges :
 unfolding computed sayers withStarts segmentOf
 afterRounds-edges = (refl, refl, refl, refl, refl)
 
+-- conflicts by a row of marks, by marks, and of thread 0 in segment 0 with thread 2 in segment 1 alone
+abbrev marked : List Bool → ℕ → Bool
+marked row s = getD row s false
+
+abbrev byMarks : List (List Bool) → ℕ → ℕ → ℕ → ℕ → Bool
+byMarks marks i r j s = markAt marks r s
+
+abbrev alone : ℕ → ℕ → ℕ → ℕ → Bool
+alone i r j s = (eqb i 0 && eqb r 0) && (eqb j 2 && eqb s 1)
+
 -- a marked segment, sooner, tied as a lower thread and as a higher one, later; the last segment below N and N; segment 63 and 64
 pub threatensLimit-edges :
-    (threatensLimit (false ∷ true ∷ []) (0 ∷ 3 ∷ []) 2 0 10 1 14 0 ≡ true) ×
-    (threatensLimit (false ∷ true ∷ []) (0 ∷ 3 ∷ []) 2 0 10 0 13 1 ≡ true) ×
-    (threatensLimit (false ∷ true ∷ []) (0 ∷ 3 ∷ []) 2 0 10 1 13 0 ≡ false) ×
-    (threatensLimit (false ∷ true ∷ []) (0 ∷ 3 ∷ []) 2 0 10 0 12 1 ≡ false) ×
-    (threatensLimit (false ∷ true ∷ []) (0 ∷ 3 ∷ []) 1 0 10 1 14 0 ≡ false) ×
-    (threatensLimit (false ∷ true ∷ []) (0 ∷ 3 ∷ 0 ∷ 5 ∷ []) 2 1 10 1 15 0 ≡ false) ×
-    (threatensLimit (replicate 63 false ++ (true ∷ [])) [] 64 0 10 1 14 0 ≡ true) ×
-    (threatensLimit (replicate 64 false ++ (true ∷ [])) [] 65 0 10 1 14 0 ≡ false)
+    (threatensLimit (marked (false ∷ true ∷ [])) (0 ∷ 3 ∷ []) 2 0 10 1 14 0 ≡ true) ×
+    (threatensLimit (marked (false ∷ true ∷ [])) (0 ∷ 3 ∷ []) 2 0 10 0 13 1 ≡ true) ×
+    (threatensLimit (marked (false ∷ true ∷ [])) (0 ∷ 3 ∷ []) 2 0 10 1 13 0 ≡ false) ×
+    (threatensLimit (marked (false ∷ true ∷ [])) (0 ∷ 3 ∷ []) 2 0 10 0 12 1 ≡ false) ×
+    (threatensLimit (marked (false ∷ true ∷ [])) (0 ∷ 3 ∷ []) 1 0 10 1 14 0 ≡ false) ×
+    (threatensLimit (marked (false ∷ true ∷ [])) (0 ∷ 3 ∷ 0 ∷ 5 ∷ []) 2 1 10 1 15 0 ≡ false) ×
+    (threatensLimit (marked (replicate 63 false ++ (true ∷ []))) [] 64 0 10 1 14 0 ≡ true) ×
+    (threatensLimit (marked (replicate 64 false ++ (true ∷ []))) [] 65 0 10 1 14 0 ≡ false)
 unfolding computed
 threatensLimit-edges = (refl, refl, refl, refl, refl, refl, refl, refl)
 
 -- "another live thread": not the asker; the last thread below T and T; thread 31 and 32; the row is that of the asker's segment
 pub hazardAt-edges :
-    (hazardAt ((true ∷ []) ∷ []) (0 ∷ []) 1 2 [] (9 ∷ 4 ∷ []) (stampAt (cycleAt 0 5) 0) ≡ true) ×
-    (hazardAt ((true ∷ []) ∷ []) (0 ∷ []) 1 2 [] (9 ∷ 4 ∷ []) (stampAt (cycleAt 0 5) 1) ≡ false) ×
-    (hazardAt ((true ∷ []) ∷ []) (0 ∷ []) 1 1 [] (9 ∷ 4 ∷ []) (stampAt (cycleAt 0 5) 0) ≡ false) ×
-    (hazardAt ((true ∷ []) ∷ []) (0 ∷ []) 1 32 [] (replicate 31 allOnes ++ (4 ∷ [])) (stampAt (cycleAt 0 5) 0) ≡ true) ×
-    (hazardAt ((true ∷ []) ∷ []) (0 ∷ []) 1 33 [] (replicate 32 allOnes ++ (4 ∷ [])) (stampAt (cycleAt 0 5) 0) ≡ false) ×
-    (hazardAt oneMark farWords 3 2 (0 ∷ 1 ∷ []) (9 ∷ 4 ∷ []) (stampAt (cycleAt 0 5) 0) ≡ true) ×
-    (hazardAt oneMark farWords 3 2 (1 ∷ 0 ∷ []) (9 ∷ 4 ∷ []) (stampAt (cycleAt 0 5) 0) ≡ false)
+    (hazardAt (byMarks ((true ∷ []) ∷ [])) (0 ∷ []) 1 2 [] (9 ∷ 4 ∷ []) (stampAt (cycleAt 0 5) 0) ≡ true) ×
+    (hazardAt (byMarks ((true ∷ []) ∷ [])) (0 ∷ []) 1 2 [] (9 ∷ 4 ∷ []) (stampAt (cycleAt 0 5) 1) ≡ false) ×
+    (hazardAt (byMarks ((true ∷ []) ∷ [])) (0 ∷ []) 1 1 [] (9 ∷ 4 ∷ []) (stampAt (cycleAt 0 5) 0) ≡ false) ×
+    (hazardAt (byMarks ((true ∷ []) ∷ [])) (0 ∷ []) 1 32 [] (replicate 31 allOnes ++ (4 ∷ [])) (stampAt (cycleAt 0 5) 0) ≡ true) ×
+    (hazardAt (byMarks ((true ∷ []) ∷ [])) (0 ∷ []) 1 33 [] (replicate 32 allOnes ++ (4 ∷ [])) (stampAt (cycleAt 0 5) 0) ≡ false) ×
+    (hazardAt (byMarks oneMark) farWords 3 2 (0 ∷ 1 ∷ []) (9 ∷ 4 ∷ []) (stampAt (cycleAt 0 5) 0) ≡ true) ×
+    (hazardAt (byMarks oneMark) farWords 3 2 (1 ∷ 0 ∷ []) (9 ∷ 4 ∷ []) (stampAt (cycleAt 0 5) 0) ≡ false)
 unfolding computed
 hazardAt-edges = (refl, refl, refl, refl, refl, refl, refl)
+
+-- asked of the asker in its segment, and of each other thread: thread 2 could run segment 1 at (0, 4), or thread 1 does; the asker is in another segment
+pub hazardAt-threads :
+    (hazardAt alone farWords 3 3 (0 ∷ 2 ∷ 1 ∷ []) (9 ∷ 4 ∷ 4 ∷ []) (stampAt (cycleAt 0 5) 0) ≡ true) ×
+    (hazardAt alone farWords 3 3 (0 ∷ 1 ∷ 2 ∷ []) (9 ∷ 4 ∷ 4 ∷ []) (stampAt (cycleAt 0 5) 0) ≡ false) ×
+    (hazardAt alone farWords 3 3 (1 ∷ 2 ∷ 1 ∷ []) (9 ∷ 4 ∷ 4 ∷ []) (stampAt (cycleAt 0 5) 0) ≡ false) ×
+    (hazardAt alone farWords 3 3 (0 ∷ 0 ∷ 1 ∷ []) (4 ∷ 9 ∷ 4 ∷ []) (stampAt (cycleAt 0 5) 1) ≡ false)
+unfolding computed
+hazardAt-threads = (refl, refl, refl, refl)
 
 -- threads below T: the last of them, and T itself
 

@@ -17,10 +17,11 @@ use Rattle.clock.proofs.AdvanceLaws.{Never-⊕, ⊕-Never}
 use Rattle.model.specs.declared.Model.{Model}
 use Rattle.model.specs.declared.Thread.{Thread}
 use Rattle.model.specs.Limits.{cutTime}
-use Rattle.model.specs.Values.{segmentAt, segmentFor, bodyOf}
+use Rattle.model.specs.Values.{segmentAt, bodyOf}
 use Rattle.model.specs.Statement.{notifiedBy}
-use Rattle.model.specs.Footprint.{has, listedIn, notifiesIn}
+use Rattle.model.specs.Footprint.{has, notifiesIn}
 use Rattle.model.specs.Record.{threadAt, isLive}
+use Rattle.model_effect.proofs.PortLaws.{listedIn-any}
 use Rattle.tables.specs.Word.{allOnes, distanceIn}
 use Rattle.tables_laws.proofs.WordLaws.{place-below}
 use Rattle.early.specs.declared.Notification.{Notification}
@@ -47,7 +48,7 @@ nearestIn m ws r e = leastBelow (m .n) (wayTo m ws r e)
 
 soonestNotify-is : (m : Model) (ws : List ℕ) (ts : List Thread) (k e : ℕ) (x : Bound) → (T (not (isLive (threadAt ts k .state))) → x ≡ Never)
     → soonestNotify m ws ts k x e ≡ x ⊕ nearestIn m ws (threadAt ts k .segment) e
-unfolding wayTo nearestIn soonestNotify notifiesIn listedIn segmentFor
+unfolding wayTo nearestIn soonestNotify notifiesIn
 soonestNotify-is m ws ts k e x idle = go (T-case (isLive (threadAt ts k .state)))
   where
     r : ℕ
@@ -59,7 +60,7 @@ soonestNotify-is m ws ts k e x idle = go (T-case (isLive (threadAt ts k .state))
     go : T (isLive (threadAt ts k .state)) ⊎ T (not (isLive (threadAt ts k .state))) → soonestNotify m ws ts k x e ≡ x ⊕ nearestIn m ws r e
     go (inl t) =
         live t
-        ∙ leastBelow-same (m .n) (λ s. cond (notifiesIn m k s e) (x ⊕ distanceIn m ws r s) Never) (λ s. x ⊕ wayTo m ws r e s) (λ s h. sym (⊕-cond (notifiesIn m k s e) x (distanceIn m ws r s)))
+        ∙ leastBelow-same (m .n) (λ s. cond (notifiesIn m k s e) (x ⊕ distanceIn m ws r s) Never) (λ s. x ⊕ wayTo m ws r e s) (λ s h. rw (listedIn-any m k s) (sym (⊕-cond (has (notifiedBy (bodyOf (segmentAt m s))) e) x (distanceIn m ws r s))))
         ∙ sym (⊕-leastBelow (m .n) x (wayTo m ws r e))
     go (inr t) = soonestNotify-idle m ws ts k x e t ∙ rw (idle t, Never-⊕ (nearestIn m ws r e)) refl
 

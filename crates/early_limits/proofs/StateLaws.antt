@@ -14,6 +14,7 @@ use Rattle.model.specs.declared.Model.{Model}
 use Rattle.model.specs.declared.Thread.{Thread}
 use Rattle.model.specs.Limits.{cutTime, recordTime}
 use Rattle.model.specs.Record.{threadAt, readyCycle, viewOf}
+use Rattle.model.specs.Reach.{lacksFrom}
 use Rattle.model.specs.Rules.{modelFault}
 use Rattle.model_rules.proofs.RuleLaws.{Counts, modelFault-counts}
 use Rattle.plain_laws.proofs.RecordLaws.{ready-cycle, readyCycle→ready}
@@ -51,6 +52,10 @@ module _ {m : Model} {ws : List ℕ} {l : List Notification} {ts : List Thread} 
 
   pub fit-segment : (k : ℕ) → k < m .t → threadAt ts k .segment < m .n
   fit-segment k h = isFitThread→ m k (threadAt ts k) (fit-threads k h) .segment
+
+  -- no record leads to a port that its thread leaves unused
+  pub fit-lacks : (k : ℕ) → k < m .t → lacksFrom m k (threadAt ts k .segment) ≡ false
+  fit-lacks k h = isFitThread→ m k (threadAt ts k) (fit-threads k h) .lacks
 
   -- the cycle of a ready thread
   pub ready-fit : (i : ℕ) (c : Cycle) → i < m .t → readyCycle (threadAt ts i .state) ≡ At c → FitCycle recordTime c

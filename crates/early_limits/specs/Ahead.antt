@@ -1,7 +1,7 @@
 -- Document 01, "Early issue": earliest, forecast and hazard on limits. The laws of this crate say that on a fit state they are those of `early`.
 use Prim.Native.Nat.{ℕ, zero, suc, _+_, _*_, _/_, _%_}
-use mathlib.Core.Bool.{Bool, false, cond, not, _&&_}
-use mathlib.Core.List.{List, [], _++_}
+use mathlib.Core.Bool.{Bool, cond, not, _&&_}
+use mathlib.Core.List.{List, _++_}
 use lib.Dec.{ltb, eqb}
 use lib.ListN.{getD, length, drop}
 use Rattle.base.specs.Index.{anyBelow, tabulate}
@@ -54,16 +54,17 @@ afterRounds reach segments events t (suc n) xs = relaxedLimits reach segments ev
 unfoldable pub earliestLimits : List ℕ → List ℕ → List ℕ → ℕ → List ℕ → List ℕ
 earliestLimits reach segments events t xs = afterRounds reach segments events t t xs
 
--- whether thread j, in a segment and no sooner than b, could run a segment marked in the row before thread i at c
-unfoldable pub threatensLimit : List Bool → List ℕ → ℕ → ℕ → ℕ → ℕ → ℕ → ℕ → Bool
-threatensLimit row ws n segment b j c i =
-    anyBelow (atMost 64 n) (λ s. getD row s false && isSoonerLimit (sumOf b (limitOfWord (getD ws (segment * n + s) 0))) j c i)
+-- whether thread j, in a segment and no sooner than b, could run one of the segments that conflict before thread i at c
+unfoldable pub threatensLimit : (ℕ → Bool) → List ℕ → ℕ → ℕ → ℕ → ℕ → ℕ → ℕ → Bool
+threatensLimit conflicts ws n segment b j c i =
+    anyBelow (atMost 64 n) (λ s. conflicts s && isSoonerLimit (sumOf b (limitOfWord (getD ws (segment * n + s) 0))) j c i)
 
-unfoldable pub hazardAt : List (List Bool) → List ℕ → ℕ → ℕ → List ℕ → List ℕ → Stamp → Bool
-hazardAt marks ws n t segments xs x =
+-- by which threads conflict: thread i in segment r with thread j in segment s
+unfoldable pub hazardAt : (ℕ → ℕ → ℕ → ℕ → Bool) → List ℕ → ℕ → ℕ → List ℕ → List ℕ → Stamp → Bool
+hazardAt conflicts ws n t segments xs x =
     let i = x .thread .0 in
-    let row = getD marks (getD segments i 0) [] in
-    anyBelow (atMost 32 t) (λ j. not (eqb j i) && threatensLimit row ws n (getD segments j 0) (getD xs j allOnes) j (limitOfCycle (x .cycle)) i)
+    let r = getD segments i 0 in
+    anyBelow (atMost 32 t) (λ j. not (eqb j i) && threatensLimit (conflicts i r j) ws n (getD segments j 0) (getD xs j allOnes) j (limitOfCycle (x .cycle)) i)
 
 -- the crew and the first limits of thread records
 unfoldable pub eventAwaited : Awaited → ℕ

@@ -13,6 +13,7 @@ use Rattle.clock.specs.declared.Bound.the-variants.{Never, At}
 use Rattle.clock.specs.Cycle.{stampAt}
 use Rattle.clock.specs.Advance.{isBoundBefore}
 use Rattle.model.specs.declared.Segment.{Segment}
+use Rattle.model.specs.declared.Start.{Start}
 use Rattle.model.specs.declared.State.the-variants.{Ready}
 use Rattle.model.specs.declared.Thread.{Thread}
 use Rattle.model.specs.declared.Threads.{Threads}
@@ -31,6 +32,7 @@ use Rattle.early.specs.declared.After.{After}
 use Rattle.early.specs.Log.{logOf, siteOf, withPairs, placesWith, dropBefore}
 use Rattle.early.specs.Deliver.{settledBy}
 use Rattle.early.specs.Request.{isFullBy, numberReady, numberAt, numberFor, refusedWith, answeredBy}
+use Rattle.early_ports.specs.Cross.{portsIn, segmentWith}
 use Rattle.early_laws.proofs.LogLaws.{logOf-siteOf, siteOf-variables}
 use Rattle.early_laws.proofs.OnceLaws.{placesWith-begins}
 use Rattle.early_laws.proofs.NumberLaws.{readyCycle→cycle, isFullBy-none, numberFor→passed}
@@ -110,13 +112,13 @@ module _ (isHazard : Cycle → Bool) (floor : Bound) (es : List ℕ) (l : List N
         number-ready p = rw (lt-ltb k t h, ready, lt-ltb (c .time .0) end p) refl
 
 -- what the code holds of the records says where a hazard stands
-pub same-hazard : (n t : ℕ) (marks : List (List Bool)) (ws reach : List ℕ) (l : List Notification) (ts : List Thread) (k : ℕ) (c : Cycle) → t ≤ 32
+pub same-hazard : (n t : ℕ) (conflicts : ℕ → ℕ → ℕ → ℕ → Bool) (ws reach : List ℕ) (l : List Notification) (ts : List Thread) (k : ℕ) (c : Cycle) → t ≤ 32
     → (o : Outlook) (heard : Bool) → o ≡ outlookOf reach (atMost 32 t) l ts heard
-    → hazardAt marks ws n t (o .crew .segments) (o .limits .at) (stampAt c k) ≡ hazardOn n t marks ws reach l ts k c
+    → hazardAt conflicts ws n t (o .crew .segments) (o .limits .at) (stampAt c k) ≡ hazardOn n t conflicts ws reach l ts k c
 unfolding hazardOn outlookOf crewOf
-same-hazard n t marks ws reach l ts k c few o heard seen =
+same-hazard n t conflicts ws reach l ts k c few o heard seen =
     ap
-    (λ (p : Outlook). hazardAt marks ws n t (p .crew .segments) (p .limits .at) (stampAt c k))
+    (λ (p : Outlook). hazardAt conflicts ws n t (p .crew .segments) (p .limits .at) (stampAt c k))
     (seen ∙ ap (λ (i : ℕ). outlookOf reach i l ts heard) (atMost-is 32 t few))
 
 -- a grant: the pairs that fit are all logged
@@ -152,6 +154,10 @@ pub heldEvents-taken : (es : List ℕ) → take (heldEvents es .n) (heldEvents e
 unfolding heldEvents
 heldEvents-taken es = take-append-seam es _
 
+-- the segment as thread k runs it
+pub own-segment : (starts : List Start) (k : ℕ) (g : Segment) (i : ℕ) (ps : List ℕ) (h : Segment) → i ≡ k → ps ≡ portsIn starts i → h ≡ segmentWith ps g → h ≡ segmentWith (portsIn starts k) g
+own-segment starts k g i ps h p q e = e ∙ ap (λ (xs : List ℕ). segmentWith xs g) (q ∙ ap (portsIn starts) p)
+
 module _ (reach : List ℕ) (t : ℕ) (g : Segment) (site : Site) (ts : List Thread) (k : ℕ) where
   -- what the segment notifies takes no more places than what it lists
   pub run-room : (i s : ℕ) (c : Cycle) (v : List ℕ) (ran : Ran) → i ≡ k → c ≡ cycleOf (getD ts i noThread .state) → ran ≡ heldEffect (effectIn g s c v)
@@ -169,20 +175,21 @@ module _ (reach : List ℕ) (t : ℕ) (g : Segment) (site : Site) (ts : List Thr
   unfolding runOn threadAt
   run-made i c ran a p q r s = s ∙ rw (r, q, p) refl
 
-  module _ (end n : ℕ) (marks : List (List Bool)) (ws : List ℕ) (number : ℕ) (es : Events) (listed : es ≡ heldEvents (notifiedBy (bodyOf g)))
-      (decided : number ≡ numberOn end n t (take (es .n) (es .at)) marks ws reach (logOf site) ts k)
+  module _ (end n : ℕ) (conflicts : ℕ → ℕ → ℕ → ℕ → Bool) (ws : List ℕ) (number : ℕ) (es : Events) (h : Segment) (listed : es ≡ heldEvents (notifiedBy (bodyOf h)))
+      (mapped : notifiedBy (bodyOf g) ≡ notifiedBy (bodyOf h))
+      (decided : number ≡ numberOn end n t (take (es .n) (es .at)) conflicts ws reach (logOf site) ts k)
     where
-      same-number : number ≡ numberOn end n t (notifiedBy (bodyOf g)) marks ws reach (logOf site) ts k
+      same-number : number ≡ numberOn end n t (notifiedBy (bodyOf g)) conflicts ws reach (logOf site) ts k
       same-number =
-          decided ∙ ap (λ (xs : List ℕ). numberOn end n t xs marks ws reach (logOf site) ts k)
-          (ap (λ (x : Events). take (x .n) (x .at)) listed ∙ heldEvents-taken (notifiedBy (bodyOf g)))
+          decided ∙ ap (λ (xs : List ℕ). numberOn end n t xs conflicts ws reach (logOf site) ts k)
+          (ap (λ (x : Events). take (x .n) (x .at)) listed ∙ (heldEvents-taken (notifiedBy (bodyOf h)) ∙ sym mapped))
 
-      pub answered-refused : (number ≡ 0 → ⊥) → afterOf (refusedWith number site ts) ≡ afterOf (answeredOn end n t g marks ws reach site ts k)
+      pub answered-refused : (number ≡ 0 → ⊥) → afterOf (refusedWith number site ts) ≡ afterOf (answeredOn end n t g conflicts ws reach site ts k)
       unfolding answeredOn answeredBy
       answered-refused other = rw (← same-number, ne-eqb number 0 other) refl
 
       module _ (zero : number ≡ 0) where
-        pub answered-run : afterOf (runOn reach t g site ts k) ≡ afterOf (answeredOn end n t g marks ws reach site ts k)
+        pub answered-run : afterOf (runOn reach t g site ts k) ≡ afterOf (answeredOn end n t g conflicts ws reach site ts k)
         unfolding answeredOn answeredBy
         answered-run = rw (sym same-number ∙ zero) refl
 
@@ -191,6 +198,6 @@ module _ (reach : List ℕ) (t : ℕ) (g : Segment) (site : Site) (ts : List Thr
         unfolding numberOn
         answered-room =
             let xs = notifiedBy (bodyOf g) in
-            let (c, p) = numberFor→passed t end (hazardOn n t marks ws reach (logOf site) ts k) (floorBelow t ts) xs (logOf site) ts k (sym same-number ∙ zero) in
+            let (c, p) = numberFor→passed t end (hazardOn n t conflicts ws reach (logOf site) ts k) (floorBelow t ts) xs (logOf site) ts k (sym same-number ∙ zero) in
             let at : cycleOf (threadAt ts k .state) ≡ c = readyCycle→cycle (threadAt ts k .state) c (p .ready) in
             (p .thread, rw at (isFullBy-none (floorBelow t ts) (placesWith (logOf site) c xs) c (p .room)))

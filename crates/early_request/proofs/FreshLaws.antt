@@ -8,6 +8,7 @@ use Rattle.base.specs.Index.{tabulate}
 use Rattle.clock.specs.Cycle.{cycleAt}
 use Rattle.model.specs.declared.Model.{Model}
 use Rattle.model.specs.declared.State.the-variants.{Ready}
+use Rattle.model.specs.declared.Start.{Start}
 use Rattle.model.specs.declared.Thread.{Thread}
 use Rattle.model.specs.declared.Threads.{Threads}
 use Rattle.model.specs.Values.{noStart, startAt}
@@ -32,10 +33,10 @@ module _ (m : Model) where
   pub started-none : (ts : List Thread) → ts ≡ replicate 32 noThread → ts ≡ startedTo 0
   started-none ts e = e ∙ fill-none (λ i. started (startAt m i)) noThread
 
-  pub started-more : (ts : List Thread) (k : ℕ) → k < 32 → ts ≡ startedTo k
-      → set ts k (record { segment = getD (m .starts) k noStart .first; state = Ready (cycleAt 0 0) }) ≡ startedTo (k + 1)
-  unfolding started startAt
-  started-more ts k h e = rw e (fill-more (λ i. started (startAt m i)) noThread k h)
+  pub started-more : (ts : List Thread) (k : ℕ) (x : Start) → k < 32 → x ≡ startAt m k → ts ≡ startedTo k
+      → set ts k (record { segment = x .first; state = Ready (cycleAt 0 0) }) ≡ startedTo (k + 1)
+  unfolding started
+  started-more ts k x h f e = rw (e, f) (fill-more (λ i. started (startAt m i)) noThread k h)
 
   pub started-all : (ts : List Thread) (k : ℕ) → k ≡ m .t → m .t ≤ 32 → ts ≡ startedTo k → ts ≡ freshThreads m
   unfolding freshThreads

@@ -21,12 +21,12 @@ use Rattle.early.specs.Request.{numberFor, Requested, grantedBy, answeredBy}
 use Rattle.early_limits.specs.Ahead.{hazardAt, segmentsOf}
 use Rattle.early_deliver.specs.Awake.{aheadOf, soonerOn}
 
--- whether a hazard stands for thread k at a cycle, on limits
-unfoldable pub hazardOn : ℕ → ℕ → List (List Bool) → List ℕ → List ℕ → List Notification → List Thread → ℕ → Cycle → Bool
-hazardOn n t marks ws reach l ts k c = hazardAt marks ws n t (segmentsOf t ts) (aheadOf reach t l ts) (stampAt c k)
+-- whether a hazard stands for thread k at a cycle, on limits, by which threads conflict in their segments
+unfoldable pub hazardOn : ℕ → ℕ → (ℕ → ℕ → ℕ → ℕ → Bool) → List ℕ → List ℕ → List Notification → List Thread → ℕ → Cycle → Bool
+hazardOn n t conflicts ws reach l ts k c = hazardAt conflicts ws n t (segmentsOf t ts) (aheadOf reach t l ts) (stampAt c k)
 
-unfoldable pub numberOn : ℕ → ℕ → ℕ → List ℕ → List (List Bool) → List ℕ → List ℕ → List Notification → List Thread → ℕ → ℕ
-numberOn end n t es marks ws reach l ts k = numberFor t end (hazardOn n t marks ws reach l ts k) (floorBelow t ts) es l ts k
+unfoldable pub numberOn : ℕ → ℕ → ℕ → List ℕ → (ℕ → ℕ → ℕ → ℕ → Bool) → List ℕ → List ℕ → List Notification → List Thread → ℕ → ℕ
+numberOn end n t es conflicts ws reach l ts k = numberFor t end (hazardOn n t conflicts ws reach l ts k) (floorBelow t ts) es l ts k
 
 -- an effect as the code holds it
 abbrev pub effectFrom : Ran → Effect
@@ -42,6 +42,6 @@ runOn reach t g site ts k =
     let c = cycleOf (threadAt ts k .state) in
     grantOn reach t site ts k c (effectFrom (heldEffect (effectIn g (threadAt ts k .segment) c (site .variables .at))))
 
-unfoldable pub answeredOn : ℕ → ℕ → ℕ → Segment → List (List Bool) → List ℕ → List ℕ → Site → List Thread → ℕ → Requested
-answeredOn end n t g marks ws reach site ts k =
-    answeredBy (numberOn end n t (notifiedBy (bodyOf g)) marks ws reach (logOf site) ts k) site ts (runOn reach t g site ts k)
+unfoldable pub answeredOn : ℕ → ℕ → ℕ → Segment → (ℕ → ℕ → ℕ → ℕ → Bool) → List ℕ → List ℕ → Site → List Thread → ℕ → Requested
+answeredOn end n t g conflicts ws reach site ts k =
+    answeredBy (numberOn end n t (notifiedBy (bodyOf g)) conflicts ws reach (logOf site) ts k) site ts (runOn reach t g site ts k)

@@ -13,6 +13,7 @@ use model::Events;
 use model::Model;
 use model::Ran;
 use model::Segment;
+use model::Start;
 use model::State;
 use model::Thread;
 use model::Threads;
@@ -32,6 +33,8 @@ ghost use Rattle.plain.specs.Wake.{floorBelow};
 ghost use Rattle.early.specs.Log.{logOf, placesWith};
 ghost use Rattle.early.specs.Fit.{isUnfit};
 ghost use Rattle.early.specs.Request.{isFullBy, numberReady, refusedWith, freshSite, requestOf, Answers, requestsOf};
+ghost use Rattle.early_ports.specs.Names.{namesFor};
+ghost use Rattle.early_ports.specs.Cross.{portsIn, segmentWith, conflictsOn};
 ghost use Rattle.early_limits.specs.Ahead.{reachOf};
 ghost use Rattle.early_request.specs.Answered.{hazardOn, numberOn, effectFrom, grantOn, runOn, answeredOn};
 ghost use Rattle.early_request.specs.After.{afterOf};
@@ -83,7 +86,9 @@ fn decide_ready(
     n: u8,
     t: u8,
     listed: Events,
+    starts: [Start; 32],
     marks: [[bool; 64]; 64],
+    names: &[u64],
     words: &[u64],
     reach: &[u64],
     site: Site,
@@ -91,12 +96,12 @@ fn decide_ready(
     at: Stamp,
 ) -> u8
     requires { ⌜ t ≤ 32 ⌝ }
-    ensures { λ r. ⌜ r ≡ numberReady (hazardOn n t marks (now (words .entry)) (now (reach .entry)) (logOf site) (threads .at) (at .thread .0)) (floorBelow t (threads .at)) (take (listed .n) (listed .at)) (logOf site) (at .cycle) ⌝ }
+    ensures { λ r. ⌜ r ≡ numberReady (hazardOn n t (conflictsOn marks (now (names .entry)) starts) (now (words .entry)) (now (reach .entry)) (logOf site) (threads .at) (at .thread .0)) (floorBelow t (threads .at)) (take (listed .n) (listed .at)) (logOf site) (at .cycle) ⌝ }
 {
     let o = early_deliver::outlook_of(reach, site, threads, t);
     let crew = o.crew;
     let limits = o.limits;
-    if early_ahead::hazard(marks, words, n, t, crew, limits, at) {
+    if early_ahead::hazard(marks, names, starts, words, n, t, crew, limits, at) {
         return 14;
     }
     let c = at.cycle;
@@ -112,7 +117,9 @@ fn decide(
     n: u8,
     t: u8,
     listed: Events,
+    starts: [Start; 32],
     marks: [[bool; 64]; 64],
+    names: &[u64],
     words: &[u64],
     reach: &[u64],
     site: Site,
@@ -120,7 +127,7 @@ fn decide(
     k: ThreadNo,
 ) -> u8
     requires { ⌜ t ≤ 32 ⌝ }
-    ensures { λ r. ⌜ r ≡ numberOn (horizon .0 + 1) n t (take (listed .n) (listed .at)) marks (now (words .entry)) (now (reach .entry)) (logOf site) (threads .at) (k .0) ⌝ }
+    ensures { λ r. ⌜ r ≡ numberOn (horizon .0 + 1) n t (take (listed .n) (listed .at)) (conflictsOn marks (now (names .entry)) starts) (now (words .entry)) (now (reach .entry)) (logOf site) (threads .at) (k .0) ⌝ }
 {
     if t <= k.0 {
         return 10;
@@ -138,7 +145,19 @@ fn decide(
         cycle: c,
         thread: k,
     };
-    decide_ready(n, t, listed, marks, words, reach, site, threads, at)
+    decide_ready(
+        n,
+        t,
+        listed,
+        starts,
+        marks,
+        names,
+        words,
+        reach,
+        site,
+        threads,
+        at,
+    )
 }
 
 // Document 01, "After a grant": what the segment left is logged and its record closed, then deliveries, and the drop before the floor.
@@ -199,13 +218,16 @@ fn run_grant(reach: &[u64], t: u8, g: Segment, site: Site, threads: Threads, k: 
     finish(reach, t, ran, site, threads, at)
 }
 
-// A request on a fit state, by the counts of its model, its horizon and the segment that the thread is in: decided, then run.
+// A request on a fit state, by the counts of its model, its horizon, the segment that the thread is in and the threads' ports: decided,
+// then run, after mapping.
 fn answered(
     horizon: Time,
     n: u8,
     t: u8,
     g: Segment,
+    starts: [Start; 32],
     marks: [[bool; 64]; 64],
+    names: &[u64],
     words: &[u64],
     reach: &[u64],
     site: Site,
@@ -213,14 +235,29 @@ fn answered(
     k: ThreadNo,
 ) -> After
     requires { ⌜ t ≤ 32 ⌝ }
-    ensures { λ r. ⌜ r ≡ afterOf (answeredOn (horizon .0 + 1) n t g marks (now (words .entry)) (now (reach .entry)) site (threads .at) (k .0)) ⌝ }
+    ensures { λ r. ⌜ r ≡ afterOf (answeredOn (horizon .0 + 1) n t (segmentWith (portsIn starts (k .0)) g) (conflictsOn marks (now (names .entry)) starts) (now (words .entry)) (now (reach .entry)) site (threads .at) (k .0)) ⌝ }
 {
     let listed = model_effect::listed(g);
-    let number = decide(horizon, n, t, listed, marks, words, reach, site, threads, k);
+    let number = decide(
+        horizon,
+        n,
+        t,
+        listed,
+        starts,
+        marks,
+        names,
+        words,
+        reach,
+        site,
+        threads,
+        k,
+    );
     if number != 0 {
         return refused(number, site, threads);
     }
-    run_grant(reach, t, g, site, threads, k)
+    let ports = early_ports::ports_of(starts, buffers::wide(k.0));
+    let own = early_ports::segment_for(ports, g);
+    run_grant(reach, t, own, site, threads, k)
 }
 
 // The segment that thread k is in, 0 where there is no such thread.
@@ -237,7 +274,7 @@ fn segment_of(threads: Threads, t: u8, k: u8) -> usize
 }
 
 // The variables and the log, all zero.
-fn fresh_site() -> Site
+pub fn fresh_site() -> Site
     ensures { λ r. ⌜ r ≡ freshSite ⌝ }
 {
     let c = Cycle {
@@ -320,12 +357,28 @@ pub fn request(
     }
     let mut reach = [0u64; 2048];
     early_ahead::fill_reach(m, words, &mut reach);
+    let mut names = [0u64; 256];
+    early_ports::fill_names(m, &mut names);
     let t = m.t;
     let n = m.n;
     let horizon = m.horizon;
+    let starts = m.starts;
     let s = segment_of(threads, t, k.0);
     let g = m.segments[s];
-    answered(horizon, n, t, g, marks, words, &reach, site, threads, k)
+    answered(
+        horizon,
+        n,
+        t,
+        g,
+        starts,
+        marks,
+        &names,
+        words,
+        &reach,
+        site,
+        threads,
+        k,
+    )
 }
 
 // Whether an answer is a grant, as a number.
@@ -379,6 +432,7 @@ fn refuse_all(answers: &mut [u64], n: usize)
 fn answer_all(
     m: Model,
     marks: [[bool; 64]; 64],
+    names: &[u64],
     words: &[u64],
     reach: &[u64],
     site: Site,
@@ -386,13 +440,14 @@ fn answer_all(
     ks: &[u8],
     answers: &mut [u64],
 ) -> Outcome
-    requires { ⌜ (isUnfit m (now words) site (threads .at) ≡ false) × ((now reach ≡ reachOf m (now words)) × (4 * length (now ks) ≤ length (now answers))) ⌝ }
+    requires { ⌜ (isUnfit m (now words) site (threads .at) ≡ false) × ((now names ≡ namesFor m (replicate 256 0)) × (now reach ≡ reachOf m (now words)) × (4 * length (now ks) ≤ length (now answers))) ⌝ }
     ensures left { λ r. ⌜ r ≡ leftBy (requestsOf m marks (now (words .entry)) site (threads .at) (now (ks .entry))) ⌝ }
     ensures written { λ _. ⌜ now (answers .exit) ≡ sets (now (answers .entry)) 0 (answersWords (requestsOf m marks (now (words .entry)) site (threads .at) (now (ks .entry)) .answers)) ⌝ }
 {
     let t = m.t;
     let n = m.n;
     let horizon = m.horizon;
+    let starts = m.starts;
     let mut s = site;
     let mut ts = threads;
     let mut granted: u64 = 0;
@@ -401,7 +456,20 @@ fn answer_all(
         let k = ks[i];
         let j = segment_of(ts, t, k);
         let g = m.segments[j];
-        let a = answered(horizon, n, t, g, marks, words, reach, s, ts, ThreadNo(k));
+        let a = answered(
+            horizon,
+            n,
+            t,
+            g,
+            starts,
+            marks,
+            names,
+            words,
+            reach,
+            s,
+            ts,
+            ThreadNo(k),
+        );
         let answer = a.answer;
         put_answer(answers, 4 * i, answer);
         granted += grants_in(answer);
@@ -450,5 +518,7 @@ pub fn requests(
     }
     let mut reach = [0u64; 2048];
     early_ahead::fill_reach(m, words, &mut reach);
-    answer_all(m, marks, words, &reach, site, threads, ks, answers)
+    let mut names = [0u64; 256];
+    early_ports::fill_names(m, &mut names);
+    answer_all(m, marks, &names, words, &reach, site, threads, ks, answers)
 }

@@ -1,10 +1,11 @@
 -- Lists filled from the front by a loop: the elements so far, then the places that are left.
 --     filledTo-none, filledTo-more     none, one more
 --     segmentTo-none, segmentTo-more, segmentTo-all     a segment with its first statements
+--     startHeld, startHeld-made, filledTo-ports     a thread
 --     modelHeld-made     a model by its parts
-use Prim.Native.Nat.{ℕ, suc, _+_, _-_, _<_}
+use Prim.Native.Nat.{ℕ, suc, _+_, _-_, _<_, _≤_}
 use mathlib.Core.Path.{_≡_, refl, sym, ap, _∙_}
-use mathlib.Core.List.{List, [], _∷_, _++_}
+use mathlib.Core.List.{List, [], _∷_, _++_, append-nil}
 use native.Mathlib.Numerals.{add-one}
 use native.Mathlib.Omega.{arith}
 use lib.ListN.{set, replicate}
@@ -17,7 +18,7 @@ use Rattle.model.specs.declared.Closer.{Closer}
 use Rattle.model.specs.declared.Segment.{Segment}
 use Rattle.model.specs.declared.Start.{Start}
 use Rattle.model.specs.Values.{noStatement, noSegment, noStart}
-use Rattle.export_model.specs.Numbers.{numberAt, countN, countT, segmentPlace, statementPlace, startPlace, closerHeld, opHeld, statementsHeld}
+use Rattle.export_model.specs.Numbers.{numberAt, countN, countT, segmentPlace, statementPlace, startPlace, portPlace, closerHeld, opHeld, statementsHeld}
 use Rattle.export_model.specs.Judged.{segmentHeld, modelHeld}
 
 -- f 0, f 1, .. f (j - 1), then d, in all so many
@@ -71,12 +72,25 @@ module _ (xs : List ℕ) (i : ℕ) where
   unfolding segmentTo segmentHeld
   segmentTo-all = refl
 
+-- thread k of numbers with n segments
+abbrev pub startHeld : List ℕ → ℕ → ℕ → Start
+startHeld xs n k = record { first = numberAt xs (startPlace n k); ports = tabulate 8 0 (λ p. numberAt xs (portPlace n k p)) }
+
+pub startHeld-made :
+    (xs : List ℕ) (n k first : ℕ) (ports : List ℕ) → first ≡ numberAt xs (startPlace n k) →
+    ports ≡ tabulate 8 0 (λ p. numberAt xs (portPlace n k p)) → record { first = first; ports = ports } ≡ startHeld xs n k
+startHeld-made xs n k first ports p q = rw (p, q) refl
+
+-- eight of eight
+pub filledTo-ports : (f : ℕ → ℕ) (ports : List ℕ) (i : ℕ) → 8 ≤ i → i ≤ 8 → ports ≡ filledTo 8 0 f i → ports ≡ tabulate 8 0 f
+filledTo-ports f ports i h l e = let k : i ≡ 8 = omega arith in (rw k at e) ∙ append-nil (tabulate 8 0 f)
+
 -- the whole model, part by part
 pub modelHeld-made :
     (xs : List ℕ) (n t h v e n′ t′ : ℕ) (segments : List Segment) (starts : List Start) → n ≡ countN xs → t ≡ countT xs →
     h ≡ numberAt xs 0 → v ≡ numberAt xs 1 → e ≡ numberAt xs 2 → n′ ≡ countN xs → t′ ≡ countT xs →
     segments ≡ filledTo 64 noSegment (λ i. segmentHeld xs i) n →
-    starts ≡ filledTo 32 noStart (λ k. record { first = numberAt xs (startPlace n k) }) t →
+    starts ≡ filledTo 32 noStart (startHeld xs n) t →
     record { horizon = record { 0 = h }; v = v; e = e; n = n′; t = t′; segments = segments; starts = starts } ≡ modelHeld xs
 unfolding modelHeld
 modelHeld-made xs n t h v e n′ t′ segments starts is is′ p q r a b c d = rw (p, q, r, a, b, rw is at c, rw (is, is′) at d) refl

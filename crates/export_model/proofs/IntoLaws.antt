@@ -1,6 +1,6 @@
 -- The numbers of a model: how many there are, and that the loops store them all.
---     stored-length, tabulate-start, -put, -all, joined-start, -more, -length, -put, -all     runs of stores
---     closerNumbers-length, opNumbers-length, segmentNumbers-length
+--     stored-length, joined-start, -more, -length, -put, -all     runs of stores
+--     closerNumbers-length, opNumbers-length, startNumbers-length, segmentNumbers-length
 --     frontTo-none, frontTo-more, frontTo-all     a segment with its first statements
 --     read-statements, segments-each     what the code reads of a model that keeps the rules
 --     numbersOf-length, writes-model, writes-few, writes-none     the whole
@@ -16,12 +16,12 @@ use lib.ListN.{length, getD, set, drop, replicate, length-append, length-replica
 use lib.Seq.{sets, sets-eq, length-sets}
 use borrow.Author.Tests.{eq-eqb, ne-eqb}
 use Rattle.base.specs.Index.{tabulate}
-use Rattle.base.proofs.IndexLaws.{tabulate-length, tabulate-more}
 use Rattle.model.specs.declared.Op.{Op}
 use Rattle.model.specs.declared.Op.the-variants.{Set, Add, Copy, AddVariable, SubVariable, Notify}
 use Rattle.model.specs.declared.Closer.{Closer}
 use Rattle.model.specs.declared.Closer.the-variants.{End, Time, Event}
 use Rattle.model.specs.declared.Segment.{Segment}
+use Rattle.model.specs.declared.Start.{Start}
 use Rattle.model.specs.declared.Model.{Model}
 use Rattle.model.specs.Values.{noStatement, segmentAt, startAt}
 use Rattle.model.specs.Rules.{modelFault}
@@ -31,33 +31,18 @@ use Rattle.buffers.proofs.WriteLaws.{placedIn-room, placedIn-stored, lengthIn-r
 use Rattle.model_rules.proofs.FaultLaws.{segmentAt-read}
 use Rattle.model_rules.proofs.RuleLaws.{modelFault-statements}
 use Rattle.writer.specs.Bytes.{joined}
-use Rattle.export_model.specs.Numbers.{sizeOf, segmentPlace, nextNumbers, closerNumbers, opNumbers, segmentNumbers, numbersOf}
+use Rattle.export_model.specs.Numbers.{sizeOf, segmentPlace, nextNumbers, closerNumbers, opNumbers, segmentNumbers, startNumbers, numbersOf}
 
 -- runs of stores
 pub stored-length : (l out xs : List ℕ) (i : ℕ) → out ≡ sets l i xs → length out ≡ length l
 stored-length l out xs i e = ap length e ∙ length-sets l i xs
 
-pub tabulate-start : (l : List ℕ) (p : ℕ) (f : ℕ → ℕ) → l ≡ sets l p (tabulate 0 0 f)
-unfolding tabulate
-tabulate-start l p f = refl
-
 pub joined-start : (l : List ℕ) (p : ℕ) (f : ℕ → List ℕ) → l ≡ sets l p (joined 0 0 f)
 unfolding joined
 joined-start l p f = refl
 
-pub tabulate-put :
-    (l out : List ℕ) (p i n x : ℕ) (f : ℕ → ℕ) → out ≡ sets l p (tabulate i 0 f) → n ≡ p + i → x ≡ f i →
-    set out n x ≡ sets l p (tabulate (i + 1) 0 f)
-tabulate-put l out p i n x f e h g =
-    let t : tabulate (suc i) 0 f ≡ tabulate i 0 f ++ (f i ∷ []) = tabulate-more i 0 f ∙ rw (zero-add i) refl in
-    rw (add-one, t, g) (sets-more (tabulate i 0 f) (f i ∷ []) l out p n e (omega (arith, tabulate-length i 0 f)))
-
-pub tabulate-all :
-    (l out : List ℕ) (p q k t : ℕ) (f : ℕ → ℕ) → p ≡ q → k ≡ t → out ≡ sets l p (tabulate k 0 f) → out ≡ sets l q (tabulate t 0 f)
-tabulate-all l out p q k t f g h e = rw (g, h) at e
-
-pub joined-all : (l out : List ℕ) (p k t : ℕ) (f : ℕ → List ℕ) → k ≡ t → out ≡ sets l p (joined k 0 f) → out ≡ sets l p (joined t 0 f)
-joined-all l out p k t f h e = rw h at e
+pub joined-all : (l out : List ℕ) (p q k t : ℕ) (f : ℕ → List ℕ) → p ≡ q → k ≡ t → out ≡ sets l p (joined k 0 f) → out ≡ sets l q (joined t 0 f)
+joined-all l out p q k t f g h e = rw (g, h) at e
 
 pub joined-more : (n i : ℕ) (f : ℕ → List ℕ) → joined (suc n) i f ≡ joined n i f ++ f (i + n)
 unfolding joined
@@ -95,6 +80,10 @@ opNumbers-length (Copy a b) = refl
 opNumbers-length (AddVariable a b) = refl
 opNumbers-length (SubVariable a b) = refl
 opNumbers-length (Notify e) = refl
+
+pub startNumbers-length : (s : Start) → length (startNumbers s) ≡ 9
+unfolding startNumbers tabulate
+startNumbers-length s = refl
 
 drop-zeros : (n k : ℕ) → drop {A = ℕ} k (replicate n 0) ≡ replicate (n - k) 0
 drop-zeros n zero = let e : n ≡ n - 0 = omega arith in ap (λ (m : ℕ). replicate m 0) e
@@ -175,7 +164,11 @@ module _ (m : Model) (fit : modelFault m ≡ 0) where
   segmentsNumbers = joined (m .n) 0 (λ i. segmentNumbers (segmentAt m i))
 
   startsNumbers : List ℕ
-  startsNumbers = tabulate (m .t) 0 (λ k. startAt m k .first)
+  startsNumbers = joined (m .t) 0 (λ k. startNumbers (startAt m k))
+
+  startsNumbers-length : length startsNumbers ≡ 9 * m .t
+  unfolding startsNumbers
+  startsNumbers-length = joined-length 9 (m .t) 0 (λ k. startNumbers (startAt m k)) (λ k l. startNumbers-length (startAt m k))
 
   segmentsNumbers-length : length segmentsNumbers ≡ 104 * m .n
   unfolding segmentsNumbers
@@ -186,7 +179,7 @@ module _ (m : Model) (fit : modelFault m ≡ 0) where
   numbersOf-length = rw (
     length-append segmentsNumbers startsNumbers,
     segmentsNumbers-length,
-    tabulate-length (m .t) 0 (λ k. startAt m k .first),
+    startsNumbers-length,
   ) (omega arith)
 
   -- head, segments, threads: one run of stores
@@ -208,7 +201,7 @@ module _ (m : Model) (fit : modelFault m ≡ 0) where
       (out a b end : List ℕ) (n : ℕ) → n ≡ sizeOf (m .n) (m .t) → n ≤ length out →
       a ≡ sets out 0 (m .horizon .0 ∷ m .v ∷ m .e ∷ m .n ∷ m .t ∷ []) →
       b ≡ sets a 5 (joined (m .n) 0 (λ i. segmentNumbers (segmentAt m i))) →
-      end ≡ sets b (segmentPlace (m .n)) (tabulate (m .t) 0 (λ k. startAt m k .first)) →
+      end ≡ sets b (segmentPlace (m .n)) (joined (m .t) 0 (λ k. startNumbers (startAt m k))) →
       Writes out end n (cond (eqb (modelFault m) 0) (numbersOf m) [])
   unfolding headNumbers segmentsNumbers startsNumbers
   writes-model out a b end n h room p q e =

@@ -4,29 +4,32 @@
 --     opFault-first, opFault-both, opFault-notify     a statement by its operation
 --     startLeaves-above, startLeaves-below, anyStart-here, anyStart-none, anySegment-here, anySegment-none     the loops over targets
 --     segment-length, segment-count, segment-closer, segment-statements     a segment
---     targets-number, number-short, number-long     the whole
+--     portOf-filled, port-wrong, start-count, start-ports     a thread
+--     targets-number, number-short, number-parts, number-lack     the whole
 use Prim.Native.Nat.{ℕ, _+_, _<_, _≤_}
 use mathlib.Core.Path.{_≡_, refl, sym, ap, _∙_}
 use mathlib.Core.Bool.{Bool, true, false, cond, not, _&&_, _||_}
 use mathlib.Core.List.{List}
+use native.Mathlib.Nat.{zero-add}
 use native.Mathlib.Omega.{arith}
 use lib.Dec.{T, eqb, ltb, leb}
 use lib.ListN.{length}
 use borrow.Author.Tests.{eq-eqb, ne-eqb, lt-ltb, le-ltb, le-leb, lt-leb}
-use Rattle.base.specs.Index.{anyBelow, orElse, firstBelow}
+use Rattle.base.specs.Index.{anyBelow, orElse, firstBelow, tabulate}
 use Rattle.base.proofs.BoolLaws.{true→T, false→T}
-use Rattle.base.proofs.IndexLaws.{anyBelow-empty, anyBelow-here, orElse-none}
+use Rattle.base.proofs.IndexLaws.{anyBelow-empty, anyBelow-here, orElse-none, tabulate-at}
 use Rattle.model.specs.declared.Next.{Next}
 use Rattle.model.specs.declared.Op.{Op}
 use Rattle.model.specs.declared.Op.the-variants.{Set, Add, Copy, AddVariable, SubVariable, Notify}
 use Rattle.model.specs.declared.Closer.the-variants.{End, Time, Event}
 use Rattle.model.specs.Limits.{largestTime}
-use Rattle.model.specs.Rules.{unless, choiceFault, testFault, closerFault, opFault, leavesModel}
+use Rattle.model.specs.Port.{portOf}
+use Rattle.model.specs.Rules.{unless, choiceFault, isName, testFault, closerFault, opFault, portsFault, leavesModel, lackFault}
 use Rattle.reader.specs.Closer.{closerOf}
 use Rattle.reader.specs.Statement.{opOf}
-use Rattle.model_rules.proofs.FaultLaws.{unless-kept, unless-broken, fault-here, fault-later}
-use Rattle.export_model.specs.Numbers.{numberAt, countN, countT, segmentPlace, statementPlace, startPlace, sizeOf, closerHeld, statementsHeld}
-use Rattle.export_model.specs.Judged.{closerNumbersFault, opNumbersFault, segmentNumbersFault, targetNumbersFault, numbersFault, numbersNumber}
+use Rattle.model_rules.proofs.FaultLaws.{unless-kept, unless-broken, fault-here, fault-later, portWrong, portWrong-is}
+use Rattle.export_model.specs.Numbers.{numberAt, countN, countT, segmentPlace, statementPlace, startPlace, portPlace, sizeOf, closerHeld, statementsHeld}
+use Rattle.export_model.specs.Judged.{closerNumbersFault, opNumbersFault, segmentNumbersFault, startNumbersFault, targetNumbersFault, partsFault, numbersFault, numbersNumber, modelHeld}
 
 -- all but the kind of a closer
 module _ (xs : List ℕ) (p : ℕ) where
@@ -81,25 +84,25 @@ opBy a b b1 b2 b3 b4 b5 =
     cond b1 (Set a b) (cond b2 (Add a b) (cond b3 (Copy a b) (cond b4 (AddVariable a b) (cond b5 (SubVariable a b) (Notify a)))))
 
 module _ (v e op a b : ℕ) where
-  pub opFault-first : (eqb op 1 || eqb op 2) ≡ true → unless (ltb a v) 7 ≡ opFault v e (opOf op a b)
+  pub opFault-first : (eqb op 1 || eqb op 2) ≡ true → unless (isName v a) 7 ≡ opFault v e (opOf op a b)
   unfolding opFault
   opFault-first h = go (eqb op 1) (eqb op 2) (true→T (eqb op 1 || eqb op 2) h)
     where
-      go : (b1 b2 : Bool) → T (b1 || b2) → unless (ltb a v) 7 ≡ opFault v e (opBy a b b1 b2 (eqb op 3) (eqb op 4) (eqb op 5))
+      go : (b1 b2 : Bool) → T (b1 || b2) → unless (isName v a) 7 ≡ opFault v e (opBy a b b1 b2 (eqb op 3) (eqb op 4) (eqb op 5))
       go true b2 t = refl
       go false true t = refl
       go false false t = absurd t
 
   pub opFault-both :
       (eqb op 1 || eqb op 2) ≡ false → (eqb op 3 || (eqb op 4 || eqb op 5)) ≡ true →
-      unless (ltb a v && ltb b v) 7 ≡ opFault v e (opOf op a b)
+      unless (isName v a && isName v b) 7 ≡ opFault v e (opOf op a b)
   unfolding opFault
   opFault-both g h = go (eqb op 1) (eqb op 2) (eqb op 3) (eqb op 4) (eqb op 5) (false→T (eqb op 1 || eqb op 2) g)
       (true→T (eqb op 3 || (eqb op 4 || eqb op 5)) h)
     where
       go :
           (b1 b2 b3 b4 b5 : Bool) → T (not (b1 || b2)) → T (b3 || (b4 || b5)) →
-          unless (ltb a v && ltb b v) 7 ≡ opFault v e (opBy a b b1 b2 b3 b4 b5)
+          unless (isName v a && isName v b) 7 ≡ opFault v e (opBy a b b1 b2 b3 b4 b5)
       go true b2 b3 b4 b5 s t = absurd s
       go false true b3 b4 b5 s t = absurd s
       go false false true b4 b5 s t = refl
@@ -189,6 +192,25 @@ module _ (xs : List ℕ) (i n : ℕ) (is : n ≡ statementsHeld xs i) where
           fault-later _ _ y length-kept
           (fault-later _ _ y (unless-kept (ltb i 64) 4 (lt-ltb i 64 h)) (fault-later _ _ y (sym closer ∙ z) (rw is at s)))
 
+-- a thread: 4, its ports
+pub portOf-filled : (f : ℕ → ℕ) (p : ℕ) → p < 8 → portOf (tabulate 8 0 f) p ≡ f p
+portOf-filled f p l = tabulate-at 8 0 p f 0 l ∙ ap f (zero-add p)
+
+pub port-wrong :
+    (v : ℕ) (f : ℕ → ℕ) (p : ℕ) (t : Bool) → p < 8 → not (eqb (f p) 255 || ltb (f p) v) ≡ t → portWrong v (tabulate 8 0 f) p ≡ t
+port-wrong v f p t l e = portWrong-is v (tabulate 8 0 f) p t (rw (portOf-filled f p l) e)
+
+module _ (xs : List ℕ) (k : ℕ) where
+  pub start-count : 32 ≤ k → 4 ≡ startNumbersFault xs k
+  unfolding startNumbersFault
+  start-count h = fault-here _ _ 4 (unless-broken (ltb k 32) 4 (le-ltb k 32 h)) (λ z. omega arith)
+
+  pub start-ports :
+      (n x : ℕ) → n ≡ countN xs → k < 32 → x ≡ portsFault (numberAt xs 1) (tabulate 8 0 (λ p. numberAt xs (portPlace n k p))) →
+      x ≡ startNumbersFault xs k
+  unfolding startNumbersFault
+  start-ports n x is h e = fault-later _ _ x (unless-kept (ltb k 32) 4 (lt-ltb k 32 h)) (rw is at e)
+
 -- the whole: segments and threads as they are counted
 module _ (xs : List ℕ) (n t : ℕ) (is : n ≡ countN xs) (is′ : t ≡ countT xs) where
   pub targets-number :
@@ -202,7 +224,14 @@ module _ (xs : List ℕ) (n t : ℕ) (is : n ≡ countN xs) (is′ : t ≡ count
   number-short h =
       fault-here _ _ 11 (unless-broken (leb (sizeOf (countN xs) (countT xs)) (length xs)) 11 (lt-leb _ _ (rw (is, is′) at h))) (λ z. omega arith)
 
-  pub number-long : (x : ℕ) → sizeOf n t ≤ length xs → x ≡ numbersFault xs → x ≡ numbersNumber xs
-  unfolding numbersNumber
-  number-long x h e =
-      fault-later _ _ x (unless-kept (leb (sizeOf (countN xs) (countT xs)) (length xs)) 11 (le-leb _ _ (rw (is, is′) at h))) e
+  module _ (h : sizeOf n t ≤ length xs) where
+    length-enough : unless (leb (sizeOf (countN xs) (countT xs)) (length xs)) 11 ≡ 0
+    length-enough = unless-kept (leb (sizeOf (countN xs) (countT xs)) (length xs)) 11 (le-leb _ _ (rw (is, is′) at h))
+
+    pub number-parts : (x : ℕ) → x ≡ partsFault xs → (x ≡ 0 → ⊥) → x ≡ numbersNumber xs
+    unfolding numbersNumber numbersFault
+    number-parts x e z = fault-later _ _ x length-enough (fault-here _ _ x e z)
+
+    pub number-lack : (x : ℕ) → partsFault xs ≡ 0 → x ≡ lackFault (modelHeld xs) → x ≡ numbersNumber xs
+    unfolding numbersNumber numbersFault
+    number-lack x z e = fault-later _ _ x length-enough (fault-later _ _ x z e)

@@ -1,8 +1,9 @@
 -- The model of numbers without a fault keeps the file rules.
 --     filledTo-at     an element of a list filled from the front
 --     segmentAt-held, startAt-held, statement-held     what the model has at each place
+--     lack-held     18 of it, as the code finds it
 --     held-kept     so it has no fault
-use Prim.Native.Nat.{ℕ, _-_, _<_}
+use Prim.Native.Nat.{ℕ, _-_, _<_, _≤_}
 use mathlib.Core.Path.{_≡_, refl, ap, _∙_}
 use mathlib.Core.Bool.{false, not}
 use mathlib.Core.List.{List}
@@ -12,17 +13,18 @@ use lib.Dec.{ltb, leb}
 use lib.ListN.{getD, replicate, List·getD-append}
 use borrow.Author.Tests.{lt-ltb, le-leb}
 use Rattle.base.specs.Index.{tabulate}
-use Rattle.base.proofs.IndexLaws.{anyBelow-empty, orElse-none, firstBelow-all, tabulate-length, tabulate-at}
+use Rattle.base.proofs.IndexLaws.{anyBelow-empty, orElse-none, orElse-zero, firstBelow-all, tabulate-length, tabulate-at}
 use Rattle.model.specs.declared.Statement.{Statement}
 use Rattle.model.specs.declared.Segment.{Segment}
 use Rattle.model.specs.declared.Start.{Start}
-use Rattle.model.specs.Values.{noStatement, noSegment, noStart, segmentAt, startAt}
-use Rattle.model.specs.Rules.{headFault, opFault, statementsFault, segmentFault, segmentsFault, countsFault, leavesModel, anySegmentLeaves, anyStartLeaves, targetsFault, modelFault}
+use Rattle.model.specs.declared.Model.{Model}
+use Rattle.model.specs.Values.{noStatement, noSegment, noStart, segmentAt, startAt, portsAt}
+use Rattle.model.specs.Rules.{unless, headFault, opFault, statementsFault, segmentFault, segmentsFault, portsFault, startsFault, countsFault, leavesModel, anySegmentLeaves, anyStartLeaves, targetsFault, lackFault, linksFault, modelFault}
 use Rattle.model_rules.proofs.FaultLaws.{unless-kept}
-use Rattle.export_model.specs.Numbers.{numberAt, countN, countT, statementPlace, startPlace, opHeld, statementsHeld}
-use Rattle.export_model.specs.Judged.{countNumbersFault, numbersNumber, segmentHeld, modelHeld}
-use Rattle.export_model.proofs.HeldLaws.{held-head, held-count, held-counts, held-statements, held-closer-value, held-op-value, held-leaves, held-first}
-use Rattle.export_model.proofs.FillLaws.{filledTo}
+use Rattle.export_model.specs.Numbers.{numberAt, countN, countT, statementPlace, opHeld, statementsHeld}
+use Rattle.export_model.specs.Judged.{countNumbersFault, partsFault, numbersNumber, segmentHeld, modelHeld}
+use Rattle.export_model.proofs.HeldLaws.{held-head, held-count, held-counts, held-statements, held-closer-value, held-op-value, held-leaves, held-first, held-ports, held-parts, held-lack}
+use Rattle.export_model.proofs.FillLaws.{filledTo, startHeld}
 
 pub filledTo-at : {A : Type 0} (most : ℕ) (d : A) (f : ℕ → A) (n j : ℕ) → j < n → getD (filledTo most d f n) j d ≡ f j
 filledTo-at most d f n j h =
@@ -34,10 +36,9 @@ module _ (xs : List ℕ) where
   unfolding segmentAt modelHeld
   segmentAt-held i l = filledTo-at 64 noSegment (segmentHeld xs) (countN xs) i l
 
-  pub startAt-held : (k : ℕ) → k < countT xs → startAt (modelHeld xs) k .first ≡ numberAt xs (startPlace (countN xs) k)
+  pub startAt-held : (k : ℕ) → k < countT xs → startAt (modelHeld xs) k ≡ startHeld xs (countN xs) k
   unfolding startAt modelHeld
-  startAt-held k l =
-      ap (λ (s : Start). s .first) (filledTo-at 32 noStart (λ k. record { first = numberAt xs (startPlace (countN xs) k) }) (countT xs) k l)
+  startAt-held k l = filledTo-at 32 noStart (startHeld xs (countN xs)) (countT xs) k l
 
   pub statement-held :
       (i j : ℕ) → j < statementsHeld xs i → getD (segmentHeld xs i .statements) j noStatement .op ≡ opHeld xs (statementPlace i j)
@@ -46,7 +47,7 @@ module _ (xs : List ℕ) where
       ap (λ (s : Statement). s .op) (filledTo-at 32 noStatement (λ j. record { op = opHeld xs (statementPlace i j) })
       (statementsHeld xs i) j l)
 
-  module _ (fit : numbersNumber xs ≡ 0) where
+  module _ (fit : partsFault xs ≡ 0) where
     segment-kept : (i : ℕ) → i < countN xs → segmentFault (numberAt xs 1) (numberAt xs 2) (segmentHeld xs i) ≡ 0
     unfolding segmentFault statementsFault segmentHeld
     segment-kept i l =
@@ -66,9 +67,21 @@ module _ (xs : List ℕ) where
         (λ i l. orElse-none _ _ (unless-kept (ltb i 64) 4 (lt-ltb i 64 (omega (arith, held-counts xs fit .segments))))
         ∙ (ap (segmentFault (numberAt xs 1) (numberAt xs 2)) (segmentAt-held i l) ∙ segment-kept i l))
 
+    start-kept : (k : ℕ) → k < countT xs → portsFault (numberAt xs 1) (portsAt (modelHeld xs) k) ≡ 0
+    unfolding portsAt
+    start-kept k l = ap (λ (s : Start). portsFault (numberAt xs 1) (s .ports)) (startAt-held k l) ∙ held-ports xs fit k l
+
+    starts-kept : startsFault (modelHeld xs) ≡ 0
+    unfolding startsFault modelHeld
+    starts-kept =
+        firstBelow-all (countT xs) _
+        (λ k l. orElse-none _ _ (unless-kept (ltb k 32) 4 (lt-ltb k 32 (omega (arith, held-counts xs fit .threads)))) ∙ start-kept k l)
+
     counts-kept : countsFault (modelHeld xs) ≡ 0
     unfolding countsFault modelHeld countNumbersFault
-    counts-kept = held-count xs fit
+    counts-kept =
+        let (n, rest) = orElse-zero (unless (leb 1 (countN xs)) 2) _ (held-count xs fit) in
+        orElse-none _ _ n ∙ (orElse-none _ _ (orElse-zero (unless (leb 1 (countT xs)) 2) _ rest .0) ∙ starts-kept)
 
     segments-stay : anySegmentLeaves (modelHeld xs) ≡ false
     unfolding anySegmentLeaves modelHeld segmentHeld
@@ -80,12 +93,26 @@ module _ (xs : List ℕ) where
     unfolding anyStartLeaves modelHeld
     starts-stay =
         anyBelow-empty (countT xs) _
-        (λ k l. ap (λ (s : ℕ). not (ltb s (countN xs))) (startAt-held k l) ∙ ap not (lt-ltb _ _ (held-first xs fit k l)))
+        (λ k l. ap (λ (s : Start). not (ltb (s .first) (countN xs))) (startAt-held k l) ∙ ap not (lt-ltb _ _ (held-first xs fit k l)))
 
     targets-kept : targetsFault (modelHeld xs) ≡ 0
     unfolding targetsFault
     targets-kept = rw (segments-stay, starts-stay) refl
 
-    pub held-kept : modelFault (modelHeld xs) ≡ 0
-    unfolding modelFault
-    held-kept = orElse-none _ _ head-kept ∙ (orElse-none _ _ segments-kept ∙ (orElse-none _ _ counts-kept ∙ targets-kept))
+    first-held : (k : ℕ) → k < countT xs → startAt (modelHeld xs) k .first < countN xs
+    first-held k l = rw (startAt-held k l) (held-first xs fit k l)
+
+    -- 18 of the model, as the code finds it
+    pub lack-held :
+        (m : Model) (x : ℕ) → m ≡ modelHeld xs →
+        (m .n ≤ 64 → m .t ≤ 32 → ((k : ℕ) → k < m .t → startAt m k .first < m .n) → x ≡ lackFault m) → x ≡ lackFault (modelHeld xs)
+    unfolding modelHeld
+    lack-held m x e f = (rw e at f) (held-counts xs fit .segments) (held-counts xs fit .threads) first-held
+
+  pub held-kept : numbersNumber xs ≡ 0 → modelFault (modelHeld xs) ≡ 0
+  unfolding modelFault linksFault
+  held-kept fit =
+      let parts = held-parts xs fit in
+      orElse-none _ _ (head-kept parts)
+      ∙ (orElse-none _ _ (segments-kept parts)
+      ∙ (orElse-none _ _ (counts-kept parts) ∙ (orElse-none _ _ (targets-kept parts) ∙ held-lack xs fit)))

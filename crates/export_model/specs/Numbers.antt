@@ -1,5 +1,6 @@
 -- Document 02, slip 2, for C and Rust: "a model held as values", as numbers in a lent slice. H, V, E, N, T; then 104 numbers for each
--- segment: kind, event, delay, A, B, test, limit, n, and 32 places for statements of operation, a, b; then each thread's first segment.
+-- segment: kind, event, delay, A, B, test, limit, n, and 32 places for statements of operation, a, b; then nine for each thread: its first
+-- segment and its ports.
 use Prim.Native.Nat.{ℕ, _+_, _-_, _*_}
 use mathlib.Core.List.{List, [], _∷_, _++_}
 use lib.ListN.{getD, replicate}
@@ -10,7 +11,9 @@ use Rattle.model.specs.declared.Op.the-variants.{Set, Add, Copy, AddVariable, S
 use Rattle.model.specs.declared.Closer.{Closer}
 use Rattle.model.specs.declared.Closer.the-variants.{End, Time, Event}
 use Rattle.model.specs.declared.Segment.{Segment}
+use Rattle.model.specs.declared.Start.{Start}
 use Rattle.model.specs.declared.Model.{Model}
+use Rattle.model.specs.Port.{portOf}
 use Rattle.model.specs.Values.{noStatement, segmentAt, startAt}
 use Rattle.reader.specs.Closer.{closerOf}
 use Rattle.reader.specs.Statement.{opOf}
@@ -25,7 +28,7 @@ countN xs = numberAt xs 3
 abbrev pub countT : List ℕ → ℕ
 countT xs = numberAt xs 4
 
--- where segment i begins, where its statement j begins, where thread k stands
+-- where segment i begins, where its statement j begins, where thread k stands, and its port p
 abbrev pub segmentPlace : ℕ → ℕ
 segmentPlace i = 5 + 104 * i
 
@@ -33,7 +36,10 @@ abbrev pub statementPlace : ℕ → ℕ → ℕ
 statementPlace i j = segmentPlace i + 8 + 3 * j
 
 abbrev pub startPlace : ℕ → ℕ → ℕ
-startPlace n k = segmentPlace n + k
+startPlace n k = segmentPlace n + 9 * k
+
+abbrev pub portPlace : ℕ → ℕ → ℕ → ℕ
+portPlace n k p = startPlace n k + 1 + p
 
 -- how many numbers a model of n segments and t threads takes
 abbrev pub sizeOf : ℕ → ℕ → ℕ
@@ -77,6 +83,10 @@ segmentNumbers g =
     closerNumbers (g .closer)
     ++ (g .n ∷ (joined (g .n) 0 (λ j. opNumbers (getD (g .statements) j noStatement .op)) ++ replicate (96 - 3 * g .n) 0))
 
+unfoldable pub startNumbers : Start → List ℕ
+startNumbers s = s .first ∷ tabulate 8 0 (λ p. portOf (s .ports) p)
+
 unfoldable pub numbersOf : Model → List ℕ
 numbersOf m =
-    m .horizon .0 ∷ m .v ∷ m .e ∷ m .n ∷ m .t ∷ (joined (m .n) 0 (λ i. segmentNumbers (segmentAt m i)) ++ tabulate (m .t) 0 (λ k. startAt m k .first))
+    m .horizon .0 ∷ m .v ∷ m .e ∷ m .n ∷ m .t
+    ∷ (joined (m .n) 0 (λ i. segmentNumbers (segmentAt m i)) ++ joined (m .t) 0 (λ k. startNumbers (startAt m k)))

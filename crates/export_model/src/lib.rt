@@ -9,7 +9,7 @@ use model::Op;
 use model::Segment;
 use model::Start;
 use model::Statement;
-ghost use Prim.Native.Nat.{_+_, _-_, _<_, _≤_};
+ghost use Prim.Native.Nat.{ℕ, _+_, _-_, _<_, _≤_};
 ghost use mathlib.Core.Path.{_≡_};
 ghost use mathlib.Core.Bool.{cond, not};
 ghost use mathlib.Core.List.{[], _∷_, _++_};
@@ -20,17 +20,24 @@ ghost use Rattle.base.specs.Index.{anyBelow, orElse, firstBelow, tabulate};
 ghost use Rattle.buffers.specs.Write.{Writes};
 ghost use Rattle.model.specs.Refusal.{wrongCloser, wrongName};
 ghost use Rattle.model.specs.Values.{noSegment, noStart, noModel, segmentAt, startAt};
-ghost use Rattle.model.specs.Rules.{unless, headFault, choiceFault, testFault, closerFault, opFault, leavesModel, modelFault};
+ghost use Rattle.model.specs.Rules.{unless, headFault, choiceFault, isName, testFault, closerFault, opFault, portsFault, leavesModel, modelFault};
 ghost use Rattle.reader.specs.Closer.{closerFormFault};
 ghost use Rattle.reader.specs.Statement.{opOf, opFormFault};
 ghost use Rattle.writer.specs.Bytes.{joined};
-ghost use Rattle.export_model.specs.Numbers.{numberAt, countN, countT, segmentPlace, statementPlace, startPlace, sizeOf, nextHeld, closerHeld, closerNumbers, opNumbers, segmentNumbers, numbersOf};
-ghost use Rattle.export_model.specs.Judged.{closerNumbersFault, opNumbersFault, segmentNumbersFault, countNumbersFault, targetNumbersFault, numbersFault, numbersNumber, segmentHeld, modelHeld, heldOr};
+ghost use Rattle.export_model.specs.Numbers.{numberAt, countN, countT, segmentPlace, statementPlace, startPlace, portPlace, sizeOf, nextHeld, closerHeld, closerNumbers, opNumbers, segmentNumbers, startNumbers, numbersOf};
+ghost use Rattle.export_model.specs.Judged.{closerNumbersFault, opNumbersFault, segmentNumbersFault, startNumbersFault, countNumbersFault, targetNumbersFault, partsFault, numbersNumber, segmentHeld, modelHeld, heldOr};
 
 fn size_of(x: u32) -> usize
     ensures { λ r. ⌜ (r ≡ x) × (r ≤ 4294967295) ⌝ }
 {
     x as usize
+}
+
+// A variable of the model, or a port.
+fn is_name(v: u32, x: u32) -> bool
+    ensures { λ r. ⌜ r ≡ isName v x ⌝ }
+{
+    (x < v) | ((128 <= x) & (x < 136))
 }
 
 // 4 where the horizon or a count is out of range.
@@ -79,7 +86,7 @@ fn closer_form_fault(xs: &[u32], p: usize) -> u8
 }
 
 // 5 where the delay is too long, or there is no test and B is not A or the limit not 0; then 7 where the event is not below
-// E, or the test variable not below V.
+// E, or the test variable neither below V nor a port.
 fn next_fault(xs: &[u32], p: usize, short: bool, named: bool) -> u8
     requires { ⌜ p + 104 ≤ length (now xs) ⌝ }
     ensures { λ r. ⌜ r ≡ orElse (unless short wrongCloser) (orElse (choiceFault (nextHeld (now (xs .entry)) p)) (orElse (unless named wrongName) (testFault (numberAt (now (xs .entry)) 1) (nextHeld (now (xs .entry)) p)))) ⌝ }
@@ -93,7 +100,8 @@ fn next_fault(xs: &[u32], p: usize, short: bool, named: bool) -> u8
     if choice != 0 {
         return choice;
     }
-    model_rules::unless(named & (untested | (test < xs[1])), 7)
+    let tested = is_name(xs[1], test);
+    model_rules::unless(named & (untested | tested), 7)
 }
 
 // The closer's 5 and 7 as a value.
@@ -135,10 +143,10 @@ fn op_value_fault(v: u32, e: u32, op: u32, a: u32, b: u32) -> u8
     ensures { λ r. ⌜ r ≡ opFault v e (opOf op a b) ⌝ }
 {
     if (op == 1) | (op == 2) {
-        return model_rules::unless(a < v, 7);
+        return model_rules::unless(is_name(v, a), 7);
     }
     if (op == 3) | ((op == 4) | (op == 5)) {
-        return model_rules::unless((a < v) & (b < v), 7);
+        return model_rules::unless(is_name(v, a) & is_name(v, b), 7);
     }
     model_rules::unless(a < e, 7)
 }
@@ -215,17 +223,60 @@ fn segments_fault(xs: &[u32], n: usize) -> u8
     0
 }
 
-// 2 for no segment or no thread, 4 for a 33rd thread.
-fn counts_fault(xs: &[u32]) -> u8
-    requires { ⌜ 5 ≤ length (now xs) ⌝ }
+// 17 where one of the eight ports from place p on is neither unused nor a variable of the model.
+fn ports_fault(xs: &[u32], p: usize) -> u8
+    requires { ⌜ (5 ≤ p) × (p + 8 ≤ length (now xs)) ⌝ }
+    ensures { λ r. ⌜ r ≡ portsFault (numberAt (now (xs .entry)) 1) (tabulate 8 0 (λ i. numberAt (now (xs .entry)) (p + i))) ⌝ }
+{
+    let v = xs[1];
+    let mut i = 0;
+    while i < 8 {
+        let x = xs[p + i];
+        if !((x == 255) | (x < v)) {
+            return 17;
+        }
+        i += 1;
+    }
+    0
+}
+
+// A thread's 4, then its ports' 17.
+fn start_fault(xs: &[u32], n: usize, k: usize) -> u8
+    requires { ⌜ (startPlace n k + 9 ≤ length (now xs)) × (n ≡ countN (now xs)) ⌝ }
+    ensures { λ r. ⌜ r ≡ startNumbersFault (now (xs .entry)) k ⌝ }
+{
+    if 32 <= k {
+        return 4;
+    }
+    ports_fault(xs, 5 + 104 * n + 9 * k + 1)
+}
+
+// The first fault of t threads.
+fn starts_fault(xs: &[u32], n: usize, t: usize) -> u8
+    requires { ⌜ (sizeOf n t ≤ length (now xs)) × (n ≡ countN (now xs)) ⌝ }
+    ensures { λ r. ⌜ r ≡ firstBelow t (λ k. startNumbersFault (now (xs .entry)) k) ⌝ }
+{
+    let mut k = 0;
+    while k < t {
+        let fault = start_fault(xs, n, k);
+        if fault != 0 {
+            return fault;
+        }
+        k += 1;
+    }
+    0
+}
+
+// 2 for no segment or no thread, then thread by thread.
+fn counts_fault(xs: &[u32], n: usize, t: usize) -> u8
+    requires { ⌜ (sizeOf n t ≤ length (now xs)) × (n ≡ countN (now xs)) × (t ≡ countT (now xs)) ⌝ }
     ensures { λ r. ⌜ r ≡ countNumbersFault (now (xs .entry)) ⌝ }
 {
-    let t = xs[4];
-    let none = model_rules::unless((1 <= xs[3]) & (1 <= t), 2);
+    let none = model_rules::unless((1 <= n) & (1 <= t), 2);
     if none != 0 {
         return none;
     }
-    model_rules::unless(t <= 32, 4)
+    starts_fault(xs, n, t)
 }
 
 // Whether a next segment of the closer at p is not below N.
@@ -258,7 +309,7 @@ fn any_start_leaves(xs: &[u32], n: usize, t: usize) -> bool
 {
     let mut k = 0;
     while k < t {
-        if xs[3] <= xs[5 + 104 * n + k] {
+        if xs[3] <= xs[5 + 104 * n + 9 * k] {
             return true;
         }
         k += 1;
@@ -276,10 +327,10 @@ fn targets_fault(xs: &[u32], n: usize, t: usize) -> u8
     model_rules::unless(!(next | first), 8)
 }
 
-// The first fault in file order, in a slice that is long enough.
-fn numbers_fault(xs: &[u32], n: usize, t: usize) -> u8
+// The first fault in file order, up to 8, in a slice that is long enough.
+fn parts_fault(xs: &[u32], n: usize, t: usize) -> u8
     requires { ⌜ (sizeOf n t ≤ length (now xs)) × (n ≡ countN (now xs)) × (t ≡ countT (now xs)) ⌝ }
-    ensures { λ r. ⌜ r ≡ numbersFault (now (xs .entry)) ⌝ }
+    ensures { λ r. ⌜ r ≡ partsFault (now (xs .entry)) ⌝ }
 {
     let head = head_fault(xs);
     if head != 0 {
@@ -289,23 +340,11 @@ fn numbers_fault(xs: &[u32], n: usize, t: usize) -> u8
     if segments != 0 {
         return segments;
     }
-    let counts = counts_fault(xs);
+    let counts = counts_fault(xs, n, t);
     if counts != 0 {
         return counts;
     }
     targets_fault(xs, n, t)
-}
-
-// Numbers that hold a model, judged: 11 where the slice is shorter than its counts ask for, then the first fault in file order.
-pub fn held_number(xs: &[u32]) -> u8
-    ensures { λ r. ⌜ r ≡ numbersNumber (now (xs .entry)) ⌝ }
-{
-    let n = size_of(buffers::value_at(xs, 3));
-    let t = size_of(buffers::value_at(xs, 4));
-    if xs.len() < 5 + 104 * n + t {
-        return 11;
-    }
-    numbers_fault(xs, n, t)
 }
 
 // THE MODEL THAT THE NUMBERS HOLD
@@ -332,7 +371,7 @@ fn next_held(xs: &[u32], p: usize) -> Next
 
 // The closer of segment i.
 fn closer_held(xs: &[u32], i: usize) -> Closer
-    requires { ⌜ (segmentPlace i + 104 ≤ length (now xs)) × (numbersNumber (now xs) ≡ 0) × (i < countN (now xs)) ⌝ }
+    requires { ⌜ (segmentPlace i + 104 ≤ length (now xs)) × (partsFault (now xs) ≡ 0) × (i < countN (now xs)) ⌝ }
     ensures { λ r. ⌜ r ≡ closerHeld (now (xs .entry)) (segmentPlace i) ⌝ }
 {
     let p = 5 + 104 * i;
@@ -364,7 +403,7 @@ fn op_held(op: u32, a: u32, b: u32) -> Op
 
 // Segment i.
 fn segment_held(xs: &[u32], i: usize) -> Segment
-    requires { ⌜ (segmentPlace i + 104 ≤ length (now xs)) × (numbersNumber (now xs) ≡ 0) × (i < countN (now xs)) ⌝ }
+    requires { ⌜ (segmentPlace i + 104 ≤ length (now xs)) × (partsFault (now xs) ≡ 0) × (i < countN (now xs)) ⌝ }
     ensures { λ r. ⌜ r ≡ segmentHeld (now (xs .entry)) i ⌝ }
 {
     let p = 5 + 104 * i;
@@ -386,7 +425,7 @@ fn segment_held(xs: &[u32], i: usize) -> Segment
 }
 
 fn segments_held(xs: &[u32], n: usize) -> [Segment; 64]
-    requires { ⌜ (segmentPlace n ≤ length (now xs)) × (n ≤ 64) × (numbersNumber (now xs) ≡ 0) × (n ≡ countN (now xs)) ⌝ }
+    requires { ⌜ (segmentPlace n ≤ length (now xs)) × (n ≤ 64) × (partsFault (now xs) ≡ 0) × (n ≡ countN (now xs)) ⌝ }
     ensures { λ r. ⌜ r ≡ tabulate n 0 (λ i. segmentHeld (now (xs .entry)) i) ++ replicate (64 - n) noSegment ⌝ }
 {
     let mut segments = [model_effect::no_segment(); 64];
@@ -398,24 +437,40 @@ fn segments_held(xs: &[u32], n: usize) -> [Segment; 64]
     segments
 }
 
-fn starts_held(xs: &[u32], n: usize, t: usize) -> [Start; 32]
-    requires { ⌜ (sizeOf n t ≤ length (now xs)) × (t ≤ 32) × (numbersNumber (now xs) ≡ 0) × (n ≡ countN (now xs)) × (t ≡ countT (now xs)) ⌝ }
-    ensures { λ r. ⌜ r ≡ tabulate t 0 (λ k. record { first = numberAt (now (xs .entry)) (startPlace n k) }) ++ replicate (32 - t) noStart ⌝ }
+// The eight ports from place p on.
+fn ports_held(xs: &[u32], p: usize) -> [u8; 8]
+    requires { ⌜ (p + 8 ≤ length (now xs)) × ((i : ℕ) → i < 8 → numberAt (now xs) (p + i) < 256) ⌝ }
+    ensures { λ r. ⌜ r ≡ tabulate 8 0 (λ i. numberAt (now (xs .entry)) (p + i)) ⌝ }
 {
-    let mut starts = [Start { first: 0 }; 32];
+    let mut ports = [0; 8];
+    let mut i = 0;
+    while i < 8 {
+        ports[i] = small(xs[p + i]);
+        i += 1;
+    }
+    ports
+}
+
+fn starts_held(xs: &[u32], n: usize, t: usize) -> [Start; 32]
+    requires { ⌜ (sizeOf n t ≤ length (now xs)) × (t ≤ 32) × (partsFault (now xs) ≡ 0) × (n ≡ countN (now xs)) × (t ≡ countT (now xs)) ⌝ }
+    ensures { λ r. ⌜ r ≡ tabulate t 0 (λ k. record { first = numberAt (now (xs .entry)) (startPlace n k); ports = tabulate 8 0 (λ p. numberAt (now (xs .entry)) (portPlace n k p)) }) ++ replicate (32 - t) noStart ⌝ }
+{
+    let mut starts = [model_effect::no_start(); 32];
     let mut k = 0;
     while k < t {
+        let p = 5 + 104 * n + 9 * k;
         starts[k] = Start {
-            first: small(xs[5 + 104 * n + k]),
+            first: small(xs[p]),
+            ports: ports_held(xs, p + 1),
         };
         k += 1;
     }
     starts
 }
 
-// The model of numbers without a fault.
+// The model of numbers without a fault up to 8.
 fn model_kept(xs: &[u32]) -> Model
-    requires { ⌜ (numbersNumber (now xs) ≡ 0) × (sizeOf (countN (now xs)) (countT (now xs)) ≤ length (now xs)) × (numberAt (now xs) 1 ≤ 64) × (numberAt (now xs) 2 ≤ 32) × (countN (now xs) ≤ 64) × (countT (now xs) ≤ 32) ⌝ }
+    requires { ⌜ (partsFault (now xs) ≡ 0) × (sizeOf (countN (now xs)) (countT (now xs)) ≤ length (now xs)) × (numberAt (now xs) 1 ≤ 64) × (numberAt (now xs) 2 ≤ 32) × (countN (now xs) ≤ 64) × (countT (now xs) ≤ 32) ⌝ }
     ensures { λ r. ⌜ r ≡ modelHeld (now (xs .entry)) ⌝ }
 {
     let n = size_of(xs[3]);
@@ -429,6 +484,22 @@ fn model_kept(xs: &[u32]) -> Model
         segments: segments_held(xs, n),
         starts: starts_held(xs, n, t),
     }
+}
+
+// Numbers that hold a model, judged: 11 where the slice is shorter than its counts ask for, then the first fault in file order.
+pub fn held_number(xs: &[u32]) -> u8
+    ensures { λ r. ⌜ r ≡ numbersNumber (now (xs .entry)) ⌝ }
+{
+    let n = size_of(buffers::value_at(xs, 3));
+    let t = size_of(buffers::value_at(xs, 4));
+    if xs.len() < 5 + 104 * n + 9 * t {
+        return 11;
+    }
+    let fault = parts_fault(xs, n, t);
+    if fault != 0 {
+        return fault;
+    }
+    model_rules::lack_fault(model_kept(xs))
 }
 
 // The model that the numbers hold; zero where there is a number.
@@ -560,15 +631,33 @@ fn put_segments(m: Model, xs: &mut [u32])
     }
 }
 
+// A thread's first segment and its ports.
+fn start_numbers(x: Start) -> [u32; 9]
+    ensures { λ r. ⌜ r ≡ startNumbers x ⌝ }
+{
+    [
+        word_of(x.first),
+        word_of(x.ports[0]),
+        word_of(x.ports[1]),
+        word_of(x.ports[2]),
+        word_of(x.ports[3]),
+        word_of(x.ports[4]),
+        word_of(x.ports[5]),
+        word_of(x.ports[6]),
+        word_of(x.ports[7]),
+    ]
+}
+
 fn put_starts(m: Model, xs: &mut [u32])
     requires { ⌜ (m .n ≤ 64) × (m .t ≤ 32) × (sizeOf (m .n) (m .t) ≤ length (now xs)) ⌝ }
-    ensures { λ _. ⌜ now (xs .exit) ≡ sets (now (xs .entry)) (segmentPlace (m .n)) (tabulate (m .t) 0 (λ k. startAt m k .first)) ⌝ }
+    ensures { λ _. ⌜ now (xs .exit) ≡ sets (now (xs .entry)) (segmentPlace (m .n)) (joined (m .t) 0 (λ k. startNumbers (startAt m k))) ⌝ }
 {
     let p = 5 + 104 * buffers::wide(m.n);
     let t = buffers::wide(m.t);
     let mut k = 0;
     while k < t {
-        xs[p + k] = word_of(m.starts[k].first);
+        let numbers = start_numbers(m.starts[k]);
+        put_numbers(xs, p + 9 * k, &numbers);
         k += 1;
     }
 }
@@ -580,7 +669,7 @@ pub fn numbers_into(m: Model, xs: &mut [u32]) -> usize
     if model_rules::model_fault(m) != 0 {
         return 0;
     }
-    let size = 5 + 104 * buffers::wide(m.n) + buffers::wide(m.t);
+    let size = 5 + 104 * buffers::wide(m.n) + 9 * buffers::wide(m.t);
     if xs.len() < size {
         return 0;
     }

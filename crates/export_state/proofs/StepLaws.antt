@@ -21,7 +21,6 @@ use Rattle.model_rules.proofs.RuleLaws.{modelFault-counts}
 use Rattle.reader.specs.declared.Read.{Read}
 use Rattle.reader.specs.File.{readFile}
 use Rattle.reader_laws.proofs.Accepted.{accepted-kept}
-use Rattle.reader_file.specs.Parts.{refusedWith}
 use Rattle.tables.specs.Outcome.{conflictMarks}
 use Rattle.plain.specs.Start.{freshThreads}
 use Rattle.buffers.specs.Write.{placedIn}
@@ -73,10 +72,8 @@ module _ (file : List ℕ) (fit : Bool) (r : Read) (read : r ≡ readFile file) 
   pub opened-fit : r .number ≡ 0 → fit ≡ true → Opens file fit r
   opened-fit h e = (rw (← read, orElse-none (r .number) _ h, e) h, λ z. read)
 
-  pub opened-unfit : r .number ≡ 0 → fit ≡ false → (x : Read) → x ≡ refusedWith 11 → Opens file fit x
-  opened-unfit h e x q =
-      let n : x .number ≡ 11 = rw q refl in
-      (rw (n, ← read, orElse-none (r .number) _ h, e) refl, λ z. absurd (omega arith))
+  pub opened-unfit : r .number ≡ 0 → fit ≡ false → (x : Read) → x .number ≡ 11 → Opens file fit x
+  opened-unfit h e x n = (rw (n, ← read, orElse-none (r .number) _ h, e) refl, λ z. absurd (omega arith))
 
 -- what it is not fit for: too short, or not those of a state
 module _ (file : List ℕ) (b : Kept) (answer : List ℕ) (r : Read) where

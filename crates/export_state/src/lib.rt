@@ -453,15 +453,15 @@ fn with_room(file: &[u8], variables: &[u32], log: &[u64], records: &[u64]) -> Re
     ensures number { λ r. ⌜ r .number ≡ freshNumber (now (file .entry)) (keeps (now (variables .entry)) (now (log .entry)) (now (records .entry))) ⌝ }
     ensures read { λ r. ⌜ (r .number ≡ 0 → r ≡ readFile (now (file .entry))) ⌝ }
 {
-    let read = reader_file::read_file(file);
+    let mut read = reader_file::read_file(file);
     if read.number != 0 {
         return read;
     }
-    let m = read.model;
-    if has_room(variables, log, records, m.t) {
+    if has_room(variables, log, records, read.model.t) {
         return read;
     }
-    reader_file::refused(11)
+    read.number = 11;
+    read
 }
 
 // The file, with 11 where it is accepted and the numbers are not those of a state of it, or the answer has no room.
@@ -469,15 +469,15 @@ fn with_state(file: &[u8], variables: &[u32], log: &[u64], records: &[u64], answ
     ensures number { λ r. ⌜ r .number ≡ askedNumber (now (file .entry)) (keeps (now (variables .entry)) (now (log .entry)) (now (records .entry))) (now (answer .entry)) ⌝ }
     ensures read { λ r. ⌜ (r .number ≡ 0 → r ≡ readFile (now (file .entry))) ⌝ }
 {
-    let read = reader_file::read_file(file);
+    let mut read = reader_file::read_file(file);
     if read.number != 0 {
         return read;
     }
-    let m = read.model;
-    if may_ask(variables, log, records, m.t, answer) {
+    if may_ask(variables, log, records, read.model.t, answer) {
         return read;
     }
-    reader_file::refused(11)
+    read.number = 11;
+    read
 }
 
 // The fresh state of a model, in the caller's buffers.

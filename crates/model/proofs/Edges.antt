@@ -22,12 +22,14 @@ use Rattle.model.specs.declared.Model.{Model}
 use Rattle.model.specs.declared.State.the-variants.{Ended, Overrun, Ready, Waiting}
 use Rattle.model.specs.Refusal as refusal
 use Rattle.model.specs.Limits.{largestTime, cutTime, recordTime, isUpToHorizon, isBoundUpToHorizon}
-use Rattle.model.specs.Values.{noStatement, noSegment, noStart, noModel, segmentAt, segmentFor, startAt, bodyOf, withHead, withSegment, withStart}
+use Rattle.model.specs.Port.{noPorts, mapSegment, mapStatements, mapped, isPort}
+use Rattle.model.specs.Values.{noStatement, noSegment, noStart, noModel, segmentAt, segmentFor, startAt, bodyOf, withHead, withSegment, withStart, portsAt}
 use Rattle.model.specs.Statement.{executeOp, execute, notifiedBy}
 use Rattle.model.specs.Record.{threadAt, isLive, readyCycle, nothing, awaits, awaitedBy, cycleOf}
 use Rattle.model.specs.Effect.{nextOf, closedAt, effectIn, effectOf, heldState, heldEvents, withOp}
-use Rattle.model.specs.Footprint.{writesOp, readsOp, writes, reads, testsNext, tests, writesOf, usesOf, writesIn, usesIn, has, listedIn, notifiesIn}
-use Rattle.model.specs.Rules.{headFault, choiceFault, testFault, closerFault, opFault, statementsFault, segmentFault, segmentsFault, countsFault, leavesModel, anySegmentLeaves, anyStartLeaves, targetsFault, modelFault}
+use Rattle.model.specs.Footprint.{writesOp, readsOp, writes, reads, testsNext, tests, writesOf, usesOf, writesIn, usesIn, has, listedIn, notifiesIn, namesPort}
+use Rattle.model.specs.Rules.{headFault, choiceFault, testFault, closerFault, opFault, statementsFault, segmentFault, segmentsFault, countsFault, leavesModel, anySegmentLeaves, anyStartLeaves, targetsFault, modelFault, isName, startsFault, portsFault, linksFault, lackFault}
+use Rattle.model.specs.Reach.{lacksFrom, lacksPort}
 
 -- the values that the examples are made of
 abbrev next : ℕ → ℕ → ℕ → ℕ → Next
@@ -51,7 +53,7 @@ model h v e gs ks =
   where
     starting : List ℕ → List Start
     starting [] = []
-    starting (k ∷ ks) = record { first = k } ∷ starting ks
+    starting (k ∷ ks) = record { first = k; ports = noPorts } ∷ starting ks
 
 -- Numbers of refusal, and limits
 
@@ -109,8 +111,8 @@ put-together :
     (withSegment (withSegment noModel noSegment) (segment End (does (Notify 3) ∷ [])) .n ≡ 2) ×
     (segmentAt (withSegment (withSegment noModel noSegment) (segment End (does (Notify 3) ∷ []))) 1 .n ≡ 1) ×
     (segmentAt (withSegment (withSegment noModel noSegment) (segment End (does (Notify 3) ∷ []))) 0 .n ≡ 0) ×
-    (withStart (withStart noModel noStart) (record { first = 7 }) .t ≡ 2) ×
-    (startAt (withStart (withStart noModel noStart) (record { first = 7 })) 1 .first ≡ 7) ×
+    (withStart (withStart noModel noStart) (record { first = 7; ports = noPorts }) .t ≡ 2) ×
+    (startAt (withStart (withStart noModel noStart) (record { first = 7; ports = noPorts })) 1 .first ≡ 7) ×
     (withHead noModel 9 8 7 .horizon .0 ≡ 9) ×
     (withHead noModel 9 8 7 .v ≡ 8) ×
     (withHead noModel 9 8 7 .e ≡ 7)
@@ -240,7 +242,7 @@ tested-after = (refl, refl)
 
 -- segment s of the model, whichever the thread
 effect-of : effectOf (model 9 1 1 (noSegment ∷ segment End (does (Set 0 4) ∷ does (Notify 0) ∷ []) ∷ []) (0 ∷ [])) 0 1 (cycleAt 3 4) (8 ∷ []) ≡ record { variables = 4 ∷ []; notified = 0 ∷ []; thread = record { segment = 1; state = Ended (cycleAt 3 4) } }
-unfolding effectOf effectIn segmentFor segmentAt closedAt execute notifiedBy bodyOf
+unfolding effectOf effectIn segmentFor segmentAt closedAt execute notifiedBy bodyOf mapSegment mapStatements mapped isPort
 effect-of = refl
 
 -- a ready time at 2 ^ 64 - 1, 2 ^ 64 and 2 ^ 64 + 1; other states as they are
@@ -358,7 +360,7 @@ footprint-in :
     (notifiesIn (model 9 4 6 (noSegment ∷ reaching ∷ []) []) 0 1 5 ≡ true) ×
     (notifiesIn (model 9 4 6 (noSegment ∷ reaching ∷ []) []) 0 1 4 ≡ false) ×
     (notifiesIn (model 9 4 6 (noSegment ∷ reaching ∷ []) []) 0 0 5 ≡ false)
-unfolding segmentFor writesIn usesIn writesOf usesOf writes reads tests testsNext notifiesIn listedIn has notifiedBy segmentAt bodyOf
+unfolding segmentFor writesIn usesIn writesOf usesOf writes reads tests testsNext notifiesIn listedIn has notifiedBy segmentAt bodyOf mapSegment mapStatements mapped isPort
 footprint-in = (refl, refl, refl, refl, refl, refl, refl)
 
 -- Rules
@@ -394,7 +396,7 @@ test-variable :
     (testFault 64 (next 0 0 254 0) ≡ 7) ×
     (testFault 0 (next 0 0 255 0) ≡ 0) ×
     (testFault 0 (next 0 0 0 0) ≡ 7)
-unfolding testFault
+unfolding testFault isName isPort
 test-variable = (refl, refl, refl, refl, refl, refl, refl)
 
 -- an end names nothing; the delay at 1,000,000,000 and one more; the event at E - 1 and E
@@ -408,7 +410,7 @@ closers :
     (closerFault 1 0 (waits 0 (next 0 0 0 0)) ≡ 0) ×
     (closerFault 0 0 (waits 0 (next 0 0 0 0)) ≡ 7) ×
     (closerFault 0 1 (Event 0 (next 0 0 0 0)) ≡ 7)
-unfolding closerFault choiceFault testFault orElse
+unfolding closerFault choiceFault testFault orElse isName isPort
 closers = (refl, refl, refl, refl, refl, refl, refl, refl, refl)
 
 -- "the closer's 5 and 7": 5 comes first
@@ -439,7 +441,7 @@ names :
     (opFault 2 0 (SubVariable 1 256) ≡ 7) ×
     (opFault 0 3 (Notify 2) ≡ 0) ×
     (opFault 0 3 (Notify 3) ≡ 7)
-unfolding opFault
+unfolding opFault isName isPort
 names = (refl, refl, refl, refl, refl, refl, refl, refl, refl, refl, refl, refl, refl, refl, refl, refl, refl, refl)
 
 -- 32 and 33 statements; 3 before the closer's 5; the closer's 5 before a statement's 7; a fault past the n statements does not count
@@ -450,7 +452,7 @@ segments :
     (segmentFault 0 0 (segment (waits 1000000001 (always 0)) (does (Set 0 0) ∷ [])) ≡ 5) ×
     (segmentFault 1 0 (segment End (does (Set 0 0) ∷ does (Set 1 0) ∷ [])) ≡ 7) ×
     (segmentFault 1 0 (record { closer = End; n = 1; statements = does (Set 0 0) ∷ does (Set 1 0) ∷ [] }) ≡ 0)
-unfolding segmentFault statementsFault closerFault choiceFault testFault opFault orElse firstBelow
+unfolding segmentFault statementsFault closerFault choiceFault testFault opFault orElse firstBelow isName isPort
 segments = (refl, refl, refl, refl, refl, refl)
 
 -- 64 and 65 segments; the first segment with a fault counts; one past N does not
@@ -460,7 +462,7 @@ each-segment :
     (segmentsFault (model 1 0 0 (segment End (does (Set 0 0) ∷ []) ∷ segment (waits 1000000001 (always 0)) [] ∷ []) []) ≡ 7) ×
     (segmentsFault (model 1 0 0 (segment (waits 1000000001 (always 0)) [] ∷ segment End (does (Set 0 0) ∷ []) ∷ []) []) ≡ 5) ×
     (segmentsFault (record { horizon = record { 0 = 1 }; v = 0; e = 0; n = 1; t = 0; segments = noSegment ∷ segment End (does (Set 0 0) ∷ []) ∷ []; starts = [] }) ≡ 0)
-unfolding segmentsFault segmentFault statementsFault closerFault choiceFault testFault opFault segmentAt orElse firstBelow
+unfolding segmentsFault segmentFault statementsFault closerFault choiceFault testFault opFault segmentAt orElse firstBelow isName isPort
 each-segment = (refl, refl, refl, refl, refl)
 
 -- no segment, no thread, 32 and 33 threads; a missing segment before a 33rd thread
@@ -471,7 +473,7 @@ counts :
     (countsFault (model 1 0 0 (noSegment ∷ []) (replicate 32 0)) ≡ 0) ×
     (countsFault (model 1 0 0 (noSegment ∷ []) (replicate 33 0)) ≡ 4) ×
     (countsFault (model 1 0 0 [] (replicate 33 0)) ≡ 2)
-unfolding countsFault orElse
+unfolding countsFault orElse startsFault firstBelow portsFault anyBelow portsAt startAt
 counts = (refl, refl, refl, refl, refl, refl)
 
 -- A and B at N - 1 and N; an end names no segment
@@ -512,5 +514,5 @@ whole :
     (modelFault (model 1 0 0 (noSegment ∷ []) (1 ∷ [])) ≡ 8) ×
     (modelFault (model 1 0 0 [] (0 ∷ [])) ≡ 2) ×
     (modelFault noModel ≡ 4)
-unfolding modelFault headFault segmentsFault segmentFault statementsFault closerFault choiceFault testFault opFault countsFault targetsFault anySegmentLeaves anyStartLeaves leavesModel segmentAt startAt orElse firstBelow anyBelow
+unfolding modelFault headFault segmentsFault segmentFault statementsFault closerFault choiceFault testFault opFault countsFault targetsFault anySegmentLeaves anyStartLeaves leavesModel segmentAt startAt orElse firstBelow anyBelow startsFault portsFault portsAt linksFault lackFault lacksFrom lacksPort namesPort usesOf writesOf writes bodyOf reads tests isName isPort
 whole = (refl, refl, refl, refl, refl, refl, refl, refl)

@@ -1,8 +1,9 @@
 -- Document 01, "Tables": the variables that a segment accesses, and the events that it lists as notifying.
-use Prim.Native.Nat.{ℕ}
+use Prim.Native.Nat.{ℕ, _+_}
 use mathlib.Core.Bool.{Bool, true, false, not, _&&_, _||_}
 use mathlib.Core.List.{List, [], _∷_}
 use lib.Dec.{eqb}
+use Rattle.base.specs.Index.{anyBelow}
 use Rattle.model.specs.declared.Op.{Op}
 use Rattle.model.specs.declared.Op.the-variants.{Set, Add, Copy, AddVariable, SubVariable, Notify}
 use Rattle.model.specs.declared.Statement.{Statement}
@@ -11,7 +12,8 @@ use Rattle.model.specs.declared.Closer.{Closer}
 use Rattle.model.specs.declared.Closer.the-variants.{End, Time, Event}
 use Rattle.model.specs.declared.Segment.{Segment}
 use Rattle.model.specs.declared.Model.{Model}
-use Rattle.model.specs.Values.{segmentFor, bodyOf}
+use Rattle.model.specs.Port.{firstPort, portOf}
+use Rattle.model.specs.Values.{segmentAt, portsAt, segmentFor, bodyOf}
 use Rattle.model.specs.Statement.{notifiedBy}
 use Rattle.model.specs.Effect.{noTest}
 
@@ -61,6 +63,14 @@ writesIn m k s v = writesOf (segmentFor m k s) v
 
 unfoldable pub usesIn : Model → ℕ → ℕ → ℕ → Bool
 usesIn m k s v = usesOf (segmentFor m k s) v
+
+-- whether segment s names port p
+unfoldable pub namesPort : Model → ℕ → ℕ → Bool
+namesPort m s p = usesOf (segmentAt m s) (firstPort + p)
+
+-- whether thread k names variable v through a port in segment s: "an unused port naming nothing"
+unfoldable pub usesByPort : Model → ℕ → ℕ → ℕ → Bool
+usesByPort m k s v = anyBelow 8 (λ p. namesPort m s p && eqb (portOf (portsAt m k) p) v)
 
 -- the events that thread k lists as notifying in segment s, whatever the variables
 unfoldable pub listedIn : Model → ℕ → ℕ → List ℕ

@@ -1,8 +1,10 @@
 pub mod Refusal
 pub mod Limits
+pub mod Port
 pub mod Values
 pub mod Statement
 pub mod Record
 pub mod Effect
 pub mod Footprint
+pub mod Reach
 pub mod Rules

@@ -9,7 +9,7 @@ accepted = 0
 abbrev pub shortFile : ℕ
 shortFile = 1
 
--- "kind not 1 to 4, or out of order"
+-- "kind not 1 to 4, or out of order"; "2 and 7 now let kind 5 and the port numbers through"
 abbrev pub wrongKind : ℕ
 wrongKind = 2
 
@@ -68,3 +68,11 @@ logFull = 15
 -- "table buffer below N × N words"
 abbrev pub shortTable : ℕ
 shortTable = 16
+
+-- "all eight are 255 or a mapped number is neither 255 nor below V"
+abbrev pub wrongPort : ℕ
+wrongPort = 17
+
+-- "a thread can reach a segment naming a port it leaves unused"
+abbrev pub lackedPort : ℕ
+lackedPort = 18

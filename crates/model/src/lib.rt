@@ -50,9 +50,10 @@ pub struct Segment {
     pub statements: [Statement; 32],
 }
 
-// A thread as a model declares it.
+// A thread as a model declares it: its first segment, and the variable of each port, 255 for an unused one.
 pub struct Start {
     pub first: u8,
+    pub ports: [u8; 8],
 }
 
 // The horizon, then document 01's counts: v variables, e events, n segments, t threads.

@@ -1,9 +1,9 @@
 -- What a list of statements is asked: whether one of them writes, reads or notifies. Each question is asked of one operation after the other.
 --     asks-append, asks-more     two lists; one statement more
---     asks-at     where the answer is yes, some statement says so
+--     asks-at, asks-found     where the answer is yes, some statement says so, and where one says so it is
 --     writes-asks, reads-asks, notifies-asks     the questions
 --     has-append     two lists of events
-use Prim.Native.Nat.{ℕ, suc, _<_}
+use Prim.Native.Nat.{ℕ, zero, suc, _<_}
 use mathlib.Core.Path.{_≡_, refl, sym, ap, _∙_}
 use mathlib.Core.Logic.{_⊎_, inl, inr}
 use mathlib.Core.Bool.{Bool, false, _||_, or-false, or-assoc}
@@ -12,7 +12,7 @@ use native.Mathlib.Omega.{arith}
 use lib.Dec.{T, eqb}
 use lib.ListN.{length, getD, take}
 use lib.Seq.{take-suc}
-use Rattle.base.proofs.BoolLaws.{or→either}
+use Rattle.base.proofs.BoolLaws.{or→either, either→or}
 use Rattle.model.specs.declared.Op.{Op}
 use Rattle.model.specs.declared.Op.the-variants.{Set, Add, Copy, AddVariable, SubVariable, Notify}
 use Rattle.model.specs.declared.Statement.{Statement}
@@ -47,6 +47,11 @@ module _ {f : List Statement → Bool} {g : Op → Bool} (asks : Asks f g) where
           → (j : ℕ) × (j < length (x ∷ xs)) × T (g (getD (x ∷ xs) j noStatement .op))
       go ih (inl u) = (0, omega arith, u)
       go ih (inr u) = let (j, l, w) = ih u in (suc j, omega arith, w)
+
+  pub asks-found : (xs : List Statement) (j : ℕ) → j < length xs → T (g (getD xs j noStatement .op)) → T (f xs)
+  asks-found [] j h t = absurd (omega arith)
+  asks-found (x ∷ xs) zero h t = rw (asks .one x xs) (either→or (g (x .op)) (f xs) (inl t))
+  asks-found (x ∷ xs) (suc j) h t = rw (asks .one x xs) (either→or (g (x .op)) (f xs) (inr (asks-found xs j (omega arith) t)))
 
 pub writes-asks : (v : ℕ) → Asks (λ xs. writes xs v) (λ o. writesOp o v)
 unfolding writes

@@ -4,3 +4,4 @@ pub mod StatementLaws
 pub mod FootprintLaws
 pub mod EffectLaws
 pub mod FrameLaws
+pub mod PortLaws

@@ -23,7 +23,8 @@ ghost use mathlib.Core.Path.{_≡_};
 ghost use Prim.Native.Nat.{_<_, _+_, _-_, _%_, _^_};
 ghost use lib.ListN.{length, getD, set, replicate};
 ghost use Rattle.clock.specs.Wait.{waitEnds, heldStep};
-ghost use Rattle.model.specs.Values.{noStatement, noSegment, noModel, bodyOf};
+ghost use Rattle.model.specs.Port.{usesPorts, mapped, mapOp, mapNext, mapCloser, mapSegment};
+ghost use Rattle.model.specs.Values.{noStatement, noSegment, noStart, noModel, bodyOf};
 ghost use Rattle.model.specs.Statement.{executeOp, execute, notifiedBy};
 ghost use Rattle.model.specs.Record.{noThread, readyCycle, cycleOf, stateAfter};
 ghost use Rattle.model.specs.Effect.{nextOf, closedAt, effectIn, withOp, heldThread, heldEvents, heldEffect};
@@ -249,6 +250,15 @@ pub fn no_segment() -> Segment
     }
 }
 
+pub fn no_start() -> Start
+    ensures { λ r. ⌜ r ≡ noStart ⌝ }
+{
+    Start {
+        first: 0,
+        ports: [255; 8],
+    }
+}
+
 pub fn no_model() -> Model
     ensures { λ r. ⌜ r ≡ noModel ⌝ }
 {
@@ -259,6 +269,104 @@ pub fn no_model() -> Model
         n: 0,
         t: 0,
         segments: [no_segment(); 64],
-        starts: [Start { first: 0 }; 32],
+        starts: [no_start(); 32],
+    }
+}
+
+// Whether some port is used.
+pub fn uses_ports(ports: [u8; 8]) -> bool
+    ensures { λ r. ⌜ r ≡ usesPorts ports ⌝ }
+{
+    let mut p = 0;
+    while p < 8 {
+        if ports[p] != 255 {
+            return true;
+        }
+        p += 1;
+    }
+    false
+}
+
+// Document 02: "128 to 135 .. mean ports 0 to 7": the variable that a byte names.
+fn mapped_byte(ports: [u8; 8], x: u8) -> u8
+    ensures { λ r. ⌜ r ≡ mapped ports x ⌝ }
+{
+    if x < 128 {
+        return x;
+    }
+    if 135 < x {
+        return x;
+    }
+    let p = (x - 128) as usize;
+    ports[p]
+}
+
+// The variable that four bytes name.
+fn mapped_long(ports: [u8; 8], x: u32) -> u32
+    ensures { λ r. ⌜ r ≡ mapped ports x ⌝ }
+{
+    if x < 128 {
+        return x;
+    }
+    if 135 < x {
+        return x;
+    }
+    let p = (x - 128) as usize;
+    ports[p] as u32
+}
+
+fn mapped_op(ports: [u8; 8], op: Op) -> Op
+    ensures { λ r. ⌜ r ≡ mapOp ports op ⌝ }
+{
+    match op {
+        Op::Set(a, b) => Op::Set(mapped_byte(ports, a), b),
+        Op::Add(a, b) => Op::Add(mapped_byte(ports, a), b),
+        Op::Copy(a, b) => Op::Copy(mapped_byte(ports, a), mapped_long(ports, b)),
+        Op::AddVariable(a, b) => Op::AddVariable(mapped_byte(ports, a), mapped_long(ports, b)),
+        Op::SubVariable(a, b) => Op::SubVariable(mapped_byte(ports, a), mapped_long(ports, b)),
+        Op::Notify(w) => Op::Notify(w),
+    }
+}
+
+fn mapped_next(ports: [u8; 8], x: Next) -> Next
+    ensures { λ r. ⌜ r ≡ mapNext ports x ⌝ }
+{
+    Next {
+        a: x.a,
+        b: x.b,
+        test: mapped_byte(ports, x.test),
+        limit: x.limit,
+    }
+}
+
+fn mapped_closer(ports: [u8; 8], closer: Closer) -> Closer
+    ensures { λ r. ⌜ r ≡ mapCloser ports closer ⌝ }
+{
+    match closer {
+        Closer::End => Closer::End,
+        Closer::Time(k, x) => Closer::Time(k, mapped_next(ports, x)),
+        Closer::Event(e, x) => Closer::Event(e, mapped_next(ports, x)),
+    }
+}
+
+// A segment as a thread with these ports runs it.
+pub fn mapped_segment(ports: [u8; 8], g: Segment) -> Segment
+    ensures { λ r. ⌜ r ≡ mapSegment ports g ⌝ }
+{
+    let closer = g.closer;
+    let mut statements = g.statements;
+    let mut j = 0;
+    while j < 32 {
+        let x = g.statements[j];
+        let op = x.op;
+        statements[j] = Statement {
+            op: mapped_op(ports, op),
+        };
+        j += 1;
+    }
+    Segment {
+        closer: mapped_closer(ports, closer),
+        n: g.n,
+        statements,
     }
 }

@@ -6,11 +6,12 @@
 --     faultAt-read, first-rest, segmentsFault-asked, targetsFault-asked     what is asked of a segment
 --     both-below, not-both-below, anyStartLeaves-here, anyStartLeaves-end     the loop over threads
 use Prim.Native.Nat.{ℕ, zero, suc, _<_, _≤_}
-use mathlib.Core.Path.{_≡_, refl, sym, _∙_}
+use mathlib.Core.Path.{_≡_, refl, ap, sym, _∙_}
 use mathlib.Core.Bool.{Bool, true, false, not, _&&_, _||_}
 use native.Mathlib.Omega.{arith}
 use native.Mathlib.Decide.{decLt, decLe}
-use lib.Dec.{ltb, leb, ltb→lt}
+use mathlib.Core.List.{List}
+use lib.Dec.{ltb, leb, eqb, ltb→lt}
 use lib.ListN.{length, getD, List·getD-eq-default}
 use borrow.Author.Tests.{lt-ltb, le-ltb, le-leb, lt-leb, ltb-false}
 use Rattle.base.specs.Index.{anyBelow, orElse, firstBelow}
@@ -20,8 +21,12 @@ use Rattle.base.proofs.ListLaws.{getD-any}
 use Rattle.model.specs.declared.Segment.{Segment}
 use Rattle.model.specs.declared.Start.{Start}
 use Rattle.model.specs.declared.Model.{Model}
-use Rattle.model.specs.Values.{noStatement, noSegment, noStart, segmentAt, startAt}
-use Rattle.model.specs.Rules.{unless, opFault, statementsFault, segmentFault, segmentsFault, leavesModel, anySegmentLeaves, anyStartLeaves, targetsFault}
+use Rattle.model.specs.Port.{unused, portOf}
+use Rattle.model.specs.Values.{noStatement, noSegment, noStart, segmentAt, startAt, portsAt}
+use Rattle.model.specs.Rules.{unless, opFault, statementsFault, segmentFault, segmentsFault, leavesModel, anySegmentLeaves, anyStartLeaves, targetsFault, portsFault, startsFault, lackFault}
+use Rattle.model.specs.Reach.{lacksFrom}
+use Rattle.masks.specs.Mask.{bitAt}
+use Rattle.model_reach.specs.Lacks.{HoldsLacks}
 use Rattle.model_rules.specs.Asked.{faultOf, placesUsed, faultAt}
 
 pub unless-kept : (t : Bool) (x : ℕ) → t ≡ true → unless t x ≡ 0
@@ -189,3 +194,78 @@ module _ (m : Model) where
       go : (i : ℕ) → i < m .t → Dec (i < k) → startLeaves m i ≡ false
       go i l (yes j) = below i j
       go i l (no j) = let e : 32 ≤ k = h (omega arith) in startLeaves-past i (omega arith) (below 0 (omega arith))
+
+-- whether port p is neither unused nor a variable of the model
+unfoldable pub portWrong : ℕ → List ℕ → ℕ → Bool
+portWrong v ps p = not (eqb (portOf ps p) unused || ltb (portOf ps p) v)
+
+module _ (v : ℕ) (ps : List ℕ) where
+  pub portWrong-is : (p : ℕ) (t : Bool) → not (eqb (portOf ps p) 255 || ltb (portOf ps p) v) ≡ t → portWrong v ps p ≡ t
+  unfolding portWrong
+  portWrong-is p t e = e
+
+  pub portsFault-here : (p : ℕ) → p < 8 → portWrong v ps p ≡ true → 17 ≡ portsFault v ps
+  unfolding portsFault portWrong
+  portsFault-here p l e = rw (anyBelow-here 8 (portWrong v ps) p l e) refl
+
+  pub portsFault-none : (p : ℕ) → 8 ≤ p → ((i : ℕ) → i < p → portWrong v ps i ≡ false) → 0 ≡ portsFault v ps
+  unfolding portsFault portWrong
+  portsFault-none p h all = rw (anyBelow-empty 8 (portWrong v ps) (λ i l. all i (omega arith))) refl
+
+-- the faults of thread k: "33rd thread", its ports
+unfoldable pub startFault : Model → ℕ → ℕ
+startFault m k = orElse (unless (ltb k 32) 4) (portsFault (m .v) (portsAt m k))
+
+module _ (m : Model) where
+  pub startFault-read : (k : ℕ) (d : Start) (x : ℕ) → k < 32 → length (m .starts) ≡ 32 → x ≡ portsFault (m .v) (getD (m .starts) k d .ports) → x ≡ startFault m k
+  unfolding startFault portsAt
+  startFault-read k d x l e f =
+      f ∙ (ap (λ (s : Start). portsFault (m .v) (s .ports)) (startAt-read m k d (omega arith)) ∙ sym (orElse-none (unless (ltb k 32) 4) _ (rw (lt-ltb k 32 l) refl)))
+
+  pub startsFault-here : (k x : ℕ) → k < m .t → firstBelow k (startFault m) ≡ 0 → x ≡ startFault m k → (x ≡ 0 → ⊥) → x ≡ startsFault m
+  unfolding startsFault startFault
+  startsFault-here k x l h e n = e ∙ sym (firstBelow-here k (m .t) (startFault m) l h (λ z. n (e ∙ z)))
+
+  pub startsFault-end : (k : ℕ) → k ≤ m .t → (k < m .t → 32 ≤ k) → k ≤ 32 → firstBelow k (startFault m) ≡ 0 → unless (leb (m .t) 32) 4 ≡ startsFault m
+  unfolding startsFault startFault
+  startsFault-end k h more few none = go (decLt k (m .t))
+    where
+      all : k ≡ m .t → unless (leb (m .t) 32) 4 ≡ startsFault m
+      all e = rw (le-leb (m .t) 32 (omega arith)) (sym none ∙ ap (λ (n : ℕ). firstBelow n (startFault m)) e)
+
+      broken : 32 ≤ k → unless (ltb k 32) 4 ≡ 4
+      broken b = rw (le-ltb k 32 b) refl
+
+      at-32 : k < m .t → 32 ≤ k → unless (leb (m .t) 32) 4 ≡ startsFault m
+      at-32 l b =
+          let e : k ≡ 32 = omega arith in
+          let f : startFault m k ≡ 4 = orElse-some (unless (ltb k 32) 4) (portsFault (m .v) (portsAt m k)) (λ z. absurd (omega (arith, broken b, z))) ∙ broken b in
+          rw (lt-leb (m .t) 32 (omega arith)) (sym f ∙ sym (firstBelow-here k (m .t) (startFault m) l none (λ z. let q = sym f ∙ z in omega arith)))
+
+      go : Dec (k < m .t) → unless (leb (m .t) 32) 4 ≡ startsFault m
+      go (yes l) = at-32 l (more l)
+      go (no l) = all (omega arith)
+
+-- whether thread k can reach a port that it leaves unused
+unfoldable pub startLacks : Model → ℕ → Bool
+startLacks m k = lacksFrom m k (startAt m k .first)
+
+module _ (m : Model) where
+  pub startLacks-read : (k : ℕ) (d : Start) (ws : List ℕ) (t : Bool) → HoldsLacks m ws → m .n ≤ 64 → k < 32 → length (m .starts) ≡ 32 → startAt m k .first < m .n
+      → bitAt (getD ws k 0) (getD (m .starts) k d .first) ≡ t → startLacks m k ≡ t
+  unfolding startLacks
+  startLacks-read k d ws t holds few l size below e =
+      sym (holds .bits few k (startAt m k .first) l below)
+      ∙ (ap (λ (s : Start). bitAt (getD ws k 0) (s .first)) (sym (startAt-read m k d (omega arith))) ∙ e)
+
+  pub lackFault-here : (k : ℕ) → k < m .t → startLacks m k ≡ true → 18 ≡ lackFault m
+  unfolding lackFault startLacks
+  lackFault-here k l e = rw (anyBelow-here (m .t) (startLacks m) k l e) refl
+
+  pub lackFault-end : (k : ℕ) → m .t ≤ 32 → (k < m .t → 32 ≤ k) → ((i : ℕ) → i < k → startLacks m i ≡ false) → 0 ≡ lackFault m
+  unfolding lackFault startLacks
+  lackFault-end k few more below = rw (anyBelow-empty (m .t) (startLacks m) (λ i l. below i (go i l (decLt i k)))) refl
+    where
+      go : (i : ℕ) → i < m .t → Dec (i < k) → i < k
+      go i l (yes h) = h
+      go i l (no h) = let b = more (omega arith) in absurd (omega arith)

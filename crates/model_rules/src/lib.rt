@@ -6,12 +6,14 @@ use model::Model;
 use model::Next;
 use model::Op;
 use model::Segment;
+use model::Start;
 ghost use mathlib.Core.Path.{_≡_};
-ghost use Prim.Native.Nat.{_≤_};
+ghost use Prim.Native.Nat.{ℕ, _≤_, _<_};
 ghost use Rattle.base.specs.Index.{orElse, firstBelow};
 ghost use Rattle.model.specs.Refusal.{wrongCloser, wrongName};
-ghost use Rattle.model.specs.Rules.{unless, headFault, choiceFault, testFault, closerFault, opFault, statementsFault, segmentFault, countsFault, leavesModel, anyStartLeaves, targetsFault, modelFault};
-ghost use Rattle.model_rules.specs.Asked.{faultOf, placesUsed, faultAt};
+ghost use Rattle.model.specs.Values.{startAt};
+ghost use Rattle.model.specs.Rules.{unless, headFault, choiceFault, isName, testFault, closerFault, opFault, statementsFault, segmentFault, portsFault, startsFault, countsFault, leavesModel, anyStartLeaves, targetsFault, lackFault, linksFault, modelFault};
+ghost use Rattle.model_rules.specs.Asked.{faultOf, placesUsed, faultAt, partsFault, Linked};
 
 // Number x where a rule is not kept.
 pub fn unless(kept: bool, x: u8) -> u8
@@ -33,6 +35,20 @@ fn or_else(a: u8, b: u8) -> u8
     a
 }
 
+// "2 and 7 now let kind 5 and the port numbers through": a variable of the model, or a port.
+fn is_name(v: u8, x: u8) -> bool
+    ensures { λ r. ⌜ r ≡ isName v x ⌝ }
+{
+    (x < v) | ((128 <= x) & (x < 136))
+}
+
+// "b is compared with V as the whole 32-bit number".
+fn is_long_name(v: u8, x: u32) -> bool
+    ensures { λ r. ⌜ r ≡ isName v x ⌝ }
+{
+    (x < v as u32) | ((128 <= x) & (x < 136))
+}
+
 // 4 where the horizon or a count is out of range.
 pub fn head_fault(h: Time, v: u8, e: u8) -> u8
     ensures { λ r. ⌜ r ≡ headFault (h .0) v e ⌝ }
@@ -50,7 +66,8 @@ fn next_fault(v: u8, short: bool, named: bool, x: Next) -> u8
 {
     let untested = x.test == 255;
     let choice = unless(short & (!untested | ((x.b == x.a) & (x.limit == 0))), 5);
-    or_else(choice, unless(named & (untested | (x.test < v)), 7))
+    let tested = is_name(v, x.test);
+    or_else(choice, unless(named & (untested | tested), 7))
 }
 
 // The closer's 5, then its 7.
@@ -64,14 +81,14 @@ pub fn closer_fault(v: u8, e: u8, closer: Closer) -> u8
     }
 }
 
-// A statement's 7. "b is compared with V as the whole 32-bit number".
+// A statement's 7.
 pub fn op_fault(v: u8, e: u8, op: Op) -> u8
     ensures { λ r. ⌜ r ≡ opFault v e op ⌝ }
 {
     match op {
-        Op::Set(a, _) | Op::Add(a, _) => unless(a < v, 7),
+        Op::Set(a, _) | Op::Add(a, _) => unless(is_name(v, a), 7),
         Op::Copy(a, b) | Op::AddVariable(a, b) | Op::SubVariable(a, b) => {
-            unless((a < v) & (b < v as u32), 7)
+            unless(is_name(v, a) & is_long_name(v, b), 7)
         }
         Op::Notify(w) => unless(w < e, 7),
     }
@@ -158,10 +175,43 @@ fn first_fault(m: Model, targets: bool) -> u8
     unless(targets | (m.n <= 64), 4)
 }
 
+// 17 where a port is neither unused nor a variable of the model.
+pub fn ports_fault(v: u8, ports: [u8; 8]) -> u8
+    ensures { λ r. ⌜ r ≡ portsFault v ports ⌝ }
+{
+    let mut p = 0;
+    while p < 8 {
+        let x = ports[p];
+        if !((x == 255) | (x < v)) {
+            return 17;
+        }
+        p += 1;
+    }
+    0
+}
+
+// Thread by thread, its ports' 17; the 33rd is 4.
+fn starts_fault(m: Model) -> u8
+    ensures { λ r. ⌜ r ≡ startsFault m ⌝ }
+{
+    let t = m.t as usize;
+    let mut k = 0;
+    while (k < t) & (k < 32) {
+        let x = m.starts[k];
+        let ports = x.ports;
+        let fault = ports_fault(m.v, ports);
+        if fault != 0 {
+            return fault;
+        }
+        k += 1;
+    }
+    unless(m.t <= 32, 4)
+}
+
 fn counts_fault(m: Model) -> u8
     ensures { λ r. ⌜ r ≡ countsFault m ⌝ }
 {
-    or_else(unless((1 <= m.n) & (1 <= m.t), 2), unless(m.t <= 32, 4))
+    or_else(unless((1 <= m.n) & (1 <= m.t), 2), starts_fault(m))
 }
 
 fn any_start_leaves(m: Model) -> bool
@@ -185,9 +235,34 @@ fn targets_fault(m: Model) -> u8
     or_else(first_fault(m, true), unless(!any_start_leaves(m), 8))
 }
 
-// The number of the first fault of a held model, in file order; 0 where it keeps the file rules.
-pub fn model_fault(m: Model) -> u8
-    ensures { λ r. ⌜ r ≡ modelFault m ⌝ }
+// 18 where a thread can reach a port that it leaves unused, by the masks of what it lacks.
+pub fn lack_in(starts: [Start; 32], t: u8, lacking: [u64; 32]) -> u8
+    ensures { λ r. ⌜ ((m : Model) → m .starts ≡ starts → m .t ≡ t → Linked m lacking → r ≡ lackFault m) ⌝ }
+{
+    let count = t as usize;
+    let mut k = 0;
+    while (k < count) & (k < 32) {
+        let x = starts[k];
+        if masks::has(lacking[k], x.first as usize) {
+            return 18;
+        }
+        k += 1;
+    }
+    0
+}
+
+// 18 of a model.
+pub fn lack_fault(m: Model) -> u8
+    ensures { λ r. ⌜ (m .n ≤ 64 → m .t ≤ 32 → ((k : ℕ) → k < m .t → startAt m k .first < m .n) → r ≡ lackFault m) ⌝ }
+{
+    let lacking = model_reach::lacks(m);
+    let starts = m.starts;
+    lack_in(starts, m.t, lacking)
+}
+
+// The number of the first fault of a held model but 18, in file order.
+pub fn parts_fault(m: Model) -> u8
+    ensures { λ r. ⌜ r ≡ partsFault m ⌝ }
 {
     let h = m.horizon;
     let head = head_fault(h, m.v, m.e);
@@ -203,4 +278,17 @@ pub fn model_fault(m: Model) -> u8
         return counts;
     }
     targets_fault(m)
+}
+
+// The number of the first fault of a held model, in file order; 0 where it keeps the file rules.
+pub fn model_fault(m: Model) -> u8
+    ensures { λ r. ⌜ r ≡ modelFault m ⌝ }
+{
+    let parts = parts_fault(m);
+    if parts != 0 {
+        return parts;
+    }
+    let lacking = model_reach::lacks(m);
+    let starts = m.starts;
+    lack_in(starts, m.t, lacking)
 }

@@ -6,7 +6,7 @@ use Prim.Native.Nat.{ℕ, _≤_, _<_, _+_, _*_}
 use mathlib.Core.Path.{_≡_, refl, ap, sym, _∙_, subst}
 use mathlib.Core.Logic.{_⊎_, inl, inr}
 use mathlib.Core.Bool.{Bool}
-use mathlib.Core.List.{List, []}
+use mathlib.Core.List.{List}
 use native.Mathlib.Omega.{arith}
 use lib.Dec.{T}
 use lib.ListN.{length, getD, length-append, List·getD-append}
@@ -29,23 +29,22 @@ use Rattle.model.specs.declared.Thread.{Thread}
 use Rattle.model.specs.Limits.{endTime, cutTime, isUpToHorizon}
 use Rattle.model.specs.Record as view
 use Rattle.model.specs.Record.{viewOf}
-use Rattle.model.specs.Values.{segmentAt, segmentFor}
+use Rattle.model.specs.Port.{mapCloser, mapSegment}
+use Rattle.model.specs.Values.{segmentAt, portsAt, segmentFor}
 use Rattle.model.specs.Effect.{nextOf, closedAt, effectOf}
-use Rattle.model.specs.Footprint.{has, writesIn, usesIn, notifiesIn}
+use Rattle.model.specs.Reach.{goesTo}
 use Rattle.model.specs.Rules.{modelFault}
 use Rattle.model_effect.proofs.FrameLaws.{writesIn→usesIn, effectOf-frame, effectOf-length, effectOf-local}
 use Rattle.model_rules.proofs.RuleLaws.{modelFault-horizon, modelFault-counts, modelFault-notifies}
 use Rattle.tables.specs.Conflict.{marksOf}
-use Rattle.tables.specs.Distance.{stepOf, goesTo, edge, distanceOf}
+use Rattle.tables.specs.Distance.{stepOf, edge, distanceOf}
 use Rattle.tables.specs.Word.{wordsOf, distanceIn}
-use Rattle.tables_laws.proofs.ConflictLaws.{shared→marked}
-use Rattle.tables_laws.proofs.DistanceLaws.{distanceOf-self, distanceOf-after, goesTo-next}
+use Rattle.tables_laws.proofs.DistanceLaws.{distanceOf-self, distanceOf-after}
 use Rattle.tables_laws.proofs.WordLaws.{place-below, wordsOf-length, distanceIn-wordsOf, wordsOf-fit}
-use Rattle.plain_laws.proofs.RecordLaws.{stateAfter-ready, stateAfter-not-waits, effectOf-thread, effectOf-waits, horizon→<}
+use Rattle.plain_laws.proofs.RecordLaws.{goesTo-next, stateAfter-ready, stateAfter-not-waits, effectOf-thread, effectOf-waits, horizon→<}
 use Rattle.plain_laws.proofs.RangeLaws as range
 use Rattle.plain_laws.proofs.KeepLaws.{effectOf-notifies, modelFault-keeps}
 use Rattle.early.specs.declared.Notification.{Notification}
-use Rattle.early.specs.Hazard.{threadsConflict}
 use Rattle.early.specs.Fit.{isFitWord}
 use Rattle.early_laws.proofs.EarliestLaws.{earliestAt, FromReady, FromLogged, earliest-ready, earliest-heard, earliest-linked, earliest-attained}
 use Rattle.early_laws.proofs.ForecastLaws as forecast
@@ -53,7 +52,14 @@ use Rattle.early_laws.proofs.HazardLaws as danger
 use Rattle.early_laws.proofs.FitLaws.{→isFitThread, →isFitCycle, →isUnfitWords}
 use Rattle.order.proofs.Places.{recordAt, nowAt}
 use Rattle.order.proofs.KitLaws.{Source, from-ready, from-logged, Begins, Footprints, Needed, Distances, Ranges, Forecasts, KitLaws}
-use Rattle.order.proofs.PlainInstance.{plain-facts}
+use Rattle.order.proofs.Conflicts.{MayRun, shared→threadsConflict}
+
+-- a step of the segment graph hangs on no port
+stepOf-mapped : (ps : List ℕ) (g : Closer) (s : ℕ) → stepOf (mapCloser ps g) s ≡ stepOf g s
+unfolding stepOf goesTo
+stepOf-mapped ps End s = refl
+stepOf-mapped ps (Time k x) s = refl
+stepOf-mapped ps (Event w x) s = refl
 
 -- a segment that closes ready at d has taken a step of the segment graph, whose advance leads from c to d
 closed-ready : (s : ℕ) (g : Closer) (c d : Cycle) (v : List ℕ) → viewOf (closedAt s g c v .state) ≡ view.ready d
@@ -72,14 +78,15 @@ closed-waits s End c since v e f = let z : _≡_ {A = ℕ} 0 1 = cc in absurd (o
 closed-waits s (Time k x) c since v e f = absurd (stateAfter-not-waits (waitEnds (wait.Time k) c) e since f)
 closed-waits s (Event w x) c since v e f = rw (T→true (goesTo x (nextOf x v)) (goesTo-next x v)) advanceOf-Event
 
--- the reader's marks, for threads that may reach every segment
+-- the reader's marks, for threads that lack no port
 pub marksOf-needed : (m : Model) → modelFault m ≡ 0 → Needed m (marksOf m)
-unfolding threadsConflict writesIn usesIn segmentFor
 marksOf-needed m fit =
     record {
-      Reaches = λ k s. s < m .n;
-      reached = λ i k r. plain-facts m fit .segment-below i k (r .below);
-      marked = λ i r j s v n p q h. shared→marked m fit r s p q v h;
+      Reaches = MayRun m;
+      reached = λ i k r.
+          let p = range.in-range m (modelFault-keeps m fit) i .fits k (r .below) in
+          record { thread = r .below; segment = p .segment; lacks = p .lacks };
+      marked = λ i r j s v n p q h. shared→threadsConflict m fit i r j s v p q h;
     }
 
 module _ (m : Model) (fit : modelFault m ≡ 0) (ws : List ℕ) (begins : Begins (wordsOf m) ws) where
@@ -122,20 +129,26 @@ module _ (m : Model) (fit : modelFault m ≡ 0) (ws : List ℕ) (begins : Begins
   next-below : (k a : ℕ) (c : Cycle) (x : List ℕ) → a < m .n → effectOf m k a c x .thread .segment < m .n
   next-below k a c x h = modelFault-keeps m fit .next k a c x h
 
+  steps-same : (k a b : ℕ) → stepOf (segmentFor m k a .closer) b ≡ edge m a b
+  unfolding edge segmentFor mapSegment
+  steps-same k a b = stepOf-mapped (portsAt m k) (segmentAt m a .closer) b
+
   edge-ready : (k a : ℕ) (c d : Cycle) (x : List ℕ) → viewOf (effectOf m k a c x .thread .state) ≡ view.ready d
       → At c ⊕ edge m a (effectOf m k a c x .thread .segment) ≡ At d
-  unfolding edge segmentFor
+  unfolding edge
   edge-ready k a c d x e =
-      let g = segmentAt m a .closer in
-      subst (λ (t : Thread). viewOf (t .state) ≡ view.ready d → At c ⊕ stepOf g (t .segment) ≡ At d) (sym (effectOf-thread m k a c x))
-      (closed-ready a g c d (effectOf m k a c x .variables)) e
+      let g = segmentFor m k a .closer in
+      rw (← steps-same k a (effectOf m k a c x .thread .segment))
+      (subst (λ (t : Thread). viewOf (t .state) ≡ view.ready d → At c ⊕ stepOf g (t .segment) ≡ At d) (sym (effectOf-thread m k a c x))
+      (closed-ready a g c d (effectOf m k a c x .variables)) e)
 
   edge-waits : (k a e : ℕ) (c since : Cycle) (x : List ℕ) → viewOf (effectOf m k a c x .thread .state) ≡ view.waits e since
       → edge m a (effectOf m k a c x .thread .segment) ≡ oneDelta
-  unfolding edge segmentFor
+  unfolding edge
   edge-waits k a e c since x f =
-      let g = segmentAt m a .closer in
-      subst (λ (t : Thread). viewOf (t .state) ≡ view.waits e since → stepOf g (t .segment) ≡ oneDelta) (sym (effectOf-thread m k a c x))
+      let g = segmentFor m k a .closer in
+      sym (steps-same k a (effectOf m k a c x .thread .segment))
+      ∙ subst (λ (t : Thread). viewOf (t .state) ≡ view.waits e since → stepOf g (t .segment) ≡ oneDelta) (sym (effectOf-thread m k a c x))
       (closed-waits a g c since (effectOf m k a c x .variables) e) f
 
   over-event : (k r a e : ℕ) (c since h : Cycle) (x : List ℕ) (y : Bound) → k < m .t → r < m .n → a < m .n
@@ -172,7 +185,7 @@ module _ (m : Model) (fit : modelFault m ≡ 0) (ws : List ℕ) (begins : Begins
         fit-record = λ i k l.
             let p = range.in-range m kept i .fits k l in
             →isFitThread m k (recordAt m i k)
-            (record { segment = p .segment; cycle = record { time = range.record-time m kept i k l; delta = p .delta }; event = p .event });
+            (record { segment = p .segment; cycle = record { time = range.record-time m kept i k l; delta = p .delta }; event = p .event; lacks = p .lacks });
         fit-now = λ i.
             let time = before-cut (nowAt m i) (range.now-before m kept i) in
             →isFitCycle cutTime (nowAt m i) (record { time = time; delta = range.in-range m kept i .now-delta });

@@ -23,5 +23,6 @@ pub mod CarriedOn
 pub mod SamePlaces
 pub mod Theorem
 pub mod PlainInstance
+pub mod Conflicts
 pub mod KitInstance
 pub mod OrderIndependent

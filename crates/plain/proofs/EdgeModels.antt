@@ -14,6 +14,7 @@ use Rattle.model.specs.declared.Segment.{Segment}
 use Rattle.model.specs.declared.Model.{Model}
 use Rattle.model.specs.declared.State.{State}
 use Rattle.model.specs.declared.Thread.{Thread}
+use Rattle.model.specs.Port.{noPorts}
 use Rattle.model.specs.Values.{noStatement, noModel, withHead, withSegment, withStart}
 use Rattle.plain.specs.declared.PlainRun.{PlainRun}
 use Rattle.plain.specs.Start.{Place, startOf}
@@ -46,7 +47,7 @@ withSegments m (g ∷ gs) = withSegments (withSegment m g) gs
 
 unfoldable pub withStarts : Model → List ℕ → Model
 withStarts m [] = m
-withStarts m (s ∷ ss) = withStarts (withStart m (record { first = s })) ss
+withStarts m (s ∷ ss) = withStarts (withStart m (record { first = s; ports = noPorts })) ss
 
 unfoldable pub modelOf : ℕ → List Segment → List ℕ → Model
 modelOf h gs ss = withStarts (withSegments (withHead noModel h 2 2) gs) ss

@@ -19,6 +19,7 @@ ghost use Rattle.model.specs.Rules.{modelFault};
 ghost use Rattle.plain.specs.Start.{startOf};
 ghost use Rattle.plain.specs.Run.{runFor, lastStep, reported, plainRun};
 ghost use Rattle.plain_words.specs.Reach.{lesserOf};
+ghost use Rattle.plain_words.specs.Rows.{segmentsBy};
 ghost use Rattle.plain_state.specs.Words.{stateFrom, threadsTo, answer, nextWord, closeWord, wakeWord, leastWord};
 ghost use Rattle.plain_state.specs.Turn.{locals, waitedBy, turnOn, turnsTo};
 ghost use Rattle.plain_state.specs.Due.{Between, Late, IsLeast, Woken, IsDue, Ends};
@@ -284,19 +285,19 @@ fn threads_of(state: &[u64; 32], segments: &[u8; 32], t: usize) -> Threads
     ts
 }
 
-// The first segments of a model's threads.
-fn first_segments(m: Model) -> [u8; 32]
+// The rows of the first segments of a model's threads.
+fn first_rows(m: Model) -> [u8; 32]
     ensures places { λ r. ⌜ length r ≡ 32 ⌝ }
-    ensures first { λ r. ⌜ ((k : ℕ) → k < 32 → getD r k 0 ≡ startAt m k .first) ⌝ }
+    ensures first { λ r. ⌜ ((k : ℕ) → k < 32 → getD r k 0 ≡ startAt m k .first % 64) ⌝ }
 {
-    let mut segments = [0u8; 32];
+    let mut rows = [0u8; 32];
     let mut k = 0;
     while k < 32 {
         let s = m.starts[k];
-        segments[k] = s.first;
+        rows[k] = s.first % 64;
         k += 1;
     }
-    segments
+    rows
 }
 
 // No event has a thread that waits for it.
@@ -326,20 +327,20 @@ fn wait_for(end: u64, turn: usize, ranges: &mut [usize; 66])
 
 // One thread is looked at: if it is ready in this cycle, and the budget has room, it runs its segment whole.
 fn look_at(
-    code: &[u64; 2176],
+    code: &[u64; 4384],
     turn: usize,
     key: u64,
     budget: u64,
     n: u64,
     v: &mut [u32; 64],
     state: &mut [u64; 32],
-    segments: &mut [u8; 32],
+    rows: &mut [u8; 32],
     told: &mut [bool; 32],
     ranges: &mut [usize; 66],
 ) -> u64
     requires { ⌜ turn < 32 ⌝ }
     requires { ⌜ key < 2 ^ 44 ⌝ }
-    ensures { λ r. ⌜ locals (now (v .exit)) (now (state .exit)) (now (segments .exit)) (now (told .exit)) (now (ranges .exit)) r ≡ turnOn (now (code .entry)) key budget turn (locals (now (v .entry)) (now (state .entry)) (now (segments .entry)) (now (told .entry)) (now (ranges .entry)) n) ⌝ }
+    ensures { λ r. ⌜ locals (now (v .exit)) (now (state .exit)) (now (rows .exit)) (now (told .exit)) (now (ranges .exit)) r ≡ turnOn (λ _. now (code .entry)) key budget turn (locals (now (v .entry)) (now (state .entry)) (now (rows .entry)) (now (told .entry)) (now (ranges .entry)) n) ⌝ }
 {
     if state[turn] != key {
         return n;
@@ -347,24 +348,24 @@ fn look_at(
     if budget <= n {
         return n;
     }
-    let s = segments[turn];
-    plain_words::execute(code, s, v, told, ranges);
+    let s = rows[turn];
+    let next = plain_words::run(code, s, v, told, ranges);
     let end = plain_words::end_of(code, s);
     wait_for(end, turn, ranges);
     state[turn] = close_word(end, key);
-    segments[turn] = plain_words::follow(code, s, v);
+    rows[turn] = next;
     n + 1
 }
 
 // Document 01: "In each cycle the ready threads of that cycle run their segment whole, lowest number first".
 fn run_cycle(
-    code: &[u64; 2176],
+    code: &[u64; 4384],
     due: Due,
     budget: u64,
     ran: u64,
     v: &mut [u32; 64],
     state: &mut [u64; 32],
-    segments: &mut [u8; 32],
+    rows: &mut [u8; 32],
     told: &mut [bool; 32],
     ranges: &mut [usize; 66],
 ) -> u64
@@ -372,7 +373,7 @@ fn run_cycle(
     requires { ⌜ due .to ≤ 32 ⌝ }
     requires { ⌜ due .key < 2 ^ 44 ⌝ }
     requires { ⌜ ((k : ℕ) → k < due .from → getD (now state) k 0 ≡ due .key → ⊥) ⌝ }
-    ensures { λ r. ⌜ locals (now (v .exit)) (now (state .exit)) (now (segments .exit)) (now (told .exit)) (now (ranges .exit)) r ≡ turnsTo (now (code .entry)) (due .key) budget (due .to) (locals (now (v .entry)) (now (state .entry)) (now (segments .entry)) (now (told .entry)) (now (ranges .entry)) ran) ⌝ }
+    ensures { λ r. ⌜ locals (now (v .exit)) (now (state .exit)) (now (rows .exit)) (now (told .exit)) (now (ranges .exit)) r ≡ turnsTo (λ _. now (code .entry)) (due .key) budget (due .to) (locals (now (v .entry)) (now (state .entry)) (now (rows .entry)) (now (told .entry)) (now (ranges .entry)) ran) ⌝ }
 {
     let key = due.key;
     let from = due.from;
@@ -380,7 +381,7 @@ fn run_cycle(
     let mut n = ran;
     let mut turn = from;
     while turn < to {
-        n = look_at(code, turn, key, budget, n, v, state, segments, told, ranges);
+        n = look_at(code, turn, key, budget, n, v, state, rows, told, ranges);
         turn += 1;
     }
     n
@@ -402,15 +403,17 @@ fn is_out(state: &[u64; 32], t: usize, key: u64, budget: u64, n: u64) -> bool
 fn result(
     v: [u32; 64],
     state: &[u64; 32],
-    segments: &[u8; 32],
+    held: &[u8; 32],
+    rows: &[u8; 32],
     t: usize,
     n: u64,
     spent: bool,
 ) -> PlainRun
     requires { ⌜ t ≤ 32 ⌝ }
-    ensures { λ r. ⌜ r ≡ answer v (threadsTo (now (state .entry)) (now (segments .entry)) t) n spent ⌝ }
+    ensures { λ r. ⌜ r ≡ answer v (threadsTo (now (state .entry)) (segmentsBy (now (held .entry)) (now (rows .entry))) t) n spent ⌝ }
 {
-    let threads = threads_of(state, segments, t);
+    let segments = plain_words::segments_by(held, rows);
+    let threads = threads_of(state, &segments, t);
     PlainRun {
         number: 0,
         variables: Variables { at: v },
@@ -427,8 +430,10 @@ fn cycles(m: Model, budget: u64) -> PlainRun
 {
     let t = m.t as usize;
     let limit = 1024 * (m.horizon.0 + 1);
-    let code = plain_words::pack(m);
-    let mut segments = first_segments(m);
+    let mut code = plain_words::pack(m);
+    let marked = plain_words::any_marked(&code);
+    let mut held = [255u8; 32];
+    let mut rows = first_rows(m);
     let mut v = [0u32; 64];
     let mut state = [0u64; 32];
     let mut told = [false; 32];
@@ -436,6 +441,7 @@ fn cycles(m: Model, budget: u64) -> PlainRun
     let mut due = due_of(&state, 0, 0, t, t);
     let mut n = 0;
     loop {
+        plain_words::prepare(marked, &mut code, &mut held, &mut rows, due.from, due.to);
         n = run_cycle(
             &code,
             due,
@@ -443,16 +449,16 @@ fn cycles(m: Model, budget: u64) -> PlainRun
             n,
             &mut v,
             &mut state,
-            &mut segments,
+            &mut rows,
             &mut told,
             &mut ranges,
         );
         if is_out(&state, t, due.key, budget, n) {
-            return result(v, &state, &segments, t, n, true);
+            return result(v, &state, &held, &rows, t, n, true);
         }
         due = end_cycle(&mut state, &told, &ranges, due, t);
         if limit <= due.key {
-            return result(v, &state, &segments, t, n, false);
+            return result(v, &state, &held, &rows, t, n, false);
         }
         told = [false; 32];
         ranges[32] = 32;

@@ -1,9 +1,11 @@
 -- Every model without a fault keeps what a run uses of the file rules.
 --     effectOf-waits-on, effectOf-time, effectOf-delta, effectOf-notifies     what a thread does in a segment, by its closer and its statements
+--     effectOf-lacks     nor does it lead to a port that the thread leaves unused
 --     modelFault-keeps     the record Keeps, from the rules
 use Prim.Native.Nat.{ℕ, _+_, _<_, _≤_}
-use mathlib.Core.Path.{_≡_, refl, ap, sym, _∙_}
-use mathlib.Core.Logic.{inl}
+use mathlib.Core.Path.{_≡_, refl, ap, sym, _∙_, subst}
+use mathlib.Core.Logic.{_⊎_, inl, inr}
+use mathlib.Core.Bool.{false}
 use mathlib.Core.List.{List}
 use native.Mathlib.Omega.{arith}
 use lib.Dec.{T}
@@ -16,16 +18,20 @@ use Rattle.model.specs.declared.Closer.the-variants.{End, Time, Event}
 use Rattle.model.specs.declared.Model.{Model}
 use Rattle.model.specs.declared.Thread.{Thread}
 use Rattle.model.specs.Limits.{largestTime}
-use Rattle.model.specs.Values.{segmentFor}
+use Rattle.model.specs.Port.{mapSegment}
+use Rattle.model.specs.Values.{segmentAt, portsAt, segmentFor}
 use Rattle.model.specs.Record as view
 use Rattle.model.specs.Record.{cycleOf, viewOf}
 use Rattle.model.specs.Effect.{closedAt, effectOf}
 use Rattle.model.specs.Footprint.{has, notifiesIn}
+use Rattle.model.specs.Reach.{stepsTo, lacksFrom}
 use Rattle.model.specs.Rules.{modelFault}
 use Rattle.model_effect.proofs.EffectLaws.{delayOf, closedAt-cycle}
 use Rattle.model_effect.proofs.FrameLaws.{effectOf-begins, effectOf-length}
-use Rattle.model_rules.proofs.RuleLaws.{closerFault-delay, closerFault-event, closedAt-segment, modelFault-horizon, modelFault-counts, segmentFor-closer, segmentFor-next, modelFault-first, modelFault-notifies}
-use Rattle.plain_laws.proofs.RecordLaws.{append-has, stateAfter-not-waits, stateAfter-delta, effectOf-thread}
+use Rattle.model_effect.proofs.PortLaws.{closer-steps}
+use Rattle.model_reach.proofs.ReachLaws.{lacksFrom-step}
+use Rattle.model_rules.proofs.RuleLaws.{closedAt-segment, modelFault-horizon, modelFault-counts, segmentFor-delay, segmentFor-event, segmentFor-next, modelFault-first, modelFault-lacks, modelFault-notifies}
+use Rattle.plain_laws.proofs.RecordLaws.{append-has, closedAt-next, stateAfter-not-waits, stateAfter-delta, effectOf-thread}
 use Rattle.plain_laws.proofs.RangeLaws.{Keeps}
 
 closedAt-waits-on : (s : ℕ) (g : Closer) (c d : Cycle) (v : List ℕ) (e : ℕ) → viewOf (closedAt s g c v .state) ≡ view.waits e d → (x : Next) × (g ≡ Event e x)
@@ -59,6 +65,20 @@ module _ (m : Model) (k s : ℕ) (c : Cycle) (v : List ℕ) where
       let (rest, p) = effectOf-begins m k s c v in
       rw p (append-has (effectOf m k s c v .notified) rest e (inl t))
 
+  -- the next segment is this one, or a step of the graph
+  pub effectOf-lacks : effectOf m k s c v .thread .segment < m .n → lacksFrom m k s ≡ false → lacksFrom m k (effectOf m k s c v .thread .segment) ≡ false
+  unfolding segmentFor mapSegment
+  effectOf-lacks h none =
+      go (subst (λ (t : Thread). (t .segment ≡ s) ⊎ T (stepsTo (segmentFor m k s .closer) (t .segment))) (sym (effectOf-thread m k s c v))
+      (closedAt-next s (segmentFor m k s .closer) c (effectOf m k s c v .variables)))
+    where
+      next : ℕ
+      next = effectOf m k s c v .thread .segment
+
+      go : (next ≡ s) ⊎ T (stepsTo (segmentFor m k s .closer) next) → lacksFrom m k next ≡ false
+      go (inl e) = rw e none
+      go (inr t) = lacksFrom-step m k s next h (rw (closer-steps (portsAt m k) (segmentAt m s .closer) next) at t) none
+
 -- every model that keeps the file rules
 pub modelFault-keeps : (m : Model) → modelFault m ≡ 0 → Keeps m
 modelFault-keeps m fit =
@@ -67,7 +87,9 @@ modelFault-keeps m fit =
       thread-some = modelFault-counts m fit .some-thread;
       thread-most = modelFault-counts m fit .threads;
       first = λ k h. modelFault-first m fit k h;
+      first-lacks = λ k h. modelFault-lacks m fit k h;
       next = next;
+      next-lacks = λ k s c v h none. effectOf-lacks m k s c v (next k s c v h) none;
       event = event;
       notifies = λ k s c v e h t. modelFault-notifies m fit k s h e (effectOf-notifies m k s c v e t);
       time = time;
@@ -81,10 +103,7 @@ modelFault-keeps m fit =
         (closedAt-segment (m .n) s (segmentFor m k s .closer) c (effectOf m k s c v .variables) h (segmentFor-next m fit k s h))
 
     event : (k s : ℕ) (c : Cycle) (v : List ℕ) (e : ℕ) (d : Cycle) → s < m .n → viewOf (effectOf m k s c v .thread .state) ≡ view.waits e d → e < m .e
-    event k s c v e d h w =
-        let (x, q) = effectOf-waits-on m k s c v e d w in
-        closerFault-event (m .v) (m .e) e x (rw q at (segmentFor-closer m fit k s h))
+    event k s c v e d h w = let (x, q) = effectOf-waits-on m k s c v e d w in segmentFor-event m fit k s h e x q
 
     time : (k s : ℕ) (c : Cycle) (v : List ℕ) → s < m .n → cycleOf (effectOf m k s c v .thread .state) .time .0 ≤ c .time .0 + largestTime
-    time k s c v h =
-        omega (arith, effectOf-time m k s c v, closerFault-delay (m .v) (m .e) (segmentFor m k s .closer) (segmentFor-closer m fit k s h))
+    time k s c v h = omega (arith, effectOf-time m k s c v, segmentFor-delay m fit k s h)

@@ -1,5 +1,5 @@
 -- A model that keeps the file rules stays in range: segments below N, events below E, times below 2,000,000,000, deltas to 1,023,
--- and the cycle that runs now is not later than the horizon. What a run uses of the rules is gathered in Keeps.
+-- no way to a port that the thread leaves unused, and the cycle that runs now is not later than the horizon. What a run uses of the rules is gathered in Keeps.
 --     Keeps     what a model that keeps the rules promises of a run
 --     InRange, in-range     at every place
 --     now-before, record-time, ready-time     the times of records, as numbers
@@ -7,6 +7,7 @@
 use Prim.Native.Nat.{ℕ, zero, suc, _+_, _<_, _≤_}
 use mathlib.Core.Path.{_≡_, refl, sym, _∙_, subst}
 use mathlib.Core.Logic.{_⊎_, inl, inr}
+use mathlib.Core.Bool.{false}
 use mathlib.Core.List.{List}
 use native.Mathlib.Omega.{arith}
 use lib.Dec.{T}
@@ -22,6 +23,7 @@ use Rattle.model.specs.Record as view
 use Rattle.model.specs.Record.{cycleOf, viewOf}
 use Rattle.model.specs.Effect.{effectOf}
 use Rattle.model.specs.Footprint.{has}
+use Rattle.model.specs.Reach.{lacksFrom}
 use Rattle.plain.specs.Start.{Place, started, startOf}
 use Rattle.plain.specs.Step.{stepped, placeAt}
 use Rattle.plain_laws.proofs.RecordLaws.{ready-cycle, stateAfter-not-waits, horizon→<, <→horizon, has-append, has-none, heard-time, heard-delta}
@@ -35,23 +37,26 @@ pub record Keeps (m : Model) : Type 0 where
   pub thread-some : 1 ≤ m .t
   pub thread-most : m .t ≤ 32
   pub first : (k : ℕ) → k < m .t → startAt m k .first < m .n
+  pub first-lacks : (k : ℕ) → k < m .t → lacksFrom m k (startAt m k .first) ≡ false
   -- a thread k that runs segment s at cycle c
   pub next : (k s : ℕ) (c : Cycle) (v : List ℕ) → s < m .n → effectOf m k s c v .thread .segment < m .n
+  pub next-lacks : (k s : ℕ) (c : Cycle) (v : List ℕ) → s < m .n → lacksFrom m k s ≡ false → lacksFrom m k (effectOf m k s c v .thread .segment) ≡ false
   pub event : (k s : ℕ) (c : Cycle) (v : List ℕ) (e : ℕ) (d : Cycle) → s < m .n → viewOf (effectOf m k s c v .thread .state) ≡ view.waits e d → e < m .e
   pub notifies : (k s : ℕ) (c : Cycle) (v : List ℕ) (e : ℕ) → s < m .n → T (has (effectOf m k s c v .notified) e) → e < m .e
   pub time : (k s : ℕ) (c : Cycle) (v : List ℕ) → s < m .n → cycleOf (effectOf m k s c v .thread .state) .time .0 ≤ c .time .0 + largestTime
   pub delta : (k s : ℕ) (c : Cycle) (v : List ℕ) → c .delta .0 ≤ lastDelta → cycleOf (effectOf m k s c v .thread .state) .delta .0 ≤ lastDelta
   pub sized : (k s : ℕ) (c : Cycle) (v : List ℕ) → length (effectOf m k s c v .variables) ≡ length v
 
--- one record in range
-pub record Fits (m : Model) (t : Thread) : Type 0 where
+-- the record of thread k, in range
+pub record Fits (m : Model) (k : ℕ) (t : Thread) : Type 0 where
   pub segment : t .segment < m .n
+  pub lacks : lacksFrom m k (t .segment) ≡ false
   pub event : (e : ℕ) (c : Cycle) → viewOf (t .state) ≡ view.waits e c → e < m .e
   pub time : cycleOf (t .state) .time .0 < endTime m + largestTime
   pub delta : cycleOf (t .state) .delta .0 ≤ lastDelta
 
 pub record InRange (m : Model) (p : Place) : Type 0 where
-  pub fits : (k : ℕ) → k < m .t → Fits m (recordOf p k)
+  pub fits : (k : ℕ) → k < m .t → Fits m k (recordOf p k)
   pub now-time : p .now .time .0 < endTime m
   pub now-delta : p .now .delta .0 ≤ lastDelta
   pub notified : (e : ℕ) → T (has (p .notified) e) → e < m .e
@@ -61,31 +66,33 @@ module _ (m : Model) (kept : Keeps m) where
   unfolding started
   range-start = record { fits = fits; now-time = rw (startOf-now m) (omega arith); now-delta = rw (startOf-now m) (omega arith); notified = λ e t. absurd (has-none e (rw (startOf-notified m) at t)) }
     where
-      fits : (k : ℕ) → k < m .t → Fits m (recordOf (startOf m) k)
+      fits : (k : ℕ) → k < m .t → Fits m k (recordOf (startOf m) k)
       fits k h =
-          subst (Fits m) (sym (startOf-record m k h))
-          (record { segment = kept .first k h; event = λ e c w. absurd (let z : _≡_ {A = ℕ} 0 1 = cc in omega arith); time = omega arith; delta = omega arith })
+          subst (Fits m k) (sym (startOf-record m k h))
+          (record { segment = kept .first k h; lacks = kept .first-lacks k h; event = λ e c w. absurd (let z : _≡_ {A = ℕ} 0 1 = cc in omega arith); time = omega arith; delta = omega arith })
 
-  fits-step : (p : Place) → m .t ≤ length (p .threads) → InRange m p → (k : ℕ) → k < m .t → Fits m (recordOf (stepped m p) k)
+  fits-step : (p : Place) → m .t ≤ length (p .threads) → InRange m p → (k : ℕ) → k < m .t → Fits m k (recordOf (stepped m p) k)
   fits-step p enough g k h = go (happens m p k enough)
     where
-      old : Fits m (recordOf p k)
+      old : Fits m k (recordOf p k)
       old = g .fits k h
 
-      go : Happens m p k → Fits m (recordOf (stepped m p) k)
-      go (idle s r n i) = subst (Fits m) (sym s) old
+      go : Happens m p k → Fits m k (recordOf (stepped m p) k)
+      go (idle s r n i) = subst (Fits m k) (sym s) old
       go (runs r d s i) =
-          subst (Fits m) (sym s)
+          subst (Fits m k) (sym s)
           (record {
             segment = kept .next k (recordOf p k .segment) (p .now) (p .variables) (old .segment);
+            lacks = kept .next-lacks k (recordOf p k .segment) (p .now) (p .variables) (old .segment) (old .lacks);
             event = λ e c w. kept .event k (recordOf p k .segment) (p .now) (p .variables) e c (old .segment) w;
             time = omega (arith, kept .time k (recordOf p k .segment) (p .now) (p .variables) (old .segment), g .now-time);
             delta = kept .delta k (recordOf p k .segment) (p .now) (p .variables) (g .now-delta);
           })
       go (hears v n s i) =
-          subst (Fits m) (sym s)
+          subst (Fits m k) (sym s)
           (record {
             segment = old .segment;
+            lacks = old .lacks;
             event = λ e c w. absurd (stateAfter-not-waits (waitEnds wait.Event (p .now)) e c w);
             time = omega (arith, heard-time (p .now), g .now-time);
             delta = heard-delta (p .now) (g .now-delta);
@@ -94,7 +101,7 @@ module _ (m : Model) (kept : Keeps m) where
   range-step : (p : Place) → m .t ≤ length (p .threads) → InRange m p → InRange m (stepped m p)
   range-step p enough g = go (sees m p)
     where
-      fits : (k : ℕ) → k < m .t → Fits m (recordOf (stepped m p) k)
+      fits : (k : ℕ) → k < m .t → Fits m k (recordOf (stepped m p) k)
       fits = fits-step p enough g
 
       go : Sees m p → InRange m (stepped m p)

@@ -2,6 +2,7 @@
 -- They are opened here and in no later file.
 --     thread-path, threadAt-at, threadAt-set, threadAt-other, threadAt-past, threadAt-map     one record of a list
 --     readyCycle→ready, ready→state, waits→state, stateAfter-ready, stateAfter-not-waits     which state it is
+--     goesTo-next, closedAt-next     the next segment is a step of the graph
 --     effectOf-later, effectOf-waits     a thread that has run is ready later, or waits since now
 --     stateAfter-delta, heard-time, heard-delta     what stays in range
 --     horizon→<, <→horizon, horizon-mono     up to the horizon
@@ -15,7 +16,7 @@ use native.Mathlib.Omega.{arith}
 use lib.Dec.{T, eqb, ltb→lt, lt→ltb}
 use lib.ListN.{length, getD, set, List·getD-map, List·getD-eq-default}
 use lib.Seq.{getD-set-same, getD-set-other}
-use Rattle.base.proofs.BoolLaws.{or→either, either→or}
+use Rattle.base.proofs.BoolLaws.{or→either, either→or, eq→eqb}
 use Rattle.clock.specs.declared.Cycle.{Cycle}
 use Rattle.clock.specs.declared.Step.{Step}
 use Rattle.clock.specs.declared.Step.the-variants as step
@@ -25,6 +26,7 @@ use Rattle.clock.specs.declared.Bound.the-variants.{At}
 use Rattle.clock.specs.Order.{Before, _⊑_, sooner, same-time}
 use Rattle.clock.specs.Wait.{lastDelta, waitEnds}
 use Rattle.clock.proofs.WaitLaws.{waitEnds-later, waitEnds-overrun, waitEnds-delta, waitEnds-event-time}
+use Rattle.model.specs.declared.Next.{Next}
 use Rattle.model.specs.declared.Closer.{Closer}
 use Rattle.model.specs.declared.Closer.the-variants.{End, Time, Event}
 use Rattle.model.specs.declared.Model.{Model}
@@ -35,8 +37,10 @@ use Rattle.model.specs.Limits.{endTime, isUpToHorizon, isBoundUpToHorizon}
 use Rattle.model.specs.Record as view
 use Rattle.model.specs.Record.{awaits, noThread, threadAt, cycleOf, stateAfter, View, viewOf, readyCycleOf, isLiveView, awaitedOf}
 use Rattle.model.specs.Values.{segmentFor}
-use Rattle.model.specs.Effect.{closedAt, effectIn, effectOf}
+use Rattle.model.specs.Effect.{nextOf, closedAt, effectIn, effectOf}
 use Rattle.model.specs.Footprint.{has}
+use Rattle.model.specs.Reach.{goesTo, stepsTo}
+use Rattle.model_effect.proofs.EffectLaws.{nextOf-either}
 use Rattle.model_effect.proofs.FootprintLaws as events
 
 pub thread-path : {a b : Thread} → a .segment ≡ b .segment → a .state ≡ b .state → a ≡ b
@@ -117,6 +121,21 @@ stateAfter-ready (step.Overrun d) c e = absurd (let z : _≡_ {A = ℕ} 0 1 = cc
 pub stateAfter-not-waits : (z : Step) (e : ℕ) (c : Cycle) → viewOf (stateAfter z) ≡ view.waits e c → ⊥
 stateAfter-not-waits (step.Ready d) v c e = let z : _≡_ {A = ℕ} 0 1 = cc in omega arith
 stateAfter-not-waits (step.Overrun d) v c e = let z : _≡_ {A = ℕ} 0 1 = cc in omega arith
+
+pub goesTo-next : (x : Next) (v : List ℕ) → T (goesTo x (nextOf x v))
+unfolding goesTo
+goesTo-next x v = go (nextOf-either x v)
+  where
+    go : (nextOf x v ≡ x .a) ⊎ (nextOf x v ≡ x .b) → T (goesTo x (nextOf x v))
+    go (inl e) = either→or (eqb (x .a) (nextOf x v)) (eqb (x .b) (nextOf x v)) (inl (eq→eqb (x .a) (nextOf x v) (sym e)))
+    go (inr e) = either→or (eqb (x .a) (nextOf x v)) (eqb (x .b) (nextOf x v)) (inr (eq→eqb (x .b) (nextOf x v) (sym e)))
+
+-- a thread that ends stays where it is
+pub closedAt-next : (s : ℕ) (g : Closer) (c : Cycle) (v : List ℕ) → (closedAt s g c v .segment ≡ s) ⊎ T (stepsTo g (closedAt s g c v .segment))
+unfolding closedAt stepsTo
+closedAt-next s End c v = inl refl
+closedAt-next s (Time k x) c v = inr (goesTo-next x v)
+closedAt-next s (Event w x) c v = inr (goesTo-next x v)
 
 closedAt-later : (s : ℕ) (g : Closer) (c d : Cycle) (v : List ℕ) → viewOf (closedAt s g c v .state) ≡ view.ready d → Before c d
 unfolding closedAt

@@ -237,47 +237,47 @@ closeWord-waits end now e small w = go (ℕ-discrete (end % 4) 0) (ℕ-discrete 
     go (no p) (no q) (no r) (a, (b, d)) = let f : 1024 * (now / 1024 + end / 1024 % 4294967296) ≡ closeWord end now = closeWord-timed-wait now end p q r in absurd (omega arith)
 
 -- threads that are not due are passed over
-module _ (code : List ℕ) (now budget : ℕ) where
-  pub turnOn-or : (k : ℕ) (x : Locals) → (x ≡ turnOn code now budget k x) ⊎ ((getD (x .state) k 0 ≡ now) × (ranBy code now k x ≡ turnOn code now budget k x))
+module _ (words : ℕ → List ℕ) (now budget : ℕ) where
+  pub turnOn-or : (k : ℕ) (x : Locals) → (x ≡ turnOn words now budget k x) ⊎ ((getD (x .state) k 0 ≡ now) × (ranBy words now k x ≡ turnOn words now budget k x))
   unfolding turnOn
   turnOn-or k x = go (ℕ-discrete (getD (x .state) k 0) now) (ltb (x .n) budget) refl
     where
       go : Dec (getD (x .state) k 0 ≡ now) → (b : Bool) → ltb (x .n) budget ≡ b →
-          (x ≡ turnOn code now budget k x) ⊎ ((getD (x .state) k 0 ≡ now) × (ranBy code now k x ≡ turnOn code now budget k x))
-      go (no d) b e = inl (turnOn-passed code now budget k x d)
+          (x ≡ turnOn words now budget k x) ⊎ ((getD (x .state) k 0 ≡ now) × (ranBy words now k x ≡ turnOn words now budget k x))
+      go (no d) b e = inl (turnOn-passed words now budget k x d)
       go (yes d) true e = inr (d, rw (eq-eqb (getD (x .state) k 0) now d, e) refl)
       go (yes d) false e = inl (rw (eq-eqb (getD (x .state) k 0) now d, e) refl)
 
-  turnOn-state : (k : ℕ) (x : Locals) (j : ℕ) → (j ≡ k → ⊥) → getD (turnOn code now budget k x .state) j 0 ≡ getD (x .state) j 0
+  turnOn-state : (k : ℕ) (x : Locals) (j : ℕ) → (j ≡ k → ⊥) → getD (turnOn words now budget k x .state) j 0 ≡ getD (x .state) j 0
   turnOn-state k x j n = go (turnOn-or k x)
     where
-      go : (x ≡ turnOn code now budget k x) ⊎ ((getD (x .state) k 0 ≡ now) × (ranBy code now k x ≡ turnOn code now budget k x)) →
-          getD (turnOn code now budget k x .state) j 0 ≡ getD (x .state) j 0
+      go : (x ≡ turnOn words now budget k x) ⊎ ((getD (x .state) k 0 ≡ now) × (ranBy words now k x ≡ turnOn words now budget k x)) →
+          getD (turnOn words now budget k x .state) j 0 ≡ getD (x .state) j 0
       go (inl e) = ap (λ (y : Locals). getD (y .state) j 0) (sym e)
-      go (inr (d, e)) = ap (λ (y : Locals). getD (y .state) j 0) (sym e) ∙ getD-set-other (x .state) k j (closeWord (endBy code (getD (x .segments) k 0)) now) 0 n
+      go (inr (d, e)) = ap (λ (y : Locals). getD (y .state) j 0) (sym e) ∙ getD-set-other (x .state) k j (closeWord (endBy (words k) (getD (x .segments) k 0)) now) 0 n
 
   module _ (x : Locals) where
-    pub turnsTo-state : (j i : ℕ) → j ≤ i → getD (turnsTo code now budget j x .state) i 0 ≡ getD (x .state) i 0
+    pub turnsTo-state : (j i : ℕ) → j ≤ i → getD (turnsTo words now budget j x .state) i 0 ≡ getD (x .state) i 0
     unfolding turnsTo
     turnsTo-state zero i h = refl
-    turnsTo-state (suc j) i h = turnOn-state j (turnsTo code now budget j x) i (λ q. omega arith) ∙ turnsTo-state j i (omega arith)
+    turnsTo-state (suc j) i h = turnOn-state j (turnsTo words now budget j x) i (λ q. omega arith) ∙ turnsTo-state j i (omega arith)
 
-    pub turnsTo-idle : (j : ℕ) → ((k : ℕ) → k < j → getD (x .state) k 0 ≡ now → ⊥) → x ≡ turnsTo code now budget j x
+    pub turnsTo-idle : (j : ℕ) → ((k : ℕ) → k < j → getD (x .state) k 0 ≡ now → ⊥) → x ≡ turnsTo words now budget j x
     unfolding turnsTo
     turnsTo-idle zero h = refl
     turnsTo-idle (suc j) h =
-        turnOn-passed code now budget j x (h j (omega arith)) ∙ ap (turnOn code now budget j) (turnsTo-idle j (λ k l. h k (omega arith)))
+        turnOn-passed words now budget j x (h j (omega arith)) ∙ ap (turnOn words now budget j) (turnsTo-idle j (λ k l. h k (omega arith)))
 
-    pub turnsTo-past : (j t : ℕ) → j ≤ t → ((k : ℕ) → j ≤ k → k < t → getD (x .state) k 0 ≡ now → ⊥) → turnsTo code now budget j x ≡ turnsTo code now budget t x
+    pub turnsTo-past : (j t : ℕ) → j ≤ t → ((k : ℕ) → j ≤ k → k < t → getD (x .state) k 0 ≡ now → ⊥) → turnsTo words now budget j x ≡ turnsTo words now budget t x
     unfolding turnsTo
-    turnsTo-past j zero h n = let e : j ≡ zero = omega arith in ap (λ (k : ℕ). turnsTo code now budget k x) e
+    turnsTo-past j zero h n = let e : j ≡ zero = omega arith in ap (λ (k : ℕ). turnsTo words now budget k x) e
     turnsTo-past j (suc t) h n = go (ℕ-discrete j (suc t)) (λ l. turnsTo-past j t l (λ k a b. n k a (omega arith)))
       where
-        go : Dec (j ≡ suc t) → (j ≤ t → turnsTo code now budget j x ≡ turnsTo code now budget t x) → turnsTo code now budget j x ≡ turnsTo code now budget (suc t) x
-        go (yes e) ih = ap (λ (k : ℕ). turnsTo code now budget k x) e
+        go : Dec (j ≡ suc t) → (j ≤ t → turnsTo words now budget j x ≡ turnsTo words now budget t x) → turnsTo words now budget j x ≡ turnsTo words now budget (suc t) x
+        go (yes e) ih = ap (λ (k : ℕ). turnsTo words now budget k x) e
         go (no e) ih =
             ih (omega arith) ∙
-            turnOn-passed code now budget t (turnsTo code now budget t x) (λ q. n t (omega arith) (omega arith) (sym (turnsTo-state t t (omega arith)) ∙ q))
+            turnOn-passed words now budget t (turnsTo words now budget t x) (λ q. n t (omega arith) (omega arith) (sym (turnsTo-state t t (omega arith)) ∙ q))
 
 -- a thread that waits widens its event's range
 module _ (end k : ℕ) (rs : List ℕ) (size : length rs ≡ 66) where

@@ -25,8 +25,8 @@ use Rattle.plain_state.specs.Turn.{Locals, waitedBy, ranBy, turnOn, turn
 use Rattle.plain_state.specs.Due.{Between, Late, WaitsFor, Woken, IsDue, Begins, Ends}
 use Rattle.plain_state.proofs.DueLaws.{waitsFor-word, wakeWord-ahead, wakeWord-waits, wakeWord-still, closeWord-waits, turnOn-or, turnsTo-state, turnsTo-past, waitedBy-length, waitedBy-keeps, waitedBy-new}
 
-pub due-all : (code : List ℕ) (now budget : ℕ) (x y : Locals) (t from to : ℕ) → IsDue t (x .state) now from to → y ≡ turnsTo code now budget to x → y ≡ turnsTo code now budget t x
-due-all code now budget x y t from to d e = e ∙ turnsTo-past code now budget x to t (d .inside) (λ k l u q. let h = d .due k u q .1 in omega arith)
+pub due-all : (words : ℕ → List ℕ) (now budget : ℕ) (x y : Locals) (t from to : ℕ) → IsDue t (x .state) now from to → y ≡ turnsTo words now budget to x → y ≡ turnsTo words now budget t x
+due-all words now budget x y t from to d e = e ∙ turnsTo-past words now budget x to t (d .inside) (λ k l u q. let h = d .due k u q .1 in omega arith)
 
 pub due-idle : (t : ℕ) (ws : List ℕ) (now from to : ℕ) → IsDue t ws now from to → (k : ℕ) → k < from → getD ws k 0 ≡ now → ⊥
 due-idle t ws now from to d k h e =
@@ -57,20 +57,20 @@ record Runs (t now from to : ℕ) (x : Locals) : Type 0 where
   places : length (x .state) ≡ 32
   ends : Ends t (x .state) (x .shared .told) (x .shared .ranges) now from to
 
-module _ (code : List ℕ) (now budget t from to : ℕ) (few : t ≤ 32) (small : now < span) where
+module _ (words : ℕ → List ℕ) (now budget t from to : ℕ) (few : t ≤ 32) (small : now < span) where
   module _ (x : Locals) (r : Runs t now from to x) (j : ℕ) (h : j < t) (here : Between from to j) where
     segment : ℕ
     segment = getD (x .segments) j 0
 
     end : ℕ
-    end = endBy code segment
+    end = endBy (words j) segment
 
     after : Shared
-    after = executeBy code segment (x .shared)
+    after = executeBy (words j) segment (x .shared)
 
     wider : Wider (x .shared .told) (after .told) (x .shared .ranges) (after .ranges)
     unfolding after
-    wider = executeBy-wider code (x .shared) (r .ends .size) segment
+    wider = executeBy-wider (words j) (x .shared) (r .ends .size) segment
 
     view : (k : ℕ) → ((k ≡ j) × (getD (set (x .state) j (closeWord end now)) k 0 ≡ closeWord end now)) ⊎ ((k ≡ j → ⊥) × (getD (set (x .state) j (closeWord end now)) k 0 ≡ getD (x .state) k 0))
     view k = set-view (x .state) j (closeWord end now) k (omega (arith, r .places))
@@ -116,7 +116,7 @@ module _ (code : List ℕ) (now budget t from to : ℕ) (few : t ≤ 32) (small 
         go (inl (q, f)) = subst (Between from to) (sym q) here
         go (inr (q, f)) = r .ends .late k l (subst Late f w)
 
-    runs-ran : Runs t now from to (ranBy code now j x)
+    runs-ran : Runs t now from to (ranBy words now j x)
     unfolding after end segment
     runs-ran =
         record {
@@ -132,21 +132,21 @@ module _ (code : List ℕ) (now budget t from to : ℕ) (few : t ≤ 32) (small 
               };
         }
 
-  runs-on : (x : Locals) → Runs t now from to x → (j : ℕ) → j < t → (getD (x .state) j 0 ≡ now → Between from to j) → Runs t now from to (turnOn code now budget j x)
-  runs-on x r j h due = go (turnOn-or code now budget j x)
+  runs-on : (x : Locals) → Runs t now from to x → (j : ℕ) → j < t → (getD (x .state) j 0 ≡ now → Between from to j) → Runs t now from to (turnOn words now budget j x)
+  runs-on x r j h due = go (turnOn-or words now budget j x)
     where
-      go : (x ≡ turnOn code now budget j x) ⊎ ((getD (x .state) j 0 ≡ now) × (ranBy code now j x ≡ turnOn code now budget j x)) → Runs t now from to (turnOn code now budget j x)
+      go : (x ≡ turnOn words now budget j x) ⊎ ((getD (x .state) j 0 ≡ now) × (ranBy words now j x ≡ turnOn words now budget j x)) → Runs t now from to (turnOn words now budget j x)
       go (inl e) = subst (Runs t now from to) e r
       go (inr (d, e)) = subst (Runs t now from to) e (runs-ran x r j h (due d))
 
-  runs-to : (x : Locals) → Runs t now from to x → ((k : ℕ) → k < t → getD (x .state) k 0 ≡ now → Between from to k) → (j : ℕ) → j ≤ t → Runs t now from to (turnsTo code now budget j x)
+  runs-to : (x : Locals) → Runs t now from to x → ((k : ℕ) → k < t → getD (x .state) k 0 ≡ now → Between from to k) → (j : ℕ) → j ≤ t → Runs t now from to (turnsTo words now budget j x)
   unfolding turnsTo
   runs-to x r due zero h = r
   runs-to x r due (suc j) h =
-      runs-on (turnsTo code now budget j x) (runs-to x r due j (omega arith)) j (omega arith)
-      (λ q. due j (omega arith) (sym (turnsTo-state code now budget x j j (omega arith)) ∙ q))
+      runs-on (turnsTo words now budget j x) (runs-to x r due j (omega arith)) j (omega arith)
+      (λ q. due j (omega arith) (sym (turnsTo-state words now budget x j j (omega arith)) ∙ q))
 
-  pub ends-all : (x y : Locals) → length (x .state) ≡ 32 → Begins t (x .state) (x .shared .told) (x .shared .ranges) now from to → y ≡ turnsTo code now budget t x →
+  pub ends-all : (x y : Locals) → length (x .state) ≡ 32 → Begins t (x .state) (x .shared .told) (x .shared .ranges) now from to → y ≡ turnsTo words now budget t x →
       Ends t (y .state) (y .shared .told) (y .shared .ranges) now from to
   ends-all x y size b e =
       let r : Runs t now from to x =

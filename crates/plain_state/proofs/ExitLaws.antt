@@ -149,33 +149,34 @@ module _ (fs : List Bool) (k w : ℕ) where
     wakeWord-wakes e p = let s = same-key in rw (awaited-waiting w h l, e, from-before k (w % span), le-ltb k (w % span) (omega arith)) refl
 
 -- a thread that is looked at
-module _ (code : List ℕ) (now budget k : ℕ) where
+module _ (words : ℕ → List ℕ) (now budget k : ℕ) where
   module _ (x : Locals) where
-    pub turnOn-passed : (getD (x .state) k 0 ≡ now → ⊥) → x ≡ turnOn code now budget k x
+    pub turnOn-passed : (getD (x .state) k 0 ≡ now → ⊥) → x ≡ turnOn words now budget k x
     unfolding turnOn
     turnOn-passed h = rw (ne-eqb (getD (x .state) k 0) now h) refl
 
-    pub turnOn-full : budget ≤ x .n → x ≡ turnOn code now budget k x
+    pub turnOn-full : budget ≤ x .n → x ≡ turnOn words now budget k x
     unfolding turnOn
     turnOn-full h = go (eqb (getD (x .state) k 0) now)
       where
-        go : (b : Bool) → x ≡ cond (b && ltb (x .n) budget) (ranBy code now k x) x
+        go : (b : Bool) → x ≡ cond (b && ltb (x .n) budget) (ranBy words now k x) x
         go true = rw (le-ltb (x .n) budget h) refl
         go false = refl
 
-    pub turnOn-ran : getD (x .state) k 0 ≡ now → x .n < budget → ranBy code now k x ≡ turnOn code now budget k x
+    pub turnOn-ran : getD (x .state) k 0 ≡ now → x .n < budget → ranBy words now k x ≡ turnOn words now budget k x
     unfolding turnOn
     turnOn-ran h l = rw (eq-eqb (getD (x .state) k 0) now h, lt-ltb (x .n) budget l) refl
 
-  pub turnsTo-next : (x y z : Locals) → y ≡ turnsTo code now budget k x → z ≡ turnOn code now budget k y → z ≡ turnsTo code now budget (k + 1) x
+  pub turnsTo-next : (x y z : Locals) → y ≡ turnsTo words now budget k x → z ≡ turnOn words now budget k y → z ≡ turnsTo words now budget (k + 1) x
   unfolding turnsTo
   turnsTo-next x y z e f = rw (add-one, ← e) f
 
 -- for the code: the arrays of a thread that ran
-pub ran-as : (code : List ℕ) (now k : ℕ) (x : Locals) (v : List ℕ) (fs : List Bool) (rs qs : List ℕ) (e w f : ℕ) → let s = getD (x .segments) k 0 in
-    shared v fs rs ≡ executeBy code s (x .shared) → e ≡ endBy code s → qs ≡ waitedBy e k rs → w ≡ closeWord e now → f ≡ followBy code s v →
-    locals v (set (x .state) k w) (set (x .segments) k f) fs qs (x .n + 1) ≡ ranBy code now k x
-ran-as code now k x v fs rs qs e w f p r b t u =
+pub ran-as : (words : ℕ → List ℕ) (now k : ℕ) (x : Locals) (v : List ℕ) (fs : List Bool) (rs qs : List ℕ) (e w f : ℕ) → let s = getD (x .segments) k 0 in
+    shared v fs rs ≡ executeBy (words k) s (x .shared) → e ≡ endBy (words k) s → qs ≡ waitedBy e k rs → w ≡ closeWord e now → f ≡ followBy (words k) s v →
+    locals v (set (x .state) k w) (set (x .segments) k f) fs qs (x .n + 1) ≡ ranBy words now k x
+ran-as words now k x v fs rs qs e w f p r b t u =
+    let code = words k in
     let s = getD (x .segments) k 0 in
     let t′ : w ≡ closeWord (endBy code s) now = t ∙ ap (λ (z : ℕ). closeWord z now) r in
     let u′ : f ≡ followBy code s (executeBy code s (x .shared) .variables) = u ∙ ap (λ (y : Shared). followBy code s (y .variables)) p in

@@ -11,10 +11,8 @@ use lib.ListN.{length, getD, set, replicate}
 use lib.Seq.{getD-set-other, set-at, append-snoc}
 use Rattle.base.specs.Index.{tabulate}
 use Rattle.base.proofs.IndexLaws.{tabulate-length, tabulate-more}
-use Rattle.model.specs.declared.Model.{Model}
 use Rattle.model.specs.declared.Thread.{Thread}
 use Rattle.model.specs.declared.State.{State}
-use Rattle.model.specs.Values.{noStart, startAt}
 use Rattle.model.specs.Record.{noThread}
 use Rattle.plain_words.proofs.SetLaws.{set-case}
 use Rattle.plain_state.specs.Words.{stateFrom, threadsTo}
@@ -47,7 +45,3 @@ threadsTo-next ws ss k r e f =
 pub threadsTo-set : (ws ss : List ℕ) (ts : List Thread) (k : ℕ) (s : State) → k < 32 → ts ≡ threadsTo ws ss k → s ≡ stateFrom (getD ws k 0) →
     set ts k (record { segment = getD ss k 0; state = s }) ≡ threadsTo ws ss (k + 1)
 threadsTo-set ws ss ts k s h e f = rw (add-one, e, f) (threadsTo-next ws ss k (31 - k) (omega arith) (omega arith))
-
-pub started-first : (m : Model) (k : ℕ) → getD (m .starts) k noStart .first ≡ startAt m k .first
-unfolding startAt
-started-first m k = refl

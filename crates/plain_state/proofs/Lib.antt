@@ -9,5 +9,6 @@ pub mod LoopLaws
 pub mod DueLaws
 pub mod EndLaws
 pub mod TurnLaws
+pub mod RowLaws
 pub mod Computed
 pub mod Edges

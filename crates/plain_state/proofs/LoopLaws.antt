@@ -29,19 +29,22 @@ use Rattle.model.specs.declared.Closer.{Closer}
 use Rattle.model.specs.declared.Closer.the-variants.{End, Time, Event}
 use Rattle.model.specs.declared.Model.{Model}
 use Rattle.model.specs.declared.Thread.{Thread}
-use Rattle.model.specs.Values.{segmentAt, segmentFor, startAt, bodyOf}
+use Rattle.model.specs.Values.{segmentFor, startAt, bodyOf}
 use Rattle.model.specs.Statement.{execute, notifiedBy}
-use Rattle.model.specs.Limits.{isUpToHorizon, isBoundUpToHorizon}
+use Rattle.model.specs.Limits.{largestTime, isUpToHorizon, isBoundUpToHorizon}
 use Rattle.model.specs.Record.{noThread, threadAt, viewOf, readyCycle}
 use Rattle.model.specs.Effect.{closedAt, effectIn, effectOf}
 use Rattle.model.specs.Footprint.{listedIn, notifiesIn}
-use Rattle.model.specs.Rules.{closerFault, modelFault}
-use Rattle.model_rules.proofs.RuleLaws.{closerFault-delay, modelFault-counts, modelFault-statements, modelFault-closer, modelFault-notifies}
-use Rattle.plain_words.specs.Pack.{IsCode}
+use Rattle.model.specs.Reach.{lacksPort}
+use Rattle.model.specs.Rules.{modelFault}
+use Rattle.model_effect.proofs.EffectLaws.{delayOf}
+use Rattle.model_reach.proofs.ReachLaws.{lacksFrom-self}
+use Rattle.model_rules.proofs.RuleLaws.{modelFault-counts, modelFault-notifies, segmentFor-delay}
+use Rattle.plain_words.specs.Pack.{packEnd, IsCodeFor}
 use Rattle.plain_words.specs.Unpack.{endBy}
 use Rattle.plain_words.specs.Shared.{Shared, shared, marked, reached, executeBy}
 use Rattle.plain_words.proofs.MarkLaws.{Tells, Within, marked-length, tells-none, tells-more}
-use Rattle.plain_words.proofs.CodeLaws.{code-end, code-execute, code-follow}
+use Rattle.plain_words.proofs.CodeLaws.{mark, code-end, code-execute, code-follow}
 use Rattle.plain.specs.declared.PlainRun.{PlainRun}
 use Rattle.plain.specs.Start.{Place, started, freshThreads, freshVariables, startOf}
 use Rattle.plain.specs.Wake.{wokenThread, woken, floorOf, someReady}
@@ -56,7 +59,7 @@ use Rattle.plain_state.specs.Turn.{Locals, locals, ranBy}
 use Rattle.plain_state.proofs.LimitLaws.{horizon→limit, limit-small}
 use Rattle.plain_state.proofs.FloorLaws.{someReady-rest, begun-rest, stepped-close, runFor-done, runFor-out, runFor-on}
 use Rattle.plain_state.proofs.SoundLaws.{Ranged, Sound, sound-at}
-use Rattle.plain_state.proofs.WordLaws.{Small, InRange, unitsOf, stateFrom-word, word-after, word-due, word-not-due, closeWord-closed, wakeWord-woken}
+use Rattle.plain_state.proofs.WordLaws.{Small, InRange, unitsOf, stateFrom-word, word-after, word-due, word-not-due, closeWord-mark, closeWord-closed, wakeWord-woken}
 use Rattle.plain_state.proofs.LeastLaws.{leastWord-one, floor-word, floor-late}
 
 -- how many steps lie before a turn of a cycle: T + 1 for each cycle, whether it is run or not
@@ -250,20 +253,21 @@ threadsTo-as ws ss t ts h size words segments r =
     go k (no l) =
         past-end (tabulate t 0 f) (32 - t) k (omega (arith, tabulate-length t 0 f)) ∙ sym (r .rest k (omega arith))
 
-effect-within : (m : Model) → modelFault m ≡ 0 → (s : ℕ) → s < m .n → Within 32 (notifiedBy (bodyOf (segmentAt m s)))
-unfolding notifiesIn listedIn segmentFor
-effect-within m fit s l e t = let few = modelFault-counts m fit .events in omega (arith, modelFault-notifies m fit 0 s l e t)
+effect-within : (m : Model) → modelFault m ≡ 0 → (k s : ℕ) → s < m .n → Within 32 (notifiedBy (bodyOf (segmentFor m k s)))
+unfolding notifiesIn listedIn
+effect-within m fit k s l e t = let few = modelFault-counts m fit .events in omega (arith, modelFault-notifies m fit k s l e t)
 
-closes : (m : Model) (fit : modelFault m ≡ 0) (code : List ℕ) → IsCode m 64 code → (s : ℕ) → s < m .n → (c : Cycle) → Small c → (x : List ℕ) →
-    InRange (closedAt s (segmentAt m s .closer) c x .state) → closeWord (endBy code s) (keyOf c) ≡ wordOf (closedAt s (segmentAt m s .closer) c x .state)
-closes m fit code is s l c small x r =
-    let few = modelFault-statements m fit s l in
-    rw (code-end m fit code is s l) (closeWord-closed c small (segmentAt m s .n) (omega arith) s (segmentAt m s .closer) x (units (m .v) (m .e) (segmentAt m s .closer) (modelFault-closer m fit s l)) r)
+closes : (m : Model) (fit : modelFault m ≡ 0) (k : ℕ) (words : List ℕ) → IsCodeFor m k words → (s : ℕ) → s < m .n → (c : Cycle) → Small c → (x : List ℕ) →
+    InRange (closedAt s (segmentFor m k s .closer) c x .state) → closeWord (endBy words s) (keyOf c) ≡ wordOf (closedAt s (segmentFor m k s .closer) c x .state)
+closes m fit k words is s l c small x r =
+    ap (λ (e : ℕ). closeWord e (keyOf c)) (code-end m fit k words is s l) ∙
+    (closeWord-mark (mark m fit k words is s l) (packEnd (segmentFor m k s .n) (segmentFor m k s .closer)) (keyOf c) ∙
+    closeWord-closed c small (segmentFor m k s .n) s (segmentFor m k s .closer) x (units (segmentFor m k s .closer) (segmentFor-delay m fit k s l)) r)
   where
-    units : (v e : ℕ) (z : Closer) → closerFault v e z ≡ 0 → unitsOf z < 4294967296
-    units v e End f = omega arith
-    units v e (Time k y) f = omega (arith, closerFault-delay v e (Time k y) f)
-    units v e (Event w y) f = omega arith
+    units : (z : Closer) → delayOf z ≤ largestTime → unitsOf z < 4294967296
+    units End h = omega arith
+    units (Time k y) h = omega arith
+    units (Event w y) h = omega arith
 
 module _ (m : Model) (fit : modelFault m ≡ 0) (budget : ℕ) where
   pub loop-start : (ss rs : List ℕ) → length ss ≡ 32 → ((k : ℕ) → k < m .t → getD ss k 0 ≡ startAt m k .first) →
@@ -306,6 +310,10 @@ module _ (m : Model) (fit : modelFault m ≡ 0) (budget : ℕ) where
 
     pub loop-segment : turn < m .t → getD (x .segments) turn 0 < m .n
     loop-segment h = rw (loop .segments turn h) (sound .segment turn h)
+
+    -- it uses every port that its segment names
+    pub loop-ports : turn < m .t → lacksPort m turn (getD (x .segments) turn 0) ≡ false
+    loop-ports h = lacksFrom-self m turn (getD (x .segments) turn 0) (loop-segment h) (rw (loop .segments turn h) (sound .lacks turn h))
 
     -- the measure has room to fall
     pub loop-room : countAt (m .t) now turn < lastStep m
@@ -373,33 +381,34 @@ module _ (m : Model) (fit : modelFault m ≡ 0) (budget : ℕ) where
           subst (λ (y : Thread). InRange (y .state)) (threadAt-set (loop .threads) turn (effectAt m here .thread) j) (ran .ranged .range turn h)
 
       -- "the ready threads of that cycle run their segment whole"
-      pub loop-ran : x .n < budget → (code : List ℕ) → IsCode m 64 code → Loop m budget (ranBy code now turn x) now (turn + 1)
-      unfolding ranOn effectOf effectIn segmentFor
-      loop-ran room code is =
+      pub loop-ran : x .n < budget → (words : ℕ → List ℕ) → IsCodeFor m turn (words turn) → Loop m budget (ranBy words now turn x) now (turn + 1)
+      unfolding ranOn effectOf effectIn
+      loop-ran room words is =
+          let code = words turn in
           let s = getD (x .segments) turn 0 in
           let p : s ≡ threadAt (loop .threads) turn .segment = loop .segments turn h in
           let l : s < m .n = loop-segment h in
           let fs = x .shared .told in
-          let es = notifiedBy (bodyOf (segmentAt m s)) in
+          let es = notifiedBy (bodyOf (segmentFor m turn s)) in
           let y = executeBy code s (x .shared) in
-          let after : y ≡ shared (execute (bodyOf (segmentAt m s)) (x .shared .variables)) (marked fs es) (reached (x .shared .ranges) es) =
-          code-execute m fit code is s l (x .shared .variables) fs (x .shared .ranges) in
-          let values : y .variables ≡ execute (bodyOf (segmentAt m s)) (x .shared .variables) = ap (λ (z : Shared). z .variables) after in
+          let after : y ≡ shared (execute (bodyOf (segmentFor m turn s)) (x .shared .variables)) (marked fs es) (reached (x .shared .ranges) es) =
+          code-execute m fit turn code is s l h (loop-ports h) (x .shared .variables) fs (x .shared .ranges) in
+          let values : y .variables ≡ execute (bodyOf (segmentFor m turn s)) (x .shared .variables) = ap (λ (z : Shared). z .variables) after in
           let told : y .told ≡ marked fs es = ap (λ (z : Shared). z .told) after in
           let i : turn < length (x .state) = omega (arith, loop .words-size, modelFault-counts m fit .threads) in
           let j : turn < length (loop .threads) = omega (arith, sound .size, modelFault-counts m fit .threads) in
           let k : turn < length (x .segments) = omega (arith, loop .segments-size, modelFault-counts m fit .threads) in
-          let z = closedAt s (segmentAt m s .closer) (loop .cycle) (y .variables) in
+          let z = closedAt s (segmentFor m turn s .closer) (loop .cycle) (y .variables) in
           let range : InRange (z .state) = rw (values, p) ran-range in
-          let close : closeWord (endBy code s) now ≡ wordOf (z .state) = ap (closeWord (endBy code s)) (loop .key) ∙ closes m fit code is s l (loop .cycle) small (y .variables) range in
+          let close : closeWord (endBy code s) now ≡ wordOf (z .state) = ap (closeWord (endBy code s)) (loop .key) ∙ closes m fit turn code is s l (loop .cycle) small (y .variables) range in
           record {
             threads = set (loop .threads) turn z;
             cycle = loop .cycle;
             events = loop .events ++ es;
             key = loop .key;
             words = set-both (m .t) (x .state) (loop .threads) turn _ z (λ (t : Thread). wordOf (t .state)) i j close (loop .words);
-            segments = set-both (m .t) (x .segments) (loop .threads) turn _ z (λ (t : Thread). t .segment) k j (code-follow m fit code is s l (loop .cycle) (y .variables)) (loop .segments);
-            tells = rw told (tells-more fs (loop .events) es (rw (loop .marks-size) (effect-within m fit s l)) (loop .tells));
+            segments = set-both (m .t) (x .segments) (loop .threads) turn _ z (λ (t : Thread). t .segment) k j (code-follow m fit turn code is s l h (loop-ports h) (loop .cycle) (y .variables)) (loop .segments);
+            tells = rw told (tells-more fs (loop .events) es (rw (loop .marks-size) (effect-within m fit turn s l)) (loop .tells));
             marks-size = ap length told ∙ (marked-length fs es ∙ loop .marks-size);
             words-size = length-set (x .state) turn _ ∙ loop .words-size;
             segments-size = length-set (x .segments) turn _ ∙ loop .segments-size;

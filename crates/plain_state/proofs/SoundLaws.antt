@@ -1,8 +1,9 @@
 -- What the words use of a place of the plain run of a model that keeps the file rules, from the laws of plain_laws.
 --     Ranged     every state is in a word's range, and past a model's threads the records are zero
---     Sound, sound-at     segments in the model, deltas in range, and the threads that were looked at ahead of the cycle that runs
+--     Sound, sound-at     segments in the model and no port lacking, deltas in range, and the threads that were looked at ahead of the cycle that runs
 use Prim.Native.Nat.{ℕ, _<_, _≤_}
 use mathlib.Core.Path.{_≡_, refl}
+use mathlib.Core.Bool.{false}
 use native.Mathlib.Omega.{arith}
 use lib.Dec.{T}
 use lib.ListN.{length}
@@ -16,6 +17,7 @@ use Rattle.model.specs.declared.Thread.{Thread}
 use Rattle.model.specs.Limits.{recordTime, isUpToHorizon}
 use Rattle.model.specs.Record as view
 use Rattle.model.specs.Record.{noThread, threadAt, viewOf, cycleOf}
+use Rattle.model.specs.Reach.{lacksFrom}
 use Rattle.model.specs.Rules.{modelFault}
 use Rattle.model_rules.proofs.RuleLaws.{modelFault-counts}
 use Rattle.plain.specs.Start.{Place}
@@ -37,6 +39,7 @@ pub record Sound (m : Model) (p : Place) : Type 0 where
   pub time : T (isUpToHorizon m (p .now))
   pub delta : p .now .delta .0 ≤ 1023
   pub segment : (k : ℕ) → k < m .t → threadAt (p .threads) k .segment < m .n
+  pub lacks : (k : ℕ) → k < m .t → lacksFrom m k (threadAt (p .threads) k .segment) ≡ false
   pub ahead : (k : ℕ) (c : Cycle) → k < p .turn → viewOf (threadAt (p .threads) k .state) ≡ view.ready c → Before (p .now) c
   pub later : m .t ≤ p .turn → (k : ℕ) (c : Cycle) → viewOf (threadAt (wokenAt p) k .state) ≡ view.ready c → Before (p .now) c
   pub ranged : Ranged (m .t) (p .threads)
@@ -58,6 +61,7 @@ sound-at m fit i =
       time = now-before m kept i;
       delta = in-range m kept i .now-delta;
       segment = λ k h. fits k h .segment;
+      lacks = λ k h. fits k h .lacks;
       ahead = steady m i .looked;
       later = woken-later m (placeAt m i) (shape m i) (steady m i);
       ranged = record {

@@ -1,6 +1,6 @@
 -- The threads of a cycle, looked at one after the other.
 --     Turned     the first j are looked at, or the budget was out at one that is due
---     Runs     what the code holds of a model while it runs
+--     HoldsFor, Runs     what the code holds of a model while it runs
 --     Cycled     a cycle of its run, where it begins
 --     cycle-out, cycle-in     a thread is left for want of budget: the run is spent; none is: the cycle is over
 --     cycle-ends, cycle-ahead     which threads its end has to look at; every word is after it
@@ -20,7 +20,7 @@ use Rattle.model.specs.declared.Model.{Model}
 use Rattle.model.specs.Values.{startAt}
 use Rattle.model.specs.Rules.{modelFault}
 use Rattle.model_rules.proofs.RuleLaws.{modelFault-counts}
-use Rattle.plain_words.specs.Pack.{IsCode}
+use Rattle.plain_words.specs.Pack.{IsCodeFor}
 use Rattle.plain_state.specs.Words.{limitOf, threadsTo, answer, wakeWord, leastWord}
 use Rattle.plain_state.specs.Turn.{Locals, locals, turnOn, turnsTo}
 use Rattle.plain_state.specs.Due.{IsDue, Begins, Ends}
@@ -33,48 +33,52 @@ and-second : (b : Bool) (l k : ℕ) → b && leb l k ≡ true → k < l → ⊥
 and-second true l k g h = let e : true ≡ false = sym g ∙ lt-leb l k h in let z : _≡_ {A = ℕ} 0 1 = cc in absurd (omega arith)
 and-second false l k g h = let z : _≡_ {A = ℕ} 0 1 = cc in absurd (omega arith)
 
--- a model that keeps the file rules, and what the code holds of it: T, 1,024 H, its words and its first segments
-pub record Runs (m : Model) (t end : ℕ) (ws ss : List ℕ) : Type 0 where
+-- words of a model for each thread, as it runs them
+abbrev pub HoldsFor : Model → (ℕ → List ℕ) → Type 0
+HoldsFor m words = (k : ℕ) → k < m .t → IsCodeFor m k (words k)
+
+-- a model that keeps the file rules, and what the code holds of it: T, 1,024 H, its words for each thread and its first segments
+pub record Runs (m : Model) (t end : ℕ) (words : ℕ → List ℕ) (ss : List ℕ) : Type 0 where
   pub fit : modelFault m ≡ 0
-  pub code : IsCode m 64 ws
+  pub code : HoldsFor m words
   pub threads : t ≡ m .t
   pub limit : end ≡ limitOf m
-  pub first : (k : ℕ) → k < 32 → getD ss k 0 ≡ startAt m k .first
+  pub first : (k : ℕ) → k < m .t → getD ss k 0 ≡ startAt m k .first
 
 data Turned (m : Model) (budget : ℕ) (x : Locals) (now j : ℕ) : Type 0 where
   looked : Loop m budget x now j → Turned m budget x now j
   out : (k : ℕ) → k < m .t → getD (x .state) k 0 ≡ now → budget ≤ x .n → Loop m budget x now k → Turned m budget x now j
 
-module _ (m : Model) (fit : modelFault m ≡ 0) (budget : ℕ) (code : List ℕ) (is : IsCode m 64 code) (now : ℕ) where
-  turned-more : (x : Locals) (j : ℕ) → j < m .t → Turned m budget x now j → Turned m budget (turnOn code now budget j x) now (j + 1)
-  turned-more x j h (out k l d full loop) = subst (λ (y : Locals). Turned m budget y now (j + 1)) (turnOn-full code now budget j x full) (out k l d full loop)
+module _ (m : Model) (fit : modelFault m ≡ 0) (budget : ℕ) (words : ℕ → List ℕ) (is : HoldsFor m words) (now : ℕ) where
+  turned-more : (x : Locals) (j : ℕ) → j < m .t → Turned m budget x now j → Turned m budget (turnOn words now budget j x) now (j + 1)
+  turned-more x j h (out k l d full loop) = subst (λ (y : Locals). Turned m budget y now (j + 1)) (turnOn-full words now budget j x full) (out k l d full loop)
   turned-more x j h (looked loop) = go (ℕ-discrete (getD (x .state) j 0) now) (decLt (x .n) budget)
     where
-      go : Dec (getD (x .state) j 0 ≡ now) → Dec (x .n < budget) → Turned m budget (turnOn code now budget j x) now (j + 1)
+      go : Dec (getD (x .state) j 0 ≡ now) → Dec (x .n < budget) → Turned m budget (turnOn words now budget j x) now (j + 1)
       go (no d) r =
-          subst (λ (y : Locals). Turned m budget y now (j + 1)) (turnOn-passed code now budget j x d)
+          subst (λ (y : Locals). Turned m budget y now (j + 1)) (turnOn-passed words now budget j x d)
           (looked (loop-passed m fit budget x now j loop h d))
-      go (yes d) (no r) = subst (λ (y : Locals). Turned m budget y now (j + 1)) (turnOn-full code now budget j x (omega arith)) (out j h d (omega arith) loop)
+      go (yes d) (no r) = subst (λ (y : Locals). Turned m budget y now (j + 1)) (turnOn-full words now budget j x (omega arith)) (out j h d (omega arith) loop)
       go (yes d) (yes r) =
-          subst (λ (y : Locals). Turned m budget y now (j + 1)) (turnOn-ran code now budget j x d r)
-          (looked (loop-ran m fit budget x now j loop h d r code is))
+          subst (λ (y : Locals). Turned m budget y now (j + 1)) (turnOn-ran words now budget j x d r)
+          (looked (loop-ran m fit budget x now j loop h d r words (is j h)))
 
-  turned : (x : Locals) (j : ℕ) → j ≤ m .t → Loop m budget x now 0 → Turned m budget (turnsTo code now budget j x) now j
+  turned : (x : Locals) (j : ℕ) → j ≤ m .t → Loop m budget x now 0 → Turned m budget (turnsTo words now budget j x) now j
   unfolding turnsTo
   turned x zero h loop = looked loop
   turned x (suc j) h loop =
-      subst (λ (k : ℕ). Turned m budget (turnOn code now budget j (turnsTo code now budget j x)) now k) (add-one j)
-      (turned-more (turnsTo code now budget j x) j (omega arith) (turned x j (omega arith) loop))
+      subst (λ (k : ℕ). Turned m budget (turnOn words now budget j (turnsTo words now budget j x)) now k) (add-one j)
+      (turned-more (turnsTo words now budget j x) j (omega arith) (turned x j (omega arith) loop))
 
 -- a cycle of a model's run, where it begins
-pub record Cycled (m : Model) (budget : ℕ) (ws : List ℕ) (now : ℕ) (x : Locals) (t from to : ℕ) : Type 0 where
+pub record Cycled (m : Model) (budget : ℕ) (words : ℕ → List ℕ) (now : ℕ) (x : Locals) (t from to : ℕ) : Type 0 where
   pub fit : modelFault m ≡ 0
-  pub code : IsCode m 64 ws
+  pub code : HoldsFor m words
   pub threads : t ≡ m .t
   pub loop : Loop m budget x now 0
   pub begins : Begins t (x .state) (x .shared .told) (x .shared .ranges) now from to
 
-module _ {m : Model} {budget : ℕ} {code : List ℕ} {now : ℕ} {x : Locals} {t from to : ℕ} (c : Cycled m budget code now x t from to) where
+module _ {m : Model} {budget : ℕ} {words : ℕ → List ℕ} {now : ℕ} {x : Locals} {t from to : ℕ} (c : Cycled m budget words now x t from to) where
   fit : modelFault m ≡ 0
   fit = c .fit
 
@@ -88,15 +92,15 @@ module _ {m : Model} {budget : ℕ} {code : List ℕ} {now : ℕ} {x : Locals} {
   cycle-room = rw same (loop-room m fit budget x now 0 (c .loop))
 
   -- its threads have run
-  module _ {y : Locals} (e : y ≡ turnsTo code now budget to x) where
-    all : y ≡ turnsTo code now budget t x
-    all = due-all code now budget x y t from to (c .begins .threads) e
+  module _ {y : Locals} (e : y ≡ turnsTo words now budget to x) where
+    all : y ≡ turnsTo words now budget t x
+    all = due-all words now budget x y t from to (c .begins .threads) e
 
     all-turned : Turned m budget y now (m .t)
-    all-turned = rw (all, same) (turned m fit budget code (c .code) now x (m .t) (omega arith) (c .loop))
+    all-turned = rw (all, same) (turned m fit budget words (c .code) now x (m .t) (omega arith) (c .loop))
 
     pub cycle-ends : Ends t (y .state) (y .shared .told) (y .shared .ranges) now from to
-    cycle-ends = ends-all code now budget t from to (omega (arith, modelFault-counts m fit .threads)) cycle-small x y (c .loop .words-size) (c .begins) all
+    cycle-ends = ends-all words now budget t from to (omega (arith, modelFault-counts m fit .threads)) cycle-small x y (c .loop .words-size) (c .begins) all
 
     pub cycle-out : leb budget (y .n) && leb (leastWord t (y .state)) now ≡ true → answer (y .shared .variables) (threadsTo (y .state) (y .segments) t) (y .n) true ≡ answerOf m budget
     cycle-out f = rw same (go all-turned)

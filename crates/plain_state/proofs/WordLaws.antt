@@ -3,6 +3,7 @@
 --     cycleFrom-key, stateFrom-word     a cycle's number, and a state's word, is read back
 --     word-ready, word-after     a word is a ready thread's cycle, or after every cycle
 --     word-due, word-not-due     a word is the cycle's own exactly where its thread is due
+--     closeWord-mark     the mark of a segment that names a port is not seen
 --     nextWord-event, closeWord-closed, wakeWord-woken     the next delta; a segment closes; a thread wakes
 use Prim.Native.Nat.{ℕ, _+_, _-_, _*_, _/_, _%_, _<_, _≤_}
 use mathlib.Core.Path.{_≡_, refl, ap, sym, _∙_}
@@ -28,9 +29,11 @@ use Rattle.model.specs.declared.State.{State}
 use Rattle.model.specs.declared.State.the-variants.{Ended, Overrun, Ready, Waiting}
 use Rattle.model.specs.Record.{viewOf, readyCycle, Awaited, nothing, awaits, awaitedBy, stateAfter}
 use Rattle.model.specs.Effect.{closedAt}
-use Rattle.plain_words.specs.Pack.{packEnd}
+use Rattle.plain_words.specs.Pack.{few, packEnd}
+use Rattle.plain_words.specs.Ports.{markedIf}
+use Rattle.plain_words.proofs.ExitLaws.{few-≤}
 use Rattle.plain_words.proofs.MarkLaws.{Tells}
-use Rattle.plain_words.proofs.CodeLaws.{end-kind, end-load}
+use Rattle.plain_words.proofs.CodeLaws.{end-kind, end-load, mark-kind, mark-delay, mark-event}
 use Rattle.plain.specs.Wake.{isWoken, wokenState}
 use Rattle.plain.specs.Step.{isAt}
 use Rattle.plain_laws.proofs.RecordLaws.{readyCycle→ready, ready→state}
@@ -52,6 +55,11 @@ InRange (Ended c) = Small c
 InRange (Overrun c) = Small c
 InRange (Ready c) = Small c
 InRange (Waiting e c) = (e < 32) × Small c
+
+-- the mark of a segment that names a port is not seen
+pub closeWord-mark : (b : Bool) (e now : ℕ) → closeWord (markedIf b e) now ≡ closeWord e now
+unfolding closeWord endedBy
+closeWord-mark b e now = rw (mark-kind e b, mark-event e b, mark-delay e b) refl
 
 -- a cycle is read back
 pub cycleFrom-key : (c : Cycle) → c .delta .0 ≤ 1023 → cycleFrom (keyOf c) ≡ c
@@ -127,16 +135,19 @@ module _ (c : Cycle) (small : Small c) where
   nextWord-event = ap (λ (d : Cycle). wordOf (stateAfter (waitEnds wait.Event d))) here
 
   -- a segment of n statements closes
-  module _ (n : ℕ) (few : n < 256) where
+  module _ (n : ℕ) where
+    size : few n < 256
+    size = omega (arith, few-≤ n)
+
     endedBy-closed : (s : ℕ) (z : Closer) (v : List ℕ) → unitsOf z < 4294967296 → InRange (closedAt s z c v .state) → endedBy (packEnd n z) c ≡ closedAt s z c v .state
     unfolding endedBy closedAt
-    endedBy-closed s End v u r = rw (mul-mod-right 4 n) refl
+    endedBy-closed s End v u r = rw (mul-mod-right 4 (few n)) refl
     endedBy-closed s (Time k x) v u r =
-        let units : (1 + 4 * n + 1024 * k .0) / 1024 % 4294967296 ≡ k .0 = ap (λ (z : ℕ). z % 4294967296) (end-load 1 n (k .0) (omega arith) few) ∙ mod-eq-of-lt u in
-        rw (end-kind 1 n (k .0) (omega arith), units) refl
+        let units : (1 + 4 * few n + 1024 * k .0) / 1024 % 4294967296 ≡ k .0 = ap (λ (z : ℕ). z % 4294967296) (end-load 1 (few n) (k .0) (omega arith) size) ∙ mod-eq-of-lt u in
+        rw (end-kind 1 (few n) (k .0) (omega arith), units) refl
     endedBy-closed s (Event e x) v u (l, r) =
         let small : e % 32 ≡ e = mod-eq-of-lt l in
-        rw (end-kind 2 n e (omega arith), end-load 2 n e (omega arith) few, small) refl
+        rw (end-kind 2 (few n) e (omega arith), end-load 2 (few n) e (omega arith) size, small) refl
 
     pub closeWord-closed : (s : ℕ) (z : Closer) (v : List ℕ) → unitsOf z < 4294967296 → InRange (closedAt s z c v .state) → closeWord (packEnd n z) (keyOf c) ≡ wordOf (closedAt s z c v .state)
     unfolding closeWord

@@ -1,4 +1,5 @@
 -- Private contracts of the plain run's code: what the threads of a cycle do, one after the other, to the arrays of words.
+-- The words of a model are given for each thread, as it runs them.
 use Prim.Native.Nat.{ℕ, zero, suc, _+_, _/_, _%_}
 use mathlib.Core.Bool.{Bool, cond, _&&_}
 use mathlib.Core.List.{List}
@@ -24,8 +25,9 @@ unfoldable pub waitedBy : ℕ → ℕ → List ℕ → List ℕ
 waitedBy end k rs = cond (eqb (end % 4) 2) (widened (end / 1024 % 32) k (k + 1) rs) rs
 
 -- thread k runs its segment whole
-abbrev pub ranBy : List ℕ → ℕ → ℕ → Locals → Locals
-ranBy code now k x =
+abbrev pub ranBy : (ℕ → List ℕ) → ℕ → ℕ → Locals → Locals
+ranBy words now k x =
+    let code = words k in
     let s = getD (x .segments) k 0 in
     let y = executeBy code s (x .shared) in
     record {
@@ -36,10 +38,10 @@ ranBy code now k x =
     }
 
 -- thread k is looked at: it runs if it is ready in this cycle and the budget has room
-unfoldable pub turnOn : List ℕ → ℕ → ℕ → ℕ → Locals → Locals
-turnOn code now budget k x = cond (eqb (getD (x .state) k 0) now && ltb (x .n) budget) (ranBy code now k x) x
+unfoldable pub turnOn : (ℕ → List ℕ) → ℕ → ℕ → ℕ → Locals → Locals
+turnOn words now budget k x = cond (eqb (getD (x .state) k 0) now && ltb (x .n) budget) (ranBy words now k x) x
 
 -- the first k threads, lowest number first
-unfoldable pub turnsTo : List ℕ → ℕ → ℕ → ℕ → Locals → Locals
-turnsTo code now budget zero x = x
-turnsTo code now budget (suc k) x = turnOn code now budget k (turnsTo code now budget k x)
+unfoldable pub turnsTo : (ℕ → List ℕ) → ℕ → ℕ → ℕ → Locals → Locals
+turnsTo words now budget zero x = x
+turnsTo words now budget (suc k) x = turnOn words now budget k (turnsTo words now budget k x)

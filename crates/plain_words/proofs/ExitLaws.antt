@@ -16,49 +16,52 @@ use Rattle.model.specs.declared.Closer.{Closer}
 use Rattle.model.specs.declared.Closer.the-variants.{End, Time, Event}
 use Rattle.model.proofs.Closer as closer
 use Rattle.model.specs.Statement.{executeOp, notifiedByOp}
-use Rattle.plain_words.specs.Pack.{packEnd}
+use Rattle.plain_words.specs.Pack.{few, packEnd}
 use Rattle.plain_words.specs.Unpack.{opOf, sizeBy, nextBy, followBy}
 use Rattle.plain_words.specs.Reach.{widened}
 use Rattle.plain_words.specs.Shared.{Shared, shared, marked, reached, executeWord, executeTo, executeBy}
 
 module _ (w : ℕ) (v : List ℕ) where
-  pub nextBy-untested : w / 65536 % 256 ≡ 255 → w % 256 ≡ nextBy w v
+  pub nextBy-untested : w / 65536 % 256 ≡ 255 → w % 64 ≡ nextBy w v
   unfolding nextBy
   nextBy-untested h = rw (eq-eqb (w / 65536 % 256) 255 h) refl
 
-  pub nextBy-below : (w / 65536 % 256 ≡ 255 → ⊥) → (x : ℕ) → x ≡ getD v (w / 65536 % 256 % 64) 0 → x < w / 16777216 → w % 256 ≡ nextBy w v
+  pub nextBy-below : (w / 65536 % 256 ≡ 255 → ⊥) → (x : ℕ) → x ≡ getD v (w / 65536 % 256 % 64) 0 → x < w / 16777216 → w % 64 ≡ nextBy w v
   unfolding nextBy
   nextBy-below n x e h = rw (ne-eqb (w / 65536 % 256) 255 n, ← e, lt-ltb x (w / 16777216) h) refl
 
-  pub nextBy-above : (w / 65536 % 256 ≡ 255 → ⊥) → (x : ℕ) → x ≡ getD v (w / 65536 % 256 % 64) 0 → w / 16777216 ≤ x → w / 256 % 256 ≡ nextBy w v
+  pub nextBy-above : (w / 65536 % 256 ≡ 255 → ⊥) → (x : ℕ) → x ≡ getD v (w / 65536 % 256 % 64) 0 → w / 16777216 ≤ x → w / 256 % 64 ≡ nextBy w v
   unfolding nextBy
   nextBy-above n x e h = rw (ne-eqb (w / 65536 % 256) 255 n, ← e, le-ltb x (w / 16777216) h) refl
 
 module _ (code : List ℕ) (s : ℕ) (v : List ℕ) where
-  pub followBy-over : getD code (34 * (s % 64)) 0 % 4 ≡ 0 → s ≡ followBy code s v
+  pub followBy-over : getD code (34 * (s % 128)) 0 % 4 ≡ 0 → s ≡ followBy code s v
   unfolding followBy
-  followBy-over h = rw (eq-eqb (getD code (34 * (s % 64)) 0 % 4) 0 h) refl
+  followBy-over h = rw (eq-eqb (getD code (34 * (s % 128)) 0 % 4) 0 h) refl
 
-  pub followBy-on : (getD code (34 * (s % 64)) 0 % 4 ≡ 0 → ⊥) → nextBy (getD code (34 * (s % 64) + 1) 0) v ≡ followBy code s v
+  pub followBy-on : (getD code (34 * (s % 128)) 0 % 4 ≡ 0 → ⊥) → nextBy (getD code (34 * (s % 128) + 1) 0) v ≡ followBy code s v
   unfolding followBy
-  followBy-on n = rw (ne-eqb (getD code (34 * (s % 64)) 0 % 4) 0 n) refl
+  followBy-on n = rw (ne-eqb (getD code (34 * (s % 128)) 0 % 4) 0 n) refl
 
-module _ (e : ℕ) where
-  pub sizeBy-some : e / 4 % 256 < 32 → e / 4 % 256 ≡ sizeBy e
-  unfolding sizeBy
-  sizeBy-some h = rw (lt-ltb (e / 4 % 256) 32 h) refl
-
-  pub sizeBy-full : 32 ≤ e / 4 % 256 → 32 ≡ sizeBy e
-  unfolding sizeBy
-  sizeBy-full h = rw (le-ltb (e / 4 % 256) 32 h) refl
-
-pub sizeBy-≤ : (e : ℕ) → sizeBy e ≤ 32
+pub sizeBy-< : (e : ℕ) → sizeBy e < 64
 unfolding sizeBy
-sizeBy-≤ e = go (decLt (e / 4 % 256) 32)
+sizeBy-< e = omega arith
+
+-- a number of statements is at most 32
+pub few-some : (n : ℕ) → n < 32 → n ≡ few n
+unfolding few
+few-some n h = rw (lt-ltb n 32 h) refl
+
+pub few-full : (n : ℕ) → 32 ≤ n → 32 ≡ few n
+unfolding few
+few-full n h = rw (le-ltb n 32 h) refl
+
+pub few-≤ : (n : ℕ) → few n ≤ 32
+few-≤ n = go (decLt n 32)
   where
-    go : Dec (e / 4 % 256 < 32) → sizeBy e ≤ 32
-    go (yes h) = rw (lt-ltb (e / 4 % 256) 32 h) (omega arith)
-    go (no h) = rw (le-ltb (e / 4 % 256) 32 (omega arith)) (omega arith)
+    go : Dec (n < 32) → few n ≤ 32
+    go (yes h) = omega (arith, few-some n h)
+    go (no h) = omega (arith, few-full n (omega arith))
 
 module _ (w : ℕ) where
   pub opOf-set : w % 8 ≡ 0 → opOf w ≡ Set (w / 8 % 64) (w / 2048 % 4294967296)
@@ -95,9 +98,9 @@ module _ (w : ℕ) (v : List ℕ) (fs : List Bool) (rs : List ℕ) where
   unfolding executeWord marked reached
   executeWord-sets o h n x e = rw (h, n, e) refl
 
-  pub executeWord-notifies : (e : ℕ) → opOf w ≡ Notify e → (x : List ℕ) → x ≡ widened 32 (getD rs e 0) (getD rs (33 + e) 0) rs → shared v (set fs e true) x ≡ executeWord w (shared v fs rs)
+  pub executeWord-notifies : (e : ℕ) → opOf w ≡ Notify e → (gs : List Bool) (x : List ℕ) → gs ≡ set fs e true → x ≡ widened 32 (getD rs e 0) (getD rs (33 + e) 0) rs → shared v gs x ≡ executeWord w (shared v fs rs)
   unfolding executeWord marked reached
-  executeWord-notifies e h x q = rw (h, q) refl
+  executeWord-notifies e h gs x p q = rw (h, p, q) refl
 
 -- one statement more of a segment, and all of them
 module _ (code : List ℕ) (x : Shared) where
@@ -109,12 +112,12 @@ module _ (code : List ℕ) (x : Shared) where
   unfolding executeTo
   executeTo-next base j y z e f = rw (add-one, ← e) f
 
-  pub executeBy-as : (s i j : ℕ) (y : Shared) → i ≡ s → j ≡ sizeBy (getD code (34 * (i % 64)) 0) → y ≡ executeTo code (34 * (i % 64) + 2) j x → y ≡ executeBy code s x
+  pub executeBy-as : (s i j : ℕ) (y : Shared) → i ≡ s → j ≡ sizeBy (getD code (34 * (i % 128)) 0) → y ≡ executeTo code (34 * (i % 128) + 2) j x → y ≡ executeBy code s x
   unfolding executeBy
   executeBy-as s i j y e f g = g ∙ rw (f, e) refl
 
 -- the `End` arm
-pub packEnd-over : (n : ℕ) (z : Closer) → OneOf (0 ∷ []) (tagOf closer.the-type z) → 4 * n ≡ packEnd n z
+pub packEnd-over : (n : ℕ) (z : Closer) → OneOf (0 ∷ []) (tagOf closer.the-type z) → 4 * few n ≡ packEnd n z
 packEnd-over n End h = refl
 packEnd-over n (Time k x) h = absurd (miss (0 ∷ []) 1 tt h)
 packEnd-over n (Event e x) h = absurd (miss (0 ∷ []) 2 tt h)

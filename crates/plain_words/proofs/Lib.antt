@@ -1,8 +1,10 @@
 pub mod SetLaws
-pub mod PackLaws
 pub mod ExitLaws
+pub mod MapLaws
+pub mod PackLaws
 pub mod MarkLaws
 pub mod ReachLaws
 pub mod CodeLaws
+pub mod RowLaws
 pub mod Computed
 pub mod Edges

@@ -135,4 +135,4 @@ module _ (code : List ℕ) (x : Shared) (size : length (x .ranges) ≡ 66) where
 
   pub executeBy-wider : (s : ℕ) → Wider (x .told) (executeBy code s x .told) (x .ranges) (executeBy code s x .ranges)
   unfolding executeBy
-  executeBy-wider s = wider-to (34 * (s % 64) + 2) (sizeBy (endBy code s))
+  executeBy-wider s = wider-to (34 * (s % 128) + 2) (sizeBy (endBy code s))

@@ -37,6 +37,6 @@ unfoldable pub executeTo : List ℕ → ℕ → ℕ → Shared → Shared
 executeTo code base zero x = x
 executeTo code base (suc j) x = executeWord (getD code (base + j) 0) (executeTo code base j x)
 
--- the statements of segment s
+-- the statements of the segment in row s
 unfoldable pub executeBy : List ℕ → ℕ → Shared → Shared
-executeBy code s x = executeTo code (34 * (s % 64) + 2) (sizeBy (endBy code s)) x
+executeBy code s x = executeTo code (34 * (s % 128) + 2) (sizeBy (endBy code s)) x

@@ -20,21 +20,21 @@ opOf w =
     (AddVariable (w / 8 % 64) (w / 2048 % 64))
     (cond (eqb (w % 8) 4) (SubVariable (w / 8 % 64) (w / 2048 % 64)) (Notify (w / 8 % 32))))))
 
--- how segment s closes
+-- how the segment in row s closes
 abbrev pub endBy : List ℕ → ℕ → ℕ
-endBy code s = getD code (34 * (s % 64)) 0
+endBy code s = getD code (34 * (s % 128)) 0
 
 -- how many statements that closes
 unfoldable pub sizeBy : ℕ → ℕ
-sizeBy end = cond (ltb (end / 4 % 256) 32) (end / 4 % 256) 32
+sizeBy end = end / 4 % 64
 
 -- the next segment of a word
 unfoldable pub nextBy : ℕ → List ℕ → ℕ
 nextBy w v =
     cond (eqb (w / 65536 % 256) 255)
-    (w % 256)
-    (cond (ltb (getD v (w / 65536 % 256 % 64) 0) (w / 16777216)) (w % 256) (w / 256 % 256))
+    (w % 64)
+    (cond (ltb (getD v (w / 65536 % 256 % 64) 0) (w / 16777216)) (w % 64) (w / 256 % 64))
 
--- the segment after s; in an ended thread, s
+-- the row of the segment after the one in row s; in an ended thread, s
 unfoldable pub followBy : List ℕ → ℕ → List ℕ → ℕ
-followBy code s v = cond (eqb (endBy code s % 4) 0) s (nextBy (getD code (34 * (s % 64) + 1) 0) v)
+followBy code s v = cond (eqb (endBy code s % 4) 0) s (nextBy (getD code (34 * (s % 128) + 1) 0) v)

@@ -8,6 +8,7 @@ use Rattle.base.specs.Index.{orElse}
 use Rattle.model.specs.declared.Op.the-variants.{Set, Add, Copy, AddVariable, SubVariable, Notify}
 use Rattle.model.specs.declared.Closer.the-variants.{End, Time, Event}
 use Rattle.model.specs.declared.Model.{Model}
+use Rattle.model.specs.Port.{noPorts}
 use Rattle.model.specs.Values.{noStatement, noSegment, noStart, noModel}
 use Rattle.reader.specs.Closer.{closerFrom, closerBytesFault}
 use Rattle.reader.specs.Statement.{opFrom, opBytesFault}
@@ -84,7 +85,7 @@ pub read-later-short :
 unfolding computed
 read-later-short = refl
 
--- 2: "kind not 1 to 4, or out of order"
+-- 2: "kind not 1 to 4, or out of order"; kind 5 below, with ports
 
 -- first: kinds 0 to 5, and 257. "04 00 04 00 alone"
 pub read-first-kind :
@@ -107,10 +108,10 @@ pub read-after-segment :
 unfolding computed
 read-after-segment = refl
 
--- after a thread: a thread or the end. "one end"
+-- after a thread: a thread, its ports or the end. "one end"
 pub read-after-thread :
-    numbersOf (threaded (4 ∷ 0 ∷ 0 ∷ 0 ∷ []) ∷ threaded (head 1 1) ∷ threaded (segment ending []) ∷ threaded (thread 0) ∷ threaded end ∷ threaded (4 ∷ 0 ∷ 5 ∷ 0 ∷ []) ∷ [])
-    ≡ 2 ∷ 2 ∷ 2 ∷ 1 ∷ 0 ∷ 2 ∷ []
+    numbersOf (threaded (4 ∷ 0 ∷ 0 ∷ 0 ∷ []) ∷ threaded (head 1 1) ∷ threaded (segment ending []) ∷ threaded (thread 0) ∷ threaded end ∷ threaded (4 ∷ 0 ∷ 5 ∷ 0 ∷ []) ∷ threaded (4 ∷ 0 ∷ 6 ∷ 0 ∷ []) ∷ [])
+    ≡ 2 ∷ 2 ∷ 2 ∷ 1 ∷ 0 ∷ 3 ∷ 2 ∷ []
 unfolding computed
 read-after-thread = refl
 
@@ -410,6 +411,192 @@ pub read-refused-model : readFile (headed [] ++ (segment ending [] ++ (thread 0 
 unfolding computed
 read-refused-model = refl
 
+-- Document 02, "Modules with ports": "A record of kind 5, length 12, may follow a thread's record and gives eight variable numbers"
+
+-- the map of a thread, and one of port 0 alone
+abbrev ports : List ℕ → List ℕ
+ports vs = 12 ∷ 0 ∷ 5 ∷ 0 ∷ vs
+
+abbrev unmapped : List ℕ
+unmapped = replicate 8 255
+
+abbrev port0 : ℕ → List ℕ
+port0 x = ports (set unmapped 0 x)
+
+-- a file of V variables, one ending segment and one thread, then b
+abbrev mapping : ℕ → List ℕ → List ℕ
+mapping v b = head v 0 ++ (segment ending [] ++ (thread 0 ++ b))
+
+-- "A record of kind 5 [..] may follow a thread's record": first, after a head, after a segment, after a thread, after a thread's ports;
+-- after ports: a thread, the end, no head, no segment, no kind 0, no kind 6
+pub read-ports-place :
+    numbersOf
+    (port0 0 ∷ headed (port0 0) ∷ segmented (port0 0) ∷ threaded (port0 0) ∷ threaded (port0 0 ++ port0 0) ∷
+    threaded (port0 0 ++ thread 0) ∷
+    threaded (port0 0 ++ end) ∷
+    threaded (port0 0 ++ head 1 1) ∷
+    threaded (port0 0 ++ segment ending []) ∷
+    threaded (port0 0 ++ (4 ∷ 0 ∷ 0 ∷ 0 ∷ [])) ∷
+    threaded (port0 0 ++ (4 ∷ 0 ∷ 6 ∷ 0 ∷ [])) ∷ [])
+    ≡ 2 ∷ 2 ∷ 2 ∷ 1 ∷ 2 ∷ 1 ∷ 0 ∷ 2 ∷ 2 ∷ 2 ∷ 2 ∷ []
+unfolding computed
+read-ports-place = refl
+
+-- "length 12": 11, 12, 13 and 268, whose low byte is 12; kind 5 after kind 5 is 2 whatever its length; the end is still of length 4 after it
+pub read-ports-length :
+    numbersOf
+    (threaded (11 ∷ 0 ∷ 5 ∷ 0 ∷ replicate 7 0) ∷
+    threaded (ports (replicate 8 0)) ∷
+    threaded (13 ∷ 0 ∷ 5 ∷ 0 ∷ replicate 9 0) ∷
+    threaded (12 ∷ 1 ∷ 5 ∷ 0 ∷ replicate 264 0) ∷
+    threaded (port0 0 ++ (11 ∷ 0 ∷ 5 ∷ 0 ∷ replicate 7 0)) ∷
+    threaded (port0 0 ++ (5 ∷ 0 ∷ 4 ∷ 0 ∷ 0 ∷ [])) ∷ [])
+    ≡ 3 ∷ 1 ∷ 3 ∷ 3 ∷ 2 ∷ 3 ∷ []
+unfolding computed
+read-ports-length = refl
+
+-- 17: "all eight are 255 or a mapped number is neither 255 nor below V": all eight; V = 2 with V - 1, V, 128, 135, 254; V = 0 with a 0
+pub read-ports-number :
+    numbersOf
+    (mapping 2 (ports unmapped ++ end) ∷
+    mapping 2 (port0 1 ++ end) ∷
+    mapping 2 (port0 2 ++ end) ∷
+    mapping 2 (port0 128 ++ end) ∷
+    mapping 2 (port0 135 ++ end) ∷
+    mapping 2 (port0 254 ++ end) ∷
+    mapping 0 (port0 0 ++ end) ∷
+    mapping 0 (ports unmapped ++ end) ∷
+    mapping 64 (port0 63 ++ end) ∷
+    mapping 64 (port0 64 ++ end) ∷ [])
+    ≡ 17 ∷ 0 ∷ 17 ∷ 17 ∷ 17 ∷ 17 ∷ 17 ∷ 17 ∷ 0 ∷ 17 ∷ []
+unfolding computed
+read-ports-number = refl
+
+-- each of the eight is looked at: port 7 alone, a wrong number after seven right ones and before them
+pub read-ports-each :
+    numbersOf
+    (mapping 2 (ports (set unmapped 7 1) ++ end) ∷
+    mapping 2 (ports (set unmapped 7 2) ++ end) ∷
+    mapping 2 (ports (set (replicate 8 1) 7 2) ++ end) ∷
+    mapping 2 (ports (set (replicate 8 1) 0 2) ++ end) ∷
+    mapping 2 (ports (replicate 8 1) ++ end) ∷ [])
+    ≡ 0 ∷ 17 ∷ 17 ∷ 17 ∷ 0 ∷ []
+unfolding computed
+read-ports-each = refl
+
+-- "checked where the record stands": before 9, before 8, before a later record's 2; after its own 3, and after an earlier record's 7
+pub read-ports-stand :
+    numbersOf
+    (mapping 1 (ports unmapped ++ (end ++ (0 ∷ []))) ∷
+    (head 1 0 ++ (segment ending [] ++ (thread 1 ++ (ports unmapped ++ end)))) ∷
+    mapping 1 (ports unmapped ++ head 1 1) ∷
+    mapping 1 (ports unmapped ++ (4 ∷ 0 ∷ 6 ∷ 0 ∷ [])) ∷
+    mapping 1 (13 ∷ 0 ∷ 5 ∷ 0 ∷ replicate 9 255) ∷
+    (head 0 0 ++ (segment ending setting ++ (thread 0 ++ (ports unmapped ++ end)))) ∷
+    mapping 1 (port0 0 ++ (thread 0 ++ (ports unmapped ++ end))) ∷ [])
+    ≡ 17 ∷ 17 ∷ 17 ∷ 17 ∷ 3 ∷ 7 ∷ 17 ∷ []
+unfolding computed
+read-ports-stand = refl
+
+-- "7 now let[s] [..] the port numbers through": V = 2, 127, 128, 135, 136 as variable a, as b, as the test; b is all 32 bits; "events have no ports"
+pub statement-port-a :
+    opFaultsOf (statement 1 127 0 0 0 0 ∷ statement 1 128 0 0 0 0 ∷ statement 2 135 0 0 0 0 ∷ statement 2 136 0 0 0 0 ∷ statement 3 128 0 0 0 0 ∷ statement 4 135 0 0 0 0 ∷ statement 5 136 0 0 0 0 ∷ [])
+    ≡ 7 ∷ 0 ∷ 0 ∷ 7 ∷ 0 ∷ 0 ∷ 7 ∷ []
+unfolding computed
+statement-port-a = refl
+
+pub statement-port-b :
+    opFaultsOf (statement 3 0 127 0 0 0 ∷ statement 3 0 128 0 0 0 ∷ statement 4 0 135 0 0 0 ∷ statement 5 0 136 0 0 0 ∷ statement 3 0 128 1 0 0 ∷ statement 4 0 128 0 1 0 ∷ statement 5 0 135 0 0 1 ∷ [])
+    ≡ 7 ∷ 0 ∷ 0 ∷ 7 ∷ 7 ∷ 7 ∷ 7 ∷ []
+unfolding computed
+statement-port-b = refl
+
+-- a constant is no port; a notify of 128, and a wait for it
+pub statement-port-none :
+    (opFaultsOf (statement 1 0 128 0 0 0 ∷ statement 2 0 136 0 0 0 ∷ statement 6 128 0 0 0 0 ∷ []) ≡ 0 ∷ 0 ∷ 7 ∷ []) ×
+    (faultsOf (listening 128 ∷ []) ≡ 7 ∷ [])
+unfolding computed
+statement-port-none = (refl, refl)
+
+pub closer-port : faultsOf (set (onward 0 0) 8 127 ∷ set (onward 0 0) 8 128 ∷ set (onward 0 0) 8 135 ∷ set (onward 0 0) 8 136 ∷ []) ≡ 7 ∷ 0 ∷ 0 ∷ 7 ∷ []
+unfolding computed
+closer-port = refl
+
+-- 18: "a thread can reach a segment naming a port it leaves unused", "checked after 8"
+
+-- sets port p to 0
+abbrev toPort : ℕ → List ℕ
+toPort p = statement 1 (128 + p) 0 0 0 0
+
+-- segments from 0 on, V = 2, then threads
+abbrev site : List ℕ → List ℕ → List ℕ
+site gs ts = head 2 1 ++ (gs ++ (ts ++ end))
+
+-- named at the thread's first segment: no map, another port's map, its own map; through b and through the test; port 7
+pub read-lack-here :
+    numbersOf
+    (site (segment ending (toPort 0)) (thread 0) ∷
+    site (segment ending (toPort 0)) (thread 0 ++ ports (set unmapped 1 0)) ∷
+    site (segment ending (toPort 0)) (thread 0 ++ port0 0) ∷
+    site (segment ending (statement 3 0 128 0 0 0)) (thread 0) ∷
+    site (segment (set (onward 0 0) 8 128) []) (thread 0) ∷
+    site (segment (set (onward 0 0) 8 128) []) (thread 0 ++ port0 1) ∷
+    site (segment ending (toPort 7)) (thread 0 ++ port0 0) ∷
+    site (segment ending (toPort 7)) (thread 0 ++ ports (set unmapped 7 0)) ∷
+    site (segment ending (statement 1 0 128 0 0 0)) (thread 0) ∷ [])
+    ≡ 18 ∷ 18 ∷ 0 ∷ 18 ∷ 18 ∷ 0 ∷ 18 ∷ 0 ∷ 0 ∷ []
+unfolding computed
+read-lack-here = refl
+
+-- "can reach", by the graph: over A, over B, over a B that no limit takes (limit 0 is never undercut, so B; limit 4,294,967,295 takes A),
+-- over two segments, over an event; not from a segment that does not lead there; a way that only leads back
+pub read-lack-reached :
+    numbersOf
+    (site (segment (onward 1 1) [] ++ segment ending (toPort 0)) (thread 0) ∷
+    site (segment (set (onward 0 1) 8 0) [] ++ segment ending (toPort 0)) (thread 0) ∷
+    site (segment (set (set (set (set (set (onward 0 1) 8 0) 9 255) 10 255) 11 255) 12 255) [] ++ segment ending (toPort 0)) (thread 0) ∷
+    site (segment (set (onward 1 0) 8 0) [] ++ segment ending (toPort 0)) (thread 0) ∷
+    site (segment (onward 1 1) [] ++ (segment (onward 2 2) [] ++ segment ending (toPort 0))) (thread 0) ∷
+    site (segment (set (set (listening 0) 6 1) 7 1) [] ++ segment ending (toPort 0)) (thread 0) ∷
+    site (segment ending [] ++ segment ending (toPort 0)) (thread 0) ∷
+    site (segment ending [] ++ segment (onward 0 0) (toPort 0)) (thread 0) ∷ [])
+    ≡ 18 ∷ 18 ∷ 18 ∷ 18 ∷ 18 ∷ 18 ∷ 0 ∷ 0 ∷ []
+unfolding computed
+read-lack-reached = refl
+
+-- a way of 2 × 1,000,000,000 units is a way: "never" is still reached
+pub read-lack-never :
+    numbersOf (site (segment (set (set (delayed 0 202 154 59) 6 1) 7 1) [] ++ (segment (set (set (delayed 0 202 154 59) 6 2) 7 2) [] ++ segment ending (toPort 0))) (thread 0) ∷ []) ≡ 18 ∷ []
+unfolding computed
+read-lack-never = refl
+
+-- thread by thread: the map of another thread, before and after, does not help; a thread that does not reach the port needs none
+pub read-lack-thread :
+    numbersOf
+    (site (segment ending (toPort 0)) (thread 0 ++ (port0 0 ++ thread 0)) ∷
+    site (segment ending (toPort 0)) (thread 0 ++ (thread 0 ++ port0 0)) ∷
+    site (segment ending (toPort 0)) (thread 0 ++ (port0 0 ++ (thread 0 ++ port0 1))) ∷
+    site (segment ending (toPort 0) ++ segment ending []) (thread 0 ++ (port0 0 ++ thread 1)) ∷
+    site (segment ending (toPort 0) ++ segment ending []) (thread 1 ++ (port0 0 ++ thread 0)) ∷ [])
+    ≡ 18 ∷ 18 ∷ 0 ∷ 0 ∷ 18 ∷ []
+unfolding computed
+read-lack-thread = refl
+
+-- "checked after 8": 9, 8, then 18
+pub read-lack-last :
+    numbersOf
+    ((site (segment ending (toPort 0)) (thread 0) ++ (0 ∷ [])) ∷
+    site (segment ending (toPort 0)) (thread 0 ++ thread 1) ∷
+    site (segment (onward 1 1) (toPort 0)) (thread 0) ∷
+    site (segment ending (toPort 0)) (thread 0) ∷ [])
+    ≡ 9 ∷ 8 ∷ 8 ∷ 18 ∷ []
+unfolding computed
+read-lack-last = refl
+
+pub read-lack-model : readFile (site (segment ending (toPort 0)) (thread 0)) .model ≡ noModel
+unfolding computed
+read-lack-model = refl
+
 -- The values. "Little-endian." Each byte has its place.
 
 abbrev closing : ℕ → List ℕ
@@ -445,8 +632,15 @@ pub read-values :
         segments = record { closer = Time (record { 0 = 3 }) (record { a = 1; b = 1; test = 255; limit = 0 }); n = 0; statements = replicate 32 noStatement } ∷
             record { closer = End; n = 2; statements = record { op = AddVariable 1 0 } ∷ record { op = Notify 0 } ∷ replicate 30 noStatement } ∷
             replicate 62 noSegment;
-        starts = record { first = 1 } ∷ record { first = 0 } ∷ replicate 30 noStart;
+        starts = record { first = 1; ports = noPorts } ∷ record { first = 0; ports = noPorts } ∷ replicate 30 noStart;
       };
     }
 unfolding computed
 read-values = refl
+
+-- each port has its place, and its thread; no other thread has it
+pub read-ports-values :
+    readFile (head 64 0 ++ (segment ending [] ++ (thread 0 ++ (thread 0 ++ (ports (1 ∷ 2 ∷ 3 ∷ 4 ∷ 255 ∷ 6 ∷ 7 ∷ 63 ∷ []) ++ (thread 0 ++ end)))))) .model .starts
+    ≡ noStart ∷ record { first = 0; ports = 1 ∷ 2 ∷ 3 ∷ 4 ∷ 255 ∷ 6 ∷ 7 ∷ 63 ∷ [] } ∷ replicate 30 noStart
+unfolding computed
+read-ports-values = refl

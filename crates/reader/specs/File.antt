@@ -1,5 +1,5 @@
 -- Document 01, "Model file" and "Numbers of refusal": from bytes to a model, or the first number that applies.
--- "Order: 1 to 7 record by record, lower number first .., then 9, 8".
+-- "Order: 1 to 7 record by record, lower number first .., then 9, 8"; 17 "where the record stands", 18 "after 8".
 use Prim.Native.Nat.{ℕ, zero, suc}
 use mathlib.Core.Bool.{cond}
 use mathlib.Core.List.{List}
@@ -9,7 +9,7 @@ use Rattle.base.specs.Index.{orElse}
 use Rattle.model.specs.declared.Model.{Model}
 use Rattle.model.specs.Refusal.{accepted, shortFile, extraBytes}
 use Rattle.model.specs.Values.{noModel}
-use Rattle.model.specs.Rules.{unless, targetsFault}
+use Rattle.model.specs.Rules.{unless, linksFault}
 use Rattle.reader.specs.declared.Read.{Read}
 use Rattle.reader.specs.Word.{wordAt}
 use Rattle.reader.specs.Record.{endKind, framingFault, bodyFault, withRecord}
@@ -18,9 +18,9 @@ use Rattle.reader.specs.Record.{endKind, framingFault, bodyFault, withRe
 abbrev pub readOr : ℕ → Model → Read
 readOr number m = cond (eqb number accepted) (record { number = accepted; model = m }) (record { number = number; model = noModel })
 
--- after the end record: "bytes after the end record", then "next or first segment not below N"
+-- after the end record: "bytes after the end record", then "next or first segment not below N", then 18
 unfoldable pub readEnd : List ℕ → Model → Read
-readEnd b m = readOr (orElse (unless (eqb (length b) 0) extraBytes) (targetsFault m)) m
+readEnd b m = readOr (orElse (unless (eqb (length b) 0) extraBytes) (linksFault m)) m
 
 -- the bytes b after a record of kind last, where m holds what was read so far. Each record takes 4 bytes or
 -- more, so that at most as many records follow as there are bytes: with no byte left it is 1.

@@ -1,42 +1,43 @@
--- What a record's body says: 4, then a segment's 5 to 7; and the model with the record.
---     recordFault-..     1 to 7 in the parts that the code computes
---     withRecord-..     the model after a head, a segment, a thread
-use Prim.Native.Nat.{ℕ, _+_, _<_}
+-- What a record's body says: 4, then a segment's 5 to 7 or the 17 of a thread's ports; and the model with the record.
+--     recordFault-.., ownFault-..     1 to 7 and 17 in the parts that the code computes
+--     withRecord-..     the model after a head, a segment, a thread, a thread's ports
+use Prim.Native.Nat.{ℕ, _+_, _-_, _<_}
 use mathlib.Core.Path.{sym, ap, _∙_, _≡_, refl}
-use mathlib.Core.Bool.{true, cond}
+use mathlib.Core.Bool.{true}
 use mathlib.Core.List.{List}
 use native.Mathlib.Omega.{arith}
 use native.Mathlib.Decide.{ℕ-discrete}
-use lib.Dec.{ltb, eqb}
-use lib.ListN.{take, set}
-use borrow.Author.Tests.{ltb-true, eq-eqb, ne-eqb}
+use lib.Dec.{ltb}
+use lib.ListN.{length, take, getD, set}
+use borrow.Author.Tests.{ltb-true, ne-eqb}
 use Rattle.base.specs.Index.{orElse}
 use Rattle.base.proofs.IndexLaws.{orElse-none, orElse-zero, orElse-last}
 use Rattle.clock.specs.declared.Time.{Time}
 use Rattle.model.specs.declared.Segment.{Segment}
+use Rattle.model.specs.declared.Start.{Start}
 use Rattle.model.specs.declared.Model.{Model}
-use Rattle.model.specs.Values.{withHead, withSegment, withStart}
-use Rattle.model_rules.proofs.FaultLaws.{fault-here, unless-zero}
+use Rattle.model.specs.Values.{withHead, withSegment, withStart, withPorts}
+use Rattle.model_rules.proofs.FaultLaws.{fault-here, unless-zero, startAt-read}
 use Rattle.reader.specs.Word.{byteAt, wordAt, longAt}
-use Rattle.reader.specs.Record.{framingFault, segmentBytesFault, bodyFault, withRecord}
+use Rattle.reader.specs.Record.{framingFault, portsBytesFault, bodyFault, withRecord}
 use Rattle.reader_segment.specs.Parts.{fits, segmentRecordFault, segmentIn}
 use Rattle.reader_segment.proofs.SegmentLaws.{segmentRecordFault-fits, segmentIn-fits}
 use Rattle.reader_file.specs.declared.Counts.{Counts}
-use Rattle.reader_file.specs.Parts.{countFault, recordFault}
-use Rattle.reader_file.proofs.RecordLaws.{Opened, opened-fits}
+use Rattle.reader_file.specs.Parts.{countFault, ownFault, recordFault, threadFrom, portsInto}
+use Rattle.reader_file.proofs.RecordLaws.{Opened}
 use Rattle.reader_file.proofs.TargetLaws.{Counted}
 
--- a segment's 5 to 7, none of another kind
-abbrev segmentPart : ℕ → ℕ → ℕ → List ℕ → ℕ
-segmentPart k v e r = cond (eqb k 2) (segmentBytesFault v e r) 0
-
-bodyFault-is : (k : ℕ) (c : Counts) (m : Model) (r : List ℕ) → Counted c m → orElse (countFault k c r) (segmentPart k (c .v) (c .e) r) ≡ bodyFault k m r
-unfolding bodyFault countFault
-bodyFault-is k c m r g = rw (g .v, g .e, g .n, g .t) (go (ℕ-discrete k 2))
+bodyFault-is : (k : ℕ) (c : Counts) (m : Model) (r : List ℕ) → Counted c m → orElse (countFault k c r) (ownFault k (c .v) (c .e) r) ≡ bodyFault k m r
+unfolding bodyFault countFault ownFault
+bodyFault-is k c m r g = rw (g .v, g .e, g .n, g .t) (go (ℕ-discrete k 2) (ℕ-discrete k 5))
   where
-    go : Dec (k ≡ 2) → orElse (countFault k (record { v = m .v; e = m .e; n = m .n; t = m .t; bound = c .bound }) r) (segmentPart k (m .v) (m .e) r) ≡ bodyFault k m r
-    go (yes e) = rw e refl
-    go (no n) = rw (ne-eqb k 2 n) (orElse-last _)
+    counts : Counts
+    counts = record { v = m .v; e = m .e; n = m .n; t = m .t; bound = c .bound; named = c .named }
+
+    go : Dec (k ≡ 2) → Dec (k ≡ 5) → orElse (countFault k counts r) (ownFault k (m .v) (m .e) r) ≡ bodyFault k m r
+    go (yes e) f = rw e refl
+    go (no n) (yes e) = rw e (orElse-none 0 (portsBytesFault (m .v) r) refl)
+    go (no n) (no f) = rw (ne-eqb k 2 n, ne-eqb k 5 f) (orElse-last _)
 
 -- as the definition of the file has it
 pub recordFault-is : (last : ℕ) (c : Counts) (m : Model) (b : List ℕ) → Counted c m → recordFault last c b ≡ orElse (framingFault last b) (bodyFault (wordAt b 2) m (take (wordAt b 0) b))
@@ -53,7 +54,7 @@ module _ (last : ℕ) (c : Counts) (b : List ℕ) where
   recordFault-framed z = orElse-zero _ _ z .0
 
 module _ {last s k : ℕ} {b : List ℕ} (o : Opened last b s k) (c : Counts) where
-  recordFault-opened : recordFault last c b ≡ orElse (countFault k c (take s b)) (segmentPart k (c .v) (c .e) (take s b))
+  recordFault-opened : recordFault last c b ≡ orElse (countFault k c (take s b)) (ownFault k (c .v) (c .e) (take s b))
   unfolding recordFault
   recordFault-opened = rw (o .is-size, o .is-kind) (orElse-none _ _ (o .none))
 
@@ -64,13 +65,22 @@ module _ {last s k : ℕ} {b : List ℕ} (o : Opened last b s k) (c : Counts) wh
     pub recordFault-count : (x ≡ 0 → ⊥) → x ≡ recordFault last c b
     recordFault-count n = fault-here _ _ x is n ∙ sym recordFault-opened
 
-    pub recordFault-other : x ≡ 0 → (k ≡ 2 → ⊥) → 0 ≡ recordFault last c b
-    recordFault-other z n = sym z ∙ (is ∙ sym (recordFault-opened ∙ rw (ne-eqb k 2 n) (orElse-last _)))
+    pub recordFault-own : (y : ℕ) → x ≡ 0 → y ≡ ownFault k (c .v) (c .e) (take s b) → y ≡ recordFault last c b
+    recordFault-own y z p = p ∙ sym (recordFault-opened ∙ orElse-none _ _ (sym is ∙ z))
 
-    pub recordFault-segment : (y : ℕ) → x ≡ 0 → k ≡ 2 → y ≡ segmentRecordFault (c .v) (c .e) (take s b) → y ≡ recordFault last c b
-    recordFault-segment y z e p =
-        p ∙ (segmentRecordFault-fits (c .v) (c .e) (take s b) (opened-fits o e)
-        ∙ sym (recordFault-opened ∙ (orElse-none _ _ (sym is ∙ z) ∙ rw (eq-eqb k 2 e) refl)))
+-- a segment's own faults, those of a thread's ports, and no others
+module _ (k : ℕ) (v e : ℕ) (r : List ℕ) where
+  pub ownFault-segment : (y : ℕ) → k ≡ 2 → fits r ≡ true → y ≡ segmentRecordFault v e r → y ≡ ownFault k v e r
+  unfolding ownFault
+  ownFault-segment y is f p = p ∙ (segmentRecordFault-fits v e r f ∙ rw is refl)
+
+  pub ownFault-ports : (y : ℕ) → k ≡ 5 → y ≡ portsBytesFault v r → y ≡ ownFault k v e r
+  unfolding ownFault
+  ownFault-ports y is p = p ∙ rw is refl
+
+  pub ownFault-other : (k ≡ 2 → ⊥) → (k ≡ 5 → ⊥) → 0 ≡ ownFault k v e r
+  unfolding ownFault
+  ownFault-other n m = rw (ne-eqb k 2 n, ne-eqb k 5 m) refl
 
 module _ (k : ℕ) (c : Counts) (r : List ℕ) (none : countFault k c r ≡ 0) where
   pub count-segment : k ≡ 2 → c .n < 64
@@ -92,7 +102,12 @@ module _ (k : ℕ) (m : Model) (r : List ℕ) where
   unfolding withRecord withSegment
   withRecord-segment i g e p f q = rw (e, p, q, segmentIn-fits r f) refl
 
-  pub withRecord-thread : (i : ℕ) → k ≡ 3 → i ≡ m .t
-      → record { horizon = m .horizon; v = m .v; e = m .e; n = m .n; t = m .t + 1; segments = m .segments; starts = set (m .starts) i (record { first = byteAt r 4 }) } ≡ withRecord k m r
-  unfolding withRecord withStart
-  withRecord-thread i e p = rw (e, p) refl
+  pub withRecord-thread : (i : ℕ) (x : Start) → k ≡ 3 → i ≡ m .t → x ≡ threadFrom r
+      → record { horizon = m .horizon; v = m .v; e = m .e; n = m .n; t = m .t + 1; segments = m .segments; starts = set (m .starts) i x } ≡ withRecord k m r
+  unfolding withRecord withStart threadFrom
+  withRecord-thread i x e p q = rw (e, p, q) refl
+
+  pub withRecord-ports : (i : ℕ) (d x : Start) → k ≡ 5 → i ≡ m .t - 1 → i < length (m .starts) → x ≡ portsInto (getD (m .starts) i d) r
+      → record { horizon = m .horizon; v = m .v; e = m .e; n = m .n; t = m .t; segments = m .segments; starts = set (m .starts) i x } ≡ withRecord k m r
+  unfolding withRecord withPorts portsInto
+  withRecord-ports i d x e p h q = rw (e, q, startAt-read m i d h, p) refl

@@ -1,4 +1,7 @@
 pub mod RecordLaws
+pub mod PortsLaws
 pub mod BodyLaws
+pub mod UnnamedLaws
 pub mod TargetLaws
+pub mod LackLaws
 pub mod FileLaws

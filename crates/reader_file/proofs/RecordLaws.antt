@@ -13,7 +13,7 @@ use borrow.Author.Tests.{eqb-true, le-leb, lt-leb}
 use Rattle.base.specs.Index.{orElse}
 use Rattle.reader.specs.Word.{wordAt}
 use Rattle.reader.specs.Record.{follows, lengthFits, framingFault}
-use Rattle.reader_laws.proofs.FrameLaws.{framed, head-length, thread-length, follows-end}
+use Rattle.reader_laws.proofs.FrameLaws.{framed, head-length, thread-length, ports-length, follows-end}
 use Rattle.reader_segment.specs.Parts.{fits}
 use Rattle.reader_file.specs.Parts.{isWhole}
 
@@ -86,5 +86,8 @@ module _ {last s k : ℕ} {b : List ℕ} (o : Opened last b s k) where
   unfolding lengthFits
   opened-last e = eqb-true s 4 (rw e at opened-size)
 
-  pub opened-end : (k ≡ 1 → ⊥) → (k ≡ 2 → ⊥) → (k ≡ 3 → ⊥) → k ≡ 4
+  pub opened-ports : k ≡ 5 → length (take s b) ≡ 12
+  opened-ports e = opened-length ∙ ports-length s k opened-size e
+
+  pub opened-end : (k ≡ 1 → ⊥) → (k ≡ 2 → ⊥) → (k ≡ 3 → ⊥) → (k ≡ 5 → ⊥) → k ≡ 4
   opened-end = follows-end last k opened-after

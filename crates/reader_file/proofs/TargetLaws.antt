@@ -1,20 +1,20 @@
 -- Targets: the bound that is kept as a file is judged says which N every target is below.
 --     max-leb, next-bound, leaves-bound     the greater of two numbers, a closer's next segments
---     stays-..     no target of a model is N or more: of a model with a segment more, with a thread more
---     counted-..     what is counted, record by record
-use Prim.Native.Nat.{ℕ, suc, max, _+_, _<_, zero-le}
+--     stays-..     no target of a model is N or more: of a model with a segment more, with a thread more, with a thread's ports
+--     counted-..     what is counted, record by record; and that no port is named where none was seen
+use Prim.Native.Nat.{ℕ, suc, max, _+_, _-_, _<_, _≤_, zero-le}
 use mathlib.Core.Path.{_≡_, refl, sym, ap, _∙_, subst}
 use mathlib.Core.Bool.{Bool, true, false, not, _&&_, _||_, Bool·not-not}
 use mathlib.Core.List.{List}
 use native.Mathlib.Numerals.{add-one}
 use native.Mathlib.Omega.{arith}
-use native.Mathlib.Decide.{decLt}
+use native.Mathlib.Decide.{decLt, ℕ-discrete}
 use lib.Dec.{ltb, leb}
 use lib.ListN.{length, getD, set}
 use lib.Seq.{getD-set-same, getD-set-other}
 use borrow.Author.Tests.{leb-true, le-leb, ltb-true}
 use Rattle.base.specs.Index.{anyBelow}
-use Rattle.base.proofs.BoolLaws.{true→T}
+use Rattle.base.proofs.BoolLaws.{true→T, T→false, false→T, not-or→both}
 use Rattle.base.proofs.IndexLaws.{anyBelow-more, anyBelow-same, orElse-zero}
 use Rattle.model.specs.declared.Next.{Next}
 use Rattle.model.specs.declared.Closer.{Closer}
@@ -22,15 +22,18 @@ use Rattle.model.specs.declared.Closer.the-variants.{End, Time, Event}
 use Rattle.model.specs.declared.Segment.{Segment}
 use Rattle.model.specs.declared.Start.{Start}
 use Rattle.model.specs.declared.Model.{Model}
-use Rattle.model.specs.Values.{noSegment, noStart, noModel, segmentAt, startAt, withHead, withSegment, withStart}
+use Rattle.model.specs.Port.{noPorts}
+use Rattle.model.specs.Values.{noSegment, noStart, noModel, segmentAt, startAt, withHead, withSegment, withStart, withPorts}
 use Rattle.model.specs.Rules.{unless, leavesModel, anySegmentLeaves, anyStartLeaves, targetsFault}
 use Rattle.model_rules.proofs.FaultLaws.{unless-zero}
 use Rattle.reader.specs.Word.{byteAt}
-use Rattle.reader.specs.Record.{segmentFrom, segmentBytesFault, bodyFault, withRecord}
-use Rattle.reader_laws.proofs.ReadSoFar.{SoFar, Follows, head, segment, thread, ending}
-use Rattle.reader_segment.specs.Parts.{boundOf, targetBound, fits, closerIn}
+use Rattle.reader.specs.Record.{segmentFrom, segmentBytesFault, portsFrom, bodyFault, withRecord}
+use Rattle.reader_laws.proofs.ReadSoFar.{SoFar, Follows, head, segment, thread, ports, ending}
+use Rattle.reader_segment.specs.Parts.{boundOf, targetBound, fits, closerIn, recordNames}
+use Rattle.reader_segment.proofs.NamedLaws.{segment-unnamed}
 use Rattle.reader_file.specs.declared.Counts.{Counts}
-use Rattle.reader_file.specs.Parts.{countsAfter}
+use Rattle.reader_file.specs.Parts.{noCounts, countsAfter}
+use Rattle.reader_file.proofs.UnnamedLaws.{Unnamed, unnamed-same, unnamed-segment}
 
 absorb-left : (s t : Bool) → (t ≡ true → s ≡ true) → t ≡ (s && t)
 absorb-left true t h = refl
@@ -104,6 +107,23 @@ module _ (n : ℕ) (m : Model) where
       ap (λ (x : Start). not (ltb (x .first) n)) (getD-set-same (m .starts) (m .t) s noStart h) in
       rw (anyBelow-more (m .t) (misses-at (set (m .starts) (m .t) s)), before, here) (thread-more (anyBelow (m .n) (leaves-at (m .segments))) (anyBelow (m .t) (misses-at (m .starts))) (not (ltb (s .first) n)) ∙ ap (λ (t : Bool). not (anyBelow (m .n) (leaves-at (m .segments)) || anyBelow (m .t) (misses-at (m .starts))) && t) (Bool·not-not (ltb (s .first) n)))
 
+-- a thread's ports leave its first segment
+stays-ports : (n : ℕ) (m : Model) (ps : List ℕ) → 1 ≤ m .t → m .t ≤ length (m .starts) → stays n (withPorts m ps) ≡ stays n m
+unfolding stays withPorts segmentAt startAt
+stays-ports n m ps some places =
+    ap (λ (t : Bool). not (anyBelow (m .n) (λ i. leavesModel n (getD (m .segments) i noSegment .closer)) || t))
+    (anyBelow-same (m .t) (λ k. not (ltb (getD (set (m .starts) last x) k noStart .first) n)) (λ k. not (ltb (getD (m .starts) k noStart .first) n)) (λ k h. ap (λ (i : ℕ). not (ltb i n)) (each k h (ℕ-discrete k last))))
+  where
+    last : ℕ
+    last = m .t - 1
+
+    x : Start
+    x = record { first = getD (m .starts) last noStart .first; ports = ps }
+
+    each : (k : ℕ) → k < m .t → Dec (k ≡ last) → getD (set (m .starts) last x) k noStart .first ≡ getD (m .starts) k noStart .first
+    each k h (yes e) = rw (e, getD-set-same (m .starts) last x noStart (omega arith)) refl
+    each k h (no e) = rw (getD-set-other (m .starts) last k x noStart e) refl
+
 closer-is : (r : List ℕ) → fits r ≡ true → segmentFrom r .closer ≡ closerIn r
 unfolding segmentFrom closerIn
 closer-is r f = rw f refl
@@ -115,19 +135,20 @@ pub record Counted (c : Counts) (m : Model) : Type 0 where
   pub n : c .n ≡ m .n
   pub t : c .t ≡ m .t
   pub bounds : (n : ℕ) → stays n m ≡ leb (c .bound) n
+  pub unnamed : c .named ≡ false → Unnamed m
 
-pub counted-none : Counted (record { v = 0; e = 0; n = 0; t = 0; bound = 0 }) noModel
+pub counted-none : Counted noCounts noModel
 unfolding stays anyBelow
-counted-none = record { v = refl; e = refl; n = refl; t = refl; bounds = λ n. sym (le-leb 0 n zero-le) }
+counted-none = record { v = refl; e = refl; n = refl; t = refl; bounds = λ n. sym (le-leb 0 n zero-le); unnamed = λ _ i p h l. absurd (omega arith) }
 
 module _ (last : ℕ) (c : Counts) (m : Model) (r : List ℕ) (so-far : SoFar last m) (g : Counted c m) where
   counted-head : Counted (countsAfter 1 c r) (withRecord 1 m r)
   unfolding countsAfter withRecord withHead stays segmentAt startAt
-  counted-head = record { v = refl; e = refl; n = g .n; t = g .t; bounds = g .bounds }
+  counted-head = record { v = refl; e = refl; n = g .n; t = g .t; bounds = g .bounds; unnamed = λ z. unnamed-same m _ refl refl (g .unnamed z) }
 
   counted-segment : fits r ≡ true → bodyFault 2 m r ≡ 0 → Counted (countsAfter 2 c r) (withRecord 2 m r)
   unfolding countsAfter withRecord withSegment bodyFault
-  counted-segment f none = record { v = g .v; e = g .e; n = ap (λ (n : ℕ). n + 1) (g .n); t = g .t; bounds = each }
+  counted-segment f none = record { v = g .v; e = g .e; n = ap (λ (n : ℕ). n + 1) (g .n); t = g .t; bounds = each; unnamed = none-named }
     where
       room : m .n < 64
       room = ltb-true (m .n) 64 (unless-zero (ltb (m .n) 64) 4 (λ e. omega arith) (orElse-zero (unless (ltb (m .n) 64) 4) (segmentBytesFault (m .v) (m .e) r) none .0))
@@ -137,20 +158,38 @@ module _ (last : ℕ) (c : Counts) (m : Model) (r : List ℕ) (so-far : SoFar la
           stays-segment n m (segmentFrom r) (omega (arith, room, so-far .segment-places))
           ∙ rw (g .bounds n, leaves-bound n (segmentFrom r .closer), closer-is r f) (sym (max-leb (c .bound) (targetBound (closerIn r)) n))
 
+      none-named : (c .named || recordNames r) ≡ false → Unnamed (withSegment m (segmentFrom r))
+      none-named z =
+          let (p, q) = not-or→both (c .named) (recordNames r) (false→T _ z) in
+          unnamed-segment m (segmentFrom r) (omega (arith, room, so-far .segment-places)) (g .unnamed (T→false (c .named) p))
+          (λ i l. segment-unnamed r f (T→false (recordNames r) q) i l)
+
   counted-thread : bodyFault 3 m r ≡ 0 → Counted (countsAfter 3 c r) (withRecord 3 m r)
   unfolding countsAfter withRecord withStart bodyFault
-  counted-thread none = record { v = g .v; e = g .e; n = g .n; t = ap (λ (t : ℕ). t + 1) (g .t); bounds = each }
+  counted-thread none = record { v = g .v; e = g .e; n = g .n; t = ap (λ (t : ℕ). t + 1) (g .t); bounds = each; unnamed = λ z. unnamed-same m _ refl refl (g .unnamed z) }
     where
       room : m .t < 32
       room = ltb-true (m .t) 32 (unless-zero (ltb (m .t) 32) 4 (λ e. omega arith) none)
 
-      each : (n : ℕ) → stays n (withStart m (record { first = byteAt r 4 })) ≡ leb (max (c .bound) (byteAt r 4 + 1)) n
+      each : (n : ℕ) → stays n (withStart m (record { first = byteAt r 4; ports = noPorts })) ≡ leb (max (c .bound) (byteAt r 4 + 1)) n
       each n =
-          stays-start n m (record { first = byteAt r 4 }) (omega (arith, room, so-far .start-places))
+          stays-start n m (record { first = byteAt r 4; ports = noPorts }) (omega (arith, room, so-far .start-places))
           ∙ rw (g .bounds n, max-leb (c .bound) (byteAt r 4 + 1) n, add-one (byteAt r 4)) refl
+
+  -- ports have no targets
+  counted-ports : last ≡ 3 → Counted (countsAfter 5 c r) (withRecord 5 m r)
+  unfolding countsAfter withRecord withPorts
+  counted-ports is = record { v = g .v; e = g .e; n = g .n; t = g .t; bounds = λ n. stays-ports n m (portsFrom r) some places ∙ g .bounds n; unnamed = λ z. unnamed-same m _ refl refl (g .unnamed z) }
+    where
+      some : 1 ≤ m .t
+      some = so-far .some-thread (omega arith)
+
+      places : m .t ≤ length (m .starts)
+      places = omega (arith, so-far .few-threads, so-far .start-places)
 
   pub counted-more : (k : ℕ) → Follows last k → (k ≡ 2 → fits r ≡ true) → bodyFault k m r ≡ 0 → (k ≡ 4 → ⊥) → Counted (countsAfter k c r) (withRecord k m r)
   counted-more k (head z e) f none more = subst (λ (k : ℕ). Counted (countsAfter k c r) (withRecord k m r)) (sym e) counted-head
   counted-more k (segment p q e) f none more = subst (λ (k : ℕ). bodyFault k m r ≡ 0 → Counted (countsAfter k c r) (withRecord k m r)) (sym e) (counted-segment (f e)) none
-  counted-more k (thread p q e) f none more = subst (λ (k : ℕ). bodyFault k m r ≡ 0 → Counted (countsAfter k c r) (withRecord k m r)) (sym e) counted-thread none
+  counted-more k (thread p e) f none more = subst (λ (k : ℕ). bodyFault k m r ≡ 0 → Counted (countsAfter k c r) (withRecord k m r)) (sym e) counted-thread none
+  counted-more k (ports z e) f none more = subst (λ (k : ℕ). Counted (countsAfter k c r) (withRecord k m r)) (sym e) (counted-ports z)
   counted-more k (ending z e) f none more = absurd (more e)

@@ -6,19 +6,39 @@ use reader::Read;
 ghost use mathlib.Core.Path.{_≡_};
 ghost use Prim.Native.Nat.{_≤_, _<_, max};
 ghost use lib.ListN.{length};
+ghost use mathlib.Core.Bool.{true, cond};
+ghost use Rattle.model.specs.Port.{usesPorts};
 ghost use Rattle.model.specs.Values.{noSegment, noModel};
+ghost use Rattle.model.specs.Rules.{lackFault};
 ghost use Rattle.reader.specs.Word.{longAt};
-ghost use Rattle.reader.specs.Record.{follows, lengthFits, framingFault};
+ghost use Rattle.reader.specs.Record.{follows, lengthFits, framingFault, portsFrom, portsBytesFault};
 ghost use Rattle.reader.specs.File.{readFile};
-ghost use Rattle.reader_file.specs.Parts.{isWhole, countFault, recordFault, Room, countsAfter, endFault, refusedWith};
+ghost use Rattle.reader_segment.specs.Parts.{fits};
+ghost use Rattle.reader_file.specs.Parts.{isWhole, countFault, ownFault, recordFault, Room, noCounts, countsAfter, endFault, refusedWith, threadFrom, portsInto, judgedFile, headOf, noHead, Judges, BuildsIf};
 
-// What is counted as a file is judged: variables, events, segments, threads, and the least N that every target is below.
+// What is counted as a file is judged: variables, events, segments, threads, the least N that every target is below, and whether a
+// segment can name a port.
 struct Counts {
     v: u8,
     e: u8,
     n: u8,
     t: u8,
     bound: u32,
+    named: bool,
+}
+
+// What a file's head says, and where the record after it begins.
+struct Head {
+    horizon: Time,
+    v: u8,
+    e: u8,
+    at: usize,
+}
+
+// A file's number but for 18, and whether a segment can name a port.
+struct Verdict {
+    number: u8,
+    named: bool,
 }
 
 fn size_of(x: u32) -> usize
@@ -47,20 +67,22 @@ fn is_whole(b: &[u8]) -> bool
     size <= b.len()
 }
 
-// Document 01: "The order is one head, 1 to 64 segments, 1 to 32 threads, one end." 0 stands before the first record.
+// Document 01: "The order is one head, 1 to 64 segments, 1 to 32 threads, one end."; 5 "may follow a thread's record". 0 stands before the
+// first record.
 fn comes_after(last: u32, kind: u32) -> bool
     ensures { λ r. ⌜ r ≡ follows last kind ⌝ }
 {
     match last {
         0 => kind == 1,
         1 => kind == 2,
-        2 => kind == 2 || kind == 3,
-        3 => kind == 3 || kind == 4,
+        2 => (kind == 2) | (kind == 3),
+        3 => ((kind == 3) | (kind == 4)) | (kind == 5),
+        5 => (kind == 3) | (kind == 4),
         _ => false,
     }
 }
 
-// Document 01: "head, length 10"; "thread, length 5"; "end, length 4".
+// Document 01: "head, length 10"; "thread, length 5"; "end, length 4"; document 02: "kind 5, length 12".
 fn length_fits(kind: u32, size: u32) -> bool
     ensures { λ r. ⌜ r ≡ lengthFits kind size ⌝ }
 {
@@ -68,6 +90,7 @@ fn length_fits(kind: u32, size: u32) -> bool
         1 => size == 10,
         2 => reader_segment::segment_length_fits(size_of(size)),
         3 => size == 5,
+        5 => size == 12,
         _ => size == 4,
     }
 }
@@ -110,7 +133,39 @@ fn count_fault(kind: u32, c: Counts, r: &[u8]) -> u8
     }
 }
 
-// The first of 1 to 7 at a record that begins the bytes b, after a record of kind last: "1 to 7 .., lower number first".
+// Document 02: "gives eight variable numbers".
+fn ports_at(r: &[u8]) -> [u8; 8]
+    requires { ⌜ 12 ≤ length (now r) ⌝ }
+    ensures { λ x. ⌜ x ≡ portsFrom (now (r .entry)) ⌝ }
+{
+    [r[4], r[5], r[6], r[7], r[8], r[9], r[10], r[11]]
+}
+
+// Document 02: "17 when all eight are 255 or a mapped number is neither 255 nor below V".
+fn ports_record_fault(v: u8, r: &[u8]) -> u8
+    requires { ⌜ 12 ≤ length (now r) ⌝ }
+    ensures { λ x. ⌜ x ≡ portsBytesFault v (now (r .entry)) ⌝ }
+{
+    let ports = ports_at(r);
+    if !model_effect::uses_ports(ports) {
+        return 17;
+    }
+    model_rules::ports_fault(v, ports)
+}
+
+// A segment's 5 to 7, the 17 of a thread's ports.
+fn own_fault(kind: u32, c: Counts, r: &[u8]) -> u8
+    requires { ⌜ (kind ≡ 2 → fits (now r) ≡ true) × (kind ≡ 5 → 12 ≤ length (now r)) ⌝ }
+    ensures { λ x. ⌜ x ≡ ownFault kind (c .v) (c .e) (now (r .entry)) ⌝ }
+{
+    match kind {
+        2 => reader_segment::segment_fault(c.v, c.e, r),
+        5 => ports_record_fault(c.v, r),
+        _ => 0,
+    }
+}
+
+// The first of 1 to 7 and 17 at a record that begins the bytes b, after a record of kind last: "1 to 7 .., lower number first".
 fn record_fault(last: u32, c: Counts, b: &[u8]) -> u8
     ensures { λ x. ⌜ x ≡ recordFault last c (now (b .entry)) ⌝ }
 {
@@ -125,10 +180,7 @@ fn record_fault(last: u32, c: Counts, b: &[u8]) -> u8
     if count != 0 {
         return count;
     }
-    if kind != 2 {
-        return 0;
-    }
-    reader_segment::segment_fault(c.v, c.e, r)
+    own_fault(kind, c, r)
 }
 
 // The greater of two numbers.
@@ -139,6 +191,20 @@ fn most_of(a: u32, b: u32) -> u32
         return b;
     }
     a
+}
+
+// Before the first record nothing is counted.
+fn no_counts() -> Counts
+    ensures { λ r. ⌜ r ≡ noCounts ⌝ }
+{
+    Counts {
+        v: 0,
+        e: 0,
+        n: 0,
+        t: 0,
+        bound: 0,
+        named: false,
+    }
 }
 
 // What is counted with one record more.
@@ -153,6 +219,7 @@ fn counts_after(kind: u32, c: Counts, r: &[u8]) -> Counts
             n: c.n,
             t: c.t,
             bound: c.bound,
+            named: c.named,
         },
         2 => Counts {
             v: c.v,
@@ -160,6 +227,7 @@ fn counts_after(kind: u32, c: Counts, r: &[u8]) -> Counts
             n: c.n + 1,
             t: c.t,
             bound: most_of(c.bound, reader_segment::target_bound(r)),
+            named: c.named | reader_segment::record_names(r),
         },
         3 => Counts {
             v: c.v,
@@ -167,6 +235,7 @@ fn counts_after(kind: u32, c: Counts, r: &[u8]) -> Counts
             n: c.n,
             t: c.t + 1,
             bound: most_of(c.bound, reader_segment::wide(r[4]) + 1),
+            named: c.named,
         },
         _ => c,
     }
@@ -184,35 +253,39 @@ fn end_fault(left: usize, c: Counts) -> u8
     target
 }
 
-// Document 01: "Order: 1 to 7 record by record, lower number first .., then 9, 8". The number alone: no model is built.
-pub fn file_number(bytes: &[u8]) -> u8
-    ensures { λ r. ⌜ r ≡ readFile (now (bytes .entry)) .number ⌝ }
+// Document 01: "Order: 1 to 7 record by record, lower number first .., then 9, 8". On counts alone: no model is built.
+fn judge(bytes: &[u8]) -> Verdict
+    ensures { λ x. ⌜ Judges (now (bytes .entry)) x ⌝ }
 {
-    let mut c = Counts {
-        v: 0,
-        e: 0,
-        n: 0,
-        t: 0,
-        bound: 0,
-    };
+    let mut c = no_counts();
     let mut last = 0;
     let mut at = 0;
     while at < bytes.len() {
         let b = &bytes[at..];
-        let fault = record_fault(last, c, b);
-        if fault != 0 {
-            return fault;
+        let number = record_fault(last, c, b);
+        if number != 0 {
+            return Verdict {
+                number,
+                named: false,
+            };
         }
         let size = size_of(reader_segment::word_at(b, 0));
         let kind = reader_segment::word_at(b, 2);
         if kind == 4 {
-            return end_fault(b.len() - size, c);
+            let number = end_fault(b.len() - size, c);
+            return Verdict {
+                number,
+                named: c.named,
+            };
         }
         c = counts_after(kind, c, &b[..size]);
         last = kind;
         at = at + size;
     }
-    1
+    Verdict {
+        number: 1,
+        named: false,
+    }
 }
 
 // Document 01: "a model or marks returned by value beside the number are zero and unset".
@@ -225,20 +298,62 @@ pub fn refused(number: u8) -> Read
     }
 }
 
-// The model of an accepted file: the head is its first 10 bytes, the end its last 4, and segments and threads stand between.
-fn model_from(bytes: &[u8]) -> Model
-    requires { ⌜ readFile (now bytes) .number ≡ 0 ⌝ }
-    ensures { λ m. ⌜ m ≡ readFile (now (bytes .entry)) .model ⌝ }
+// Document 01: "thread, length 5: its first segment"; document 02: "Without it all eight are unused."
+fn thread_from(r: &[u8]) -> Start
+    requires { ⌜ 5 ≤ length (now r) ⌝ }
+    ensures { λ x. ⌜ x ≡ threadFrom (now (r .entry)) ⌝ }
 {
-    let head = &bytes[..10];
-    let horizon = horizon_at(head);
-    let v = head[8];
-    let e = head[9];
+    Start {
+        first: r[4],
+        ports: [255; 8],
+    }
+}
+
+// A thread with the ports of the record after its own.
+fn with_ports(x: Start, r: &[u8]) -> Start
+    requires { ⌜ 12 ≤ length (now r) ⌝ }
+    ensures { λ s. ⌜ s ≡ portsInto x (now (r .entry)) ⌝ }
+{
+    Start {
+        first: x.first,
+        ports: ports_at(r),
+    }
+}
+
+// The head of a file with no fault but 18, its first 10 bytes. Of any other nothing, and no record after it.
+fn head_of(bytes: &[u8], accepted: bool) -> Head
+    requires { ⌜ (accepted ≡ true → judgedFile (now bytes) .number ≡ 0) ⌝ }
+    ensures { λ h. ⌜ h ≡ cond accepted (headOf (now (bytes .entry))) (noHead (now (bytes .entry))) ⌝ }
+{
+    if !accepted {
+        return Head {
+            horizon: Time(0),
+            v: 0,
+            e: 0,
+            at: bytes.len(),
+        };
+    }
+    let r = &bytes[..10];
+    Head {
+        horizon: horizon_at(r),
+        v: r[8],
+        e: r[9],
+        at: 10,
+    }
+}
+
+// The model of a file with no fault but 18, zero for any other: after the head, segments and threads up to the end, the last 4 bytes.
+fn model_from(bytes: &[u8], accepted: bool) -> Model
+    requires { ⌜ (accepted ≡ true → judgedFile (now bytes) .number ≡ 0) ⌝ }
+    ensures { λ m. ⌜ BuildsIf accepted (now (bytes .entry)) m ⌝ }
+{
+    let head = head_of(bytes, accepted);
+    let horizon = head.horizon;
     let mut n = 0;
     let mut t = 0;
     let mut segments = [model_effect::no_segment(); 64];
-    let mut starts = [Start { first: 0 }; 32];
-    let mut at = 10;
+    let mut starts = [model_effect::no_start(); 32];
+    let mut at = head.at;
     while 4 < bytes.len() - at {
         let b = &bytes[at..];
         let size = size_of(reader_segment::word_at(b, 0));
@@ -248,17 +363,21 @@ fn model_from(bytes: &[u8]) -> Model
             let i = buffers::wide(n);
             segments[i] = reader_segment::segment_from(r);
             n = n + 1;
-        } else {
+        } else if kind == 3 {
             let k = buffers::wide(t);
-            starts[k] = Start { first: r[4] };
+            starts[k] = thread_from(r);
             t = t + 1;
+        } else {
+            let k = buffers::wide(t) - 1;
+            let x = starts[k];
+            starts[k] = with_ports(x, r);
         }
         at = at + size;
     }
     Model {
         horizon,
-        v,
-        e,
+        v: head.v,
+        e: head.e,
         n,
         t,
         segments,
@@ -266,16 +385,33 @@ fn model_from(bytes: &[u8]) -> Model
     }
 }
 
+// 18 of a file with no other fault: its model is built for that.
+fn lack_number(bytes: &[u8]) -> u8
+    requires { ⌜ judgedFile (now bytes) .number ≡ 0 ⌝ }
+    ensures { λ r. ⌜ r ≡ lackFault (judgedFile (now (bytes .entry)) .model) ⌝ }
+{
+    model_rules::lack_fault(model_from(bytes, true))
+}
+
+// Document 01, "Numbers of refusal": a file's number, 0 where it is accepted. A model is built only where a port is named, for 18.
+pub fn file_number(bytes: &[u8]) -> u8
+    ensures { λ r. ⌜ r ≡ readFile (now (bytes .entry)) .number ⌝ }
+{
+    let x = judge(bytes);
+    if x.number != 0 {
+        return x.number;
+    }
+    if !x.named {
+        return 0;
+    }
+    lack_number(bytes)
+}
+
 // Document 01, "Model file": the number, then the model where it is 0.
 pub fn read_file(bytes: &[u8]) -> Read
     ensures { λ r. ⌜ r ≡ readFile (now (bytes .entry)) ⌝ }
 {
     let number = file_number(bytes);
-    if number != 0 {
-        return refused(number);
-    }
-    Read {
-        number: 0,
-        model: model_from(bytes),
-    }
+    let model = model_from(bytes, number == 0);
+    Read { number, model }
 }

@@ -1,9 +1,9 @@
 -- The head of a record: what follows where 1, 2 and 3 do not apply.
 --     framed     the length and the kind of such a record
---     head-length, segment-length, thread-length     its length by its kind
+--     head-length, segment-length, thread-length, ports-length     its length by its kind
 use Prim.Native.Nat.{ℕ, _≤_}
-use mathlib.Core.Path.{_≡_}
-use mathlib.Core.Bool.{Bool, true, false, cond, _&&_}
+use mathlib.Core.Path.{_≡_, refl}
+use mathlib.Core.Bool.{Bool, true, false, cond, _&&_, _||_}
 use mathlib.Core.List.{List}
 use native.Mathlib.Omega.{arith}
 use lib.Dec.{leb, eqb}
@@ -56,14 +56,21 @@ module _ (l : ℕ) where
   unfolding lengthFits
   thread-length k h e = eqb-true l 5 (rw e at h)
 
--- a kind that may come and is not 1, 2 or 3
-pub follows-end : (last k : ℕ) → follows last k ≡ true → (k ≡ 1 → ⊥) → (k ≡ 2 → ⊥) → (k ≡ 3 → ⊥) → k ≡ 4
+  pub ports-length : (k : ℕ) → lengthFits k l ≡ true → k ≡ 5 → l ≡ 12
+  unfolding lengthFits
+  ports-length k h e = eqb-true l 12 (rw e at h)
+
+-- a kind that may come and is not 1, 2, 3 or 5
+pub follows-end : (last k : ℕ) → follows last k ≡ true → (k ≡ 1 → ⊥) → (k ≡ 2 → ⊥) → (k ≡ 3 → ⊥) → (k ≡ 5 → ⊥) → k ≡ 4
 unfolding follows
-follows-end last k h n1 n2 n3 = eqb-true k 4 (go (eqb last 0) (eqb last 1) (eqb last 2) (eqb last 3) (eqb k 4) (rw (ne-eqb k 1 n1, ne-eqb k 2 n2, ne-eqb k 3 n3) at h))
+follows-end last k h n1 n2 n3 n5 =
+    eqb-true k 4 (go (eqb last 0) (eqb last 1) (eqb last 2) (eqb last 3) (eqb last 5) (eqb k 4) (rw (ne-eqb k 1 n1, ne-eqb k 2 n2, ne-eqb k 3 n3, ne-eqb k 5 n5) at h))
   where
-    go : (s t u w x : Bool) → cond s false (cond t false (cond u false (cond w x false))) ≡ true → x ≡ true
-    go true t u w x e = absurd (true→T false e)
-    go false true u w x e = absurd (true→T false e)
-    go false false true w x e = absurd (true→T false e)
-    go false false false true x e = e
-    go false false false false x e = absurd (true→T false e)
+    go : (s t u w p x : Bool) → cond s false (cond t false (cond u false (cond w (x || false) (cond p x false)))) ≡ true → x ≡ true
+    go true t u w p x e = absurd (true→T false e)
+    go false true u w p x e = absurd (true→T false e)
+    go false false true w p x e = absurd (true→T false e)
+    go false false false true p true e = refl
+    go false false false true p false e = e
+    go false false false false true x e = e
+    go false false false false false x e = absurd (true→T false e)

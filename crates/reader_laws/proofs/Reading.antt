@@ -1,5 +1,5 @@
 -- What holds of an accepted file by induction over its records: `read-induct`.
-use Prim.Native.Nat.{ℕ, zero, suc}
+use Prim.Native.Nat.{ℕ, zero, suc, _≤_}
 use mathlib.Core.Path.{_≡_, refl, sym, ap, _∙_, subst}
 use mathlib.Core.Bool.{cond}
 use mathlib.Core.List.{List, [], _∷_}
@@ -12,14 +12,14 @@ use Rattle.base.specs.Index.{orElse}
 use Rattle.base.proofs.BoolLaws.{true→T, cond-case, eq→eqb}
 use Rattle.base.proofs.IndexLaws.{orElse-zero}
 use Rattle.model.specs.declared.Model.{Model}
-use Rattle.model.specs.Rules.{unless, targetsFault}
+use Rattle.model.specs.Rules.{unless, linksFault}
 use Rattle.model_rules.proofs.FaultLaws.{unless-zero}
 use Rattle.reader.specs.declared.Read.{Read}
 use Rattle.reader.specs.Word.{wordAt}
 use Rattle.reader.specs.Record.{follows, lengthFits, framingFault, bodyFault, withRecord}
 use Rattle.reader.specs.File.{readOr, readEnd, readFrom}
 use Rattle.reader_laws.proofs.FrameLaws.{Framed, framed}
-use Rattle.reader_laws.proofs.ReadSoFar.{SoFar, Follows, head, segment, thread, ending, follows→, record-kept}
+use Rattle.reader_laws.proofs.ReadSoFar.{SoFar, Follows, head, segment, thread, ports, ending, follows→, record-kept}
 
 -- a number that is 0 comes with the model that was read
 pub readOr-accepted : (n : ℕ) (m : Model) → readOr n m .number ≡ 0 → (n ≡ 0) × (readOr n m .model ≡ m)
@@ -32,11 +32,12 @@ pub record Taken (last : ℕ) (b : List ℕ) (m : Model) : Type 0 where
   pub next : Follows last (wordAt b 2)
   pub body : bodyFault (wordAt b 2) m (take (wordAt b 0) b) ≡ 0
 
-last-thread : (last k : ℕ) → Follows last k → k ≡ 4 → last ≡ 3
-last-thread last k (head z e) f = absurd (omega arith)
-last-thread last k (segment p q e) f = absurd (omega arith)
-last-thread last k (thread p q e) f = absurd (omega arith)
-last-thread last k (ending z e) f = z
+after-thread : (last k : ℕ) → Follows last k → k ≡ 4 → 3 ≤ last
+after-thread last k (head z e) f = absurd (omega arith)
+after-thread last k (segment p q e) f = absurd (omega arith)
+after-thread last k (thread p e) f = absurd (omega arith)
+after-thread last k (ports z e) f = absurd (omega arith)
+after-thread last k (ending p e) f = p
 
 no-bytes : (b : List ℕ) → length b ≡ 0 → b ≡ []
 no-bytes [] e = refl
@@ -44,7 +45,7 @@ no-bytes (x ∷ b) e = absurd (omega arith)
 
 -- P is about the kind of the last record, the bytes left, the model read so far and the model in the end
 module _ (P : ℕ → List ℕ → Model → Model → Type 0)
-    (at-end : (last : ℕ) (b : List ℕ) (m : Model) → Taken last b m → last ≡ 3 → wordAt b 2 ≡ 4 → drop (wordAt b 0) b ≡ [] → targetsFault m ≡ 0 → P last b m m)
+    (at-end : (last : ℕ) (b : List ℕ) (m : Model) → Taken last b m → 3 ≤ last → wordAt b 2 ≡ 4 → drop (wordAt b 0) b ≡ [] → linksFault m ≡ 0 → P last b m m)
     (at-record : (last : ℕ) (b : List ℕ) (m n : Model) → Taken last b m → (wordAt b 2 ≡ 4 → ⊥)
     → P (wordAt b 2) (drop (wordAt b 0) b) (withRecord (wordAt b 2) m (take (wordAt b 0) b)) n → P last b m n)
   where
@@ -71,10 +72,10 @@ module _ (P : ℕ → List ℕ → Model → Model → Type 0)
 
         ended : Taken last b m → k ≡ 4 → readEnd rest m .number ≡ 0 → P last b m (readEnd rest m .model)
         ended w e z =
-            let (none, same) = readOr-accepted (orElse (unless (eqb (length rest) 0) 9) (targetsFault m)) m z in
+            let (none, same) = readOr-accepted (orElse (unless (eqb (length rest) 0) 9) (linksFault m)) m z in
             let empty = unless-zero (eqb (length rest) 0) 9 (λ e. omega arith) (orElse-zero _ _ none .0) in
             subst (P last b m) (sym same)
-            (at-end last b m w (last-thread last k (w .next) e) e (no-bytes rest (eqb-true (length rest) 0 empty)) (orElse-zero _ _ none .1))
+            (at-end last b m w (after-thread last k (w .next) e) e (no-bytes rest (eqb-true (length rest) 0 empty)) (orElse-zero _ _ none .1))
 
         go : (framingFault last b ≡ 0) × (bodyFault k m r ≡ 0)
             → cond (eqb k 4) (readEnd rest m) (readFrom most k rest (withRecord k m r)) .number ≡ 0

@@ -1,4 +1,4 @@
--- The edge of 16: one word less than N × N, and N × N of them. And the reader's number before 16.
+-- The edge of 16: one word less than N × N, and N × N of them. And the reader's number before 16, also where it is the greater.
 use Prim.Native.Nat.{ℕ}
 use mathlib.Core.Path.{_≡_, refl}
 use mathlib.Core.List.{[], _∷_}
@@ -20,6 +20,8 @@ pub loadNumber-edges :
     (loadNumber (read 0) (0 ∷ 0 ∷ 0 ∷ []) ≡ 16) ×
     (loadNumber (read 0) (0 ∷ 0 ∷ 0 ∷ 0 ∷ []) ≡ 0) ×
     (loadNumber (read 0) (0 ∷ 0 ∷ 0 ∷ 0 ∷ 0 ∷ []) ≡ 0) ×
-    (loadNumber (read 9) (0 ∷ 0 ∷ 0 ∷ []) ≡ 9)
+    (loadNumber (read 9) (0 ∷ 0 ∷ 0 ∷ []) ≡ 9) ×
+    (loadNumber (read 17) (0 ∷ 0 ∷ 0 ∷ []) ≡ 17) ×
+    (loadNumber (read 18) (0 ∷ 0 ∷ 0 ∷ []) ≡ 18)
 unfolding loadNumber isShort orElse
-loadNumber-edges = (refl, refl, refl, refl)
+loadNumber-edges = (refl, refl, refl, refl, refl, refl)

@@ -1,4 +1,5 @@
--- Document 01, "Numbers of refusal": reader and tables together. "Order: 1 to 7 record by record, lower number first .., then 9, 8, 16."
+-- Document 01, "Numbers of refusal": reader and tables together. "Order: 1 to 7 record by record, lower number first .., then
+-- 9, 8, 16."; 17 "where the record stands", 18 "after 8".
 use Prim.Native.Nat.{ℕ}
 use mathlib.Core.Bool.{Bool, cond}
 use mathlib.Core.List.{List}

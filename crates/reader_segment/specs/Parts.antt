@@ -1,17 +1,21 @@
 -- A segment's record by itself: what its bytes say where its length fits.
 use Prim.Native.Nat.{ℕ, suc, _-_, max}
-use mathlib.Core.Bool.{Bool, cond}
+use mathlib.Core.Bool.{Bool, false, cond, not, _&&_, _||_}
 use mathlib.Core.List.{List, _++_}
+use lib.Dec.{leb, eqb}
 use lib.ListN.{length, drop, replicate}
-use Rattle.base.specs.Index.{orElse, firstBelow, tabulate}
+use Rattle.base.specs.Index.{anyBelow, orElse, firstBelow, tabulate}
 use Rattle.model.specs.declared.Next.{Next}
 use Rattle.model.specs.declared.Closer.{Closer}
 use Rattle.model.specs.declared.Closer.the-variants.{End, Time, Event}
 use Rattle.model.specs.declared.Statement.{Statement}
 use Rattle.model.specs.declared.Segment.{Segment}
 use Rattle.model.specs.Refusal.{wrongLength}
+use Rattle.model.specs.Port.{firstPort}
 use Rattle.model.specs.Values.{noStatement, noSegment}
+use Rattle.model.specs.Effect.{noTest}
 use Rattle.model.specs.Rules.{unless}
+use Rattle.reader.specs.Word.{byteAt}
 use Rattle.reader.specs.Closer.{closerFrom}
 use Rattle.reader.specs.Statement.{opFrom, opShapeFault, opBytesFault}
 use Rattle.reader.specs.Record.{segmentKind, lengthFits, statementCount, statementBytes, segmentFrom, segmentBytesFault}
@@ -56,3 +60,19 @@ unfoldable pub targetBound : Closer → ℕ
 targetBound End = 0
 targetBound (Time k x) = boundOf x
 targetBound (Event w x) = boundOf x
+
+-- whether a statement's bytes can name a port: as a, or as b where the operation names one
+unfoldable pub opNames : List ℕ → Bool
+opNames b = leb firstPort (byteAt b 1) || (leb 3 (byteAt b 0) && leb firstPort (byteAt b 2))
+
+abbrev pub nextNames : Next → Bool
+nextNames x = leb firstPort (x .test) && not (eqb (x .test) noTest)
+
+unfoldable pub testNames : Closer → Bool
+testNames End = false
+testNames (Time k x) = nextNames x
+testNames (Event w x) = nextNames x
+
+-- whether a record can name a port: without it none is named
+unfoldable pub recordNames : List ℕ → Bool
+recordNames r = anyBelow (countIn r) (λ j. opNames (statementBytes r j)) || testNames (closerIn r)

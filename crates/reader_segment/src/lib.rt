@@ -12,7 +12,7 @@ ghost use Rattle.reader.specs.Word.{wordAt, longAt};
 ghost use Rattle.reader.specs.Closer.{nextFrom, closerFrom, restIsZero, closerShapeFault, closerBytesFault};
 ghost use Rattle.reader.specs.Statement.{opBytesFault};
 ghost use Rattle.reader.specs.Record.{segmentKind, lengthFits, statementCount};
-ghost use Rattle.reader_segment.specs.Parts.{decodedFrom, statementsBytesFault, countIn, closerIn, boundOf, targetBound, segmentRecordFault, segmentIn};
+ghost use Rattle.reader_segment.specs.Parts.{decodedFrom, statementsBytesFault, countIn, closerIn, boundOf, targetBound, segmentRecordFault, segmentIn, opNames, testNames, recordNames};
 
 // A statement's 6, or 0, and its operation.
 struct Decoded(u8, Op);
@@ -281,4 +281,38 @@ pub fn target_bound(r: &[u8]) -> u32
         Closer::Time(_, x) => bound_of(x),
         Closer::Event(_, x) => bound_of(x),
     }
+}
+
+// Whether a statement's bytes can name a port: "128 to 135 may stand wherever a variable is named". Operations 1 and 2 take b as it stands.
+fn op_names(s: &[u8]) -> bool
+    requires { ⌜ 6 ≤ length (now s) ⌝ }
+    ensures { λ r. ⌜ r ≡ opNames (now (s .entry)) ⌝ }
+{
+    (128 <= s[1]) | ((3 <= s[0]) & (128 <= s[2]))
+}
+
+// Whether a closer can test a port; 255 is no test.
+fn test_names(closer: Closer) -> bool
+    ensures { λ r. ⌜ r ≡ testNames closer ⌝ }
+{
+    match closer {
+        Closer::End => false,
+        Closer::Time(_, x) | Closer::Event(_, x) => (128 <= x.test) & !(x.test == 255),
+    }
+}
+
+// Whether a record can name a port. Where it is false none of its statements and not its test does.
+pub fn record_names(r: &[u8]) -> bool
+    ensures { λ x. ⌜ x ≡ recordNames (now (r .entry)) ⌝ }
+{
+    let n = count_in(r);
+    let mut j = 0;
+    while j < n {
+        let at = 17 + 6 * j;
+        if op_names(&r[at..]) {
+            return true;
+        }
+        j += 1;
+    }
+    test_names(closer_in(r))
 }

@@ -6,14 +6,11 @@ use mathlib.Core.Bool.{Bool, true, false}
 use mathlib.Core.List.{List, _++_}
 use native.Mathlib.Nat.{mul-le-mul}
 use native.Mathlib.Omega.{arith}
-use lib.ListN.{length, take, drop, replicate, length-append}
+use lib.ListN.{length, take, drop, length-append}
 use lib.Seq.{take-at}
 use borrow.Author.Tests.{lt-ltb, le-ltb, eq-eqb, ne-eqb}
-use Rattle.base.specs.Index.{orElse}
 use Rattle.model.specs.declared.Model.{Model}
-use Rattle.model.specs.Values.{noModel}
-use Rattle.model.specs.Record.{noThread}
-use Rattle.model.specs.Rules.{modelFault, headFault}
+use Rattle.model.specs.Rules.{modelFault}
 use Rattle.reader.specs.declared.Read.{Read}
 use Rattle.reader.specs.File.{readFile}
 use Rattle.tables.specs.Conflict.{marksOf}
@@ -31,18 +28,6 @@ use Rattle.order.specs.Claim.{afterList}
 use Rattle.order.proofs.OrderIndependent.{claim-fresh}
 use Rattle.replay.specs.declared.Replayed.{Replayed}
 use Rattle.replay.specs.Replay.{refusedWith, doneOn, numberOn, replayedOn, wordsOn, answersOn, replayedOf, wordsAfter, answersAfter, Keeps}
-
--- a zero model has no horizon, so its fresh state is zero
-pub fresh-none : freshOf noModel ≡ record { number = 11; site = freshSite; threads = record { at = replicate 32 noThread } }
-unfolding freshOf modelFault headFault orElse
-fresh-none = refl
-
-pub refused-zero :
-    (n : ℕ) (r : Read) (f : FreshState) → r ≡ record { number = n; model = noModel } → f ≡ freshOf (r .model) →
-    record { number = n; granted = 0; v = 0; t = 0; site = f .site; threads = f .threads } ≡ refusedWith n
-refused-zero n r f p q =
-    let g : f ≡ freshOf noModel = q ∙ ap (λ (x : Read). freshOf (x .model)) p in
-    rw (g ∙ fresh-none) refl
 
 -- N × N words, N a byte
 pub square-small : (n : ℕ) → n < 256 → n * n < 65536

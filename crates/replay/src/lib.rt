@@ -21,18 +21,13 @@ pub struct Replayed {
 fn refused(number: u8) -> Replayed
     ensures { λ r. ⌜ r ≡ refusedWith number ⌝ }
 {
-    let read = reader_file::refused(number);
-    let m = read.model;
-    let fresh = early_request::fresh(m);
-    let site = fresh.site;
-    let threads = fresh.threads;
     Replayed {
         number,
         granted: 0,
         v: 0,
         t: 0,
-        site,
-        threads,
+        site: early_request::fresh_site(),
+        threads: model_effect::no_threads(),
     }
 }
 

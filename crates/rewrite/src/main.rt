@@ -13,7 +13,7 @@ fn answer(file: &[u8], out: &mut [u8]) -> usize
     writer_print::rewrite_text(file, out)
 }
 
-// One read of all, one write of all. No file that is accepted has more than 13,550 bytes.
+// One read of all, one write of all. No file that is accepted has more than 13,934 bytes.
 fn main() {
     let mut file = io::large_buffer();
     let n = io::read_full(STDIN_FILENO, &mut file);

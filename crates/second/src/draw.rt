@@ -1,13 +1,17 @@
 // Model files from a seed. Each choice is drawn from the seed and a number of its own, so that a file is a function of its seed alone.
+use crate::graph;
 use crate::number;
+use crate::simulator;
+use crate::simulator::NEVER;
 ghost use mathlib.Core.Path.{_≡_};
 ghost use Prim.Native.Nat.{_-_, _%_, _<_, _≤_};
 ghost use lib.Dec.{eqb};
 
 // Rows of eight, one of which is drawn. Ten rows for each family: horizon, V, E, N, T, the most statements of a segment,
 // and, of a hundred, how many statements notify, how many closers end, how many more wait on an event; last the row of delays.
-// Then three rows of delays, and two of numbers and limits.
-const TABLE: [u64; 280] = [
+// Then three rows of delays, and two of numbers and limits. Then, for a model with ports: of a hundred names of variables, how many are
+// ports, and how many ports there are.
+const TABLE: [u64; 296] = [
     // general
     1,
     2,
@@ -293,9 +297,27 @@ const TABLE: [u64; 280] = [
     8,
     20,
     4294967295,
+    // ports
+    3,
+    8,
+    15,
+    30,
+    50,
+    50,
+    80,
+    100,
+    1,
+    1,
+    2,
+    2,
+    3,
+    4,
+    6,
+    8,
 ];
 
-// What the parts of a model are drawn by. Statements write the first w variables.
+// What the parts of a model are drawn by. Statements write the first w variables. Of a hundred names of variables so many are ports, of
+// so many ports from one of the eight on.
 struct Shape {
     v: u64,
     w: u64,
@@ -307,6 +329,9 @@ struct Shape {
     ends: u64,
     events: u64,
     delays: u64,
+    named: u64,
+    ports: u64,
+    port: u64,
 }
 
 // A number from 0 to 2,147,483,646, one for each seed and place.
@@ -330,7 +355,7 @@ pub fn pick(seed: u64, place: u64, n: u64) -> u64
 
 // One number of a row.
 fn choice(seed: u64, row: u64) -> u64 {
-    TABLE[((row % 35) * 8 + mixed(seed, row) / 16 % 8) as usize]
+    TABLE[((row % 37) * 8 + mixed(seed, row) / 16 % 8) as usize]
 }
 
 // So many bytes of a number, lowest first, at a place of the file, as far as there is room; the place behind them.
@@ -357,16 +382,25 @@ fn statement(op: u64, a: u64, b: u64) -> u64 {
     op % 256 + a % 256 * 256 + b % 4294967296 * 65536
 }
 
+// One of the first n variables, or a port.
+fn drawn_name(seed: u64, place: u64, n: u64, shape: Shape) -> u64 {
+    if pick(seed, number::sum(place, 30), 100) < shape.named {
+        let p = number::sum(shape.port, pick(seed, number::sum(place, 40), shape.ports));
+        return 128 + p % 8;
+    }
+    pick(seed, place, n)
+}
+
 fn drawn_statement(seed: u64, shape: Shape) -> u64 {
     if pick(seed, 41, 100) < shape.notify {
         return statement(6, pick(seed, 42, shape.e), 0);
     }
     let op = number::sum(1, pick(seed, 43, 5));
-    let a = pick(seed, 44, shape.w);
+    let a = drawn_name(seed, 44, shape.w, shape);
     if op < 3 {
         return statement(op, a, choice(seed, 33));
     }
-    statement(op, a, pick(seed, 45, shape.v))
+    statement(op, a, drawn_name(seed, 45, shape.v, shape))
 }
 
 // The closer's kind, event and delay.
@@ -401,7 +435,7 @@ fn drawn_next(seed: u64, shape: Shape) -> u64 {
     next(
         a,
         pick(seed, 50, shape.n),
-        pick(seed, 51, shape.v),
+        drawn_name(seed, 51, shape.v, shape),
         choice(seed, 34),
     )
 }
@@ -463,26 +497,82 @@ fn first_of(seed: u64, k: u64, t: u64, n: u64) -> u64 {
     pick(seed, number::sum(k, 200), n)
 }
 
-// Threads, and the end.
-fn put_threads(file: &mut [u8; 16384], i: u64, seed: u64, t: u64, n: u64) -> u64
+// The variable of port p in a thread that starts at segment s: one of the first w if a way from there names it, and for some others too.
+fn drawn_port(g: &[u64; 24576], seed: u64, s: u64, p: u64, w: u64) -> u64 {
+    if graph::is_needed(g, s, p) || pick(seed, number::sum(p, 20), 6) == 0 {
+        return pick(seed, number::sum(p, 30), w) % 256;
+    }
+    simulator::UNUSED
+}
+
+// The ports of a thread that starts at segment s in one word. Without a need for any, every second thread has none.
+fn drawn_ports(g: &[u64; 24576], seed: u64, s: u64, shape: Shape) -> u64 {
+    if shape.named == 0 {
+        return NEVER;
+    }
+    if !graph::lacks(g, NEVER, s) && pick(seed, 40, 2) == 0 {
+        return NEVER;
+    }
+    let mut word: u64 = 0;
+    let mut p: u64 = 8;
+    while 0 < p {
+        p -= 1;
+        word = word % 72057594037927936 * 256 + drawn_port(g, seed, s, p, shape.w) % 256;
+    }
+    word
+}
+
+// A thread's record, and that of its ports if one is used.
+fn put_thread(file: &mut [u8; 16384], i: u64, first: u64, ports: u64) -> u64 {
+    let at = put(file, i, 5, 196613 + first % 256 * 4294967296);
+    if ports == NEVER {
+        return at;
+    }
+    let then = put(file, at, 4, 327692);
+    put(file, then, 8, ports)
+}
+
+// What each segment names, by the segments in a file, up to a place at which an end is put.
+fn names_in(file: &mut [u8; 16384], i: u64, g: &mut [u64; 24576], n: u64) {
+    put(file, i, 4, 262148);
+    let mut desk = [0u64; 640];
+    simulator::survey(file, &mut desk);
+    graph::fill_uses(file, &desk, g, n);
+}
+
+// Threads with their ports, and the end.
+fn put_threads(file: &mut [u8; 16384], i: u64, seed: u64, shape: Shape) -> u64
     ensures { λ r. ⌜ r ≤ 16384 ⌝ }
 {
+    let mut g = [0u64; 24576];
+    names_in(file, i, &mut g, shape.n);
     let mut at = i;
     let mut k: u64 = 0;
-    while k < t {
-        at = put(
-            file,
-            at,
-            5,
-            196613 + first_of(seed, k, t, n) % 256 * 4294967296,
-        );
+    while k < shape.t {
+        let first = first_of(seed, k, shape.t, shape.n);
+        let ports = drawn_ports(&g, mixed(seed, number::sum(k, 500)), first, shape);
+        at = put_thread(file, at, first, ports);
         k += 1;
     }
     put(file, at, 4, 262148)
 }
 
-fn shape_of(seed: u64, row: u64) -> Shape {
+// A third of the models have ports, of each family.
+fn has_ports(seed: u64) -> bool {
+    number::sum(seed, seed / 24) % 3 == 0
+}
+
+// How many variables: a model with ports has one or more.
+fn variables_of(seed: u64, row: u64) -> u64 {
     let v = choice(seed, number::sum(row, 1));
+    if v == 0 && has_ports(seed) {
+        return 1;
+    }
+    v
+}
+
+fn shape_of(seed: u64, row: u64) -> Shape {
+    let v = variables_of(seed, row);
     let e = choice(seed, number::sum(row, 2));
     let n = choice(seed, number::sum(row, 3));
     let t = choice(seed, number::sum(row, 4));
@@ -491,6 +581,9 @@ fn shape_of(seed: u64, row: u64) -> Shape {
     let ends = choice(seed, number::sum(row, 7));
     let events = choice(seed, number::sum(row, 8));
     let delays = choice(seed, number::sum(row, 9));
+    let named = if has_ports(seed) { choice(seed, 35) } else { 0 };
+    let ports = choice(seed, 36);
+    let port = pick(seed, 56, 8);
     Shape {
         v,
         w: v,
@@ -502,12 +595,19 @@ fn shape_of(seed: u64, row: u64) -> Shape {
         ends,
         events,
         delays,
+        named,
+        ports,
+        port,
     }
 }
 
-// Without events none is notified or waited on; without variables all statements notify, or there are none.
-fn fitted(shape: Shape) -> Shape {
+// Without events none is notified or waited on; without variables all statements notify, or there are none. In a run to delta 1,023 the
+// last variable is its counter's.
+fn fitted(shape: Shape, seed: u64) -> Shape {
     let mut s = shape;
+    if is_long(seed) {
+        s.w = number::less(s.v);
+    }
     if s.v == 0 {
         s.notify = 100;
     }
@@ -546,10 +646,8 @@ fn put_head(file: &mut [u8; 16384], h: u64, v: u64, e: u64) -> u64 {
 // All segments.
 fn put_body(file: &mut [u8; 16384], i: u64, seed: u64, shape: Shape) -> u64 {
     if is_long(seed) {
-        let mut s = shape;
-        s.w = number::less(s.v);
-        let at = put_counters(file, i, seed, s.w);
-        return put_segments(file, at, 2, seed, s);
+        let at = put_counters(file, i, seed, shape.w);
+        return put_segments(file, at, 2, seed, shape);
     }
     put_segments(file, i, 0, seed, shape)
 }
@@ -559,8 +657,8 @@ pub fn model_of(seed: u64, file: &mut [u8; 16384]) -> u64
     ensures { λ r. ⌜ r ≤ 16384 ⌝ }
 {
     let row = family(seed);
-    let s = fitted(shape_of(seed, row));
+    let s = fitted(shape_of(seed, row), seed);
     let a = put_head(file, choice(seed, row), s.v, s.e);
     let b = put_body(file, a, seed, s);
-    put_threads(file, b, seed, s.t, s.n)
+    put_threads(file, b, seed, s)
 }

@@ -144,12 +144,28 @@ fn forecast(g: &[u64; 24576], desk: &[u64; 640], bounds: &[u64; 64], event: u64)
     least
 }
 
-// Whether from an instant, in segment r, a segment that conflicts with s may run before `end`.
-fn may_clash(g: &[u64; 24576], instant: u64, r: u64, s: u64, end: u64) -> bool {
+// "a hazard goes by them or by a conflict through a port": segment s of a thread, and segment r of another.
+fn clashes(g: &[u64; 24576], ports: u64, s: u64, others: u64, r: u64) -> bool {
+    if graph::entry(g, graph::CONFLICTS, s, r) != 0 {
+        return true;
+    }
+    graph::meets(g, ports, s, others, r) || graph::meets(g, others, r, ports, s)
+}
+
+// Whether from an instant, in segment r, another thread may run a segment that conflicts with s before `end`.
+fn may_clash(
+    g: &[u64; 24576],
+    others: u64,
+    instant: u64,
+    r: u64,
+    ports: u64,
+    s: u64,
+    end: u64,
+) -> bool {
     let mut i: u64 = 0;
     while i < 64 {
-        if graph::entry(g, graph::CONFLICTS, s, i) != 0 {
-            if graph::plus(instant, graph::entry(g, graph::DISTANCES, r, i)) < end {
+        if graph::plus(instant, graph::entry(g, graph::DISTANCES, r, i)) < end {
+            if clashes(g, ports, s, others, i) {
                 return true;
             }
         }
@@ -174,7 +190,9 @@ fn threatens(
     let own = graph::instant(key_of(x));
     let end = if j < k { number::sum(own, 1) } else { own };
     let r = segment_of(at(desk, simulator::RECORDS, j));
-    may_clash(g, y, r, segment_of(x), end)
+    let others = at(desk, simulator::PORTS, j);
+    let ports = at(desk, simulator::PORTS, k);
+    may_clash(g, others, y, r, ports, segment_of(x), end)
 }
 
 // "another live thread could run, at a smaller stamp by earliest plus distance, a segment that conflicts"
@@ -320,7 +338,7 @@ fn refusal(g: &[u64; 24576], desk: &[u64; 640], k: u64, x: u64) -> u64
 fn grant(file: &[u8], g: &[u64; 24576], desk: &mut [u64; 640], k: u64, x: u64) -> u64 {
     let s = segment_of(x);
     note(file, s, key_of(x), desk);
-    let r = simulator::run(file, s, key_of(x), desk);
+    let r = simulator::run(file, s, at(desk, simulator::PORTS, k), key_of(x), desk);
     put(desk, simulator::RECORDS, k, r);
     let overruns = settle(g, desk, k);
     let f = floor(desk);

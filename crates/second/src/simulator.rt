@@ -51,6 +51,11 @@ pub const RECORDS: u64 = 224;
 
 const AGENDA: u64 = 256;
 
+// The eight ports of each thread in one word, port 0 lowest; all ones where none is used.
+pub(crate) const PORTS: u64 = 288;
+
+pub(crate) const UNUSED: u64 = 255;
+
 // A thread record in one word.
 pub(crate) fn record(kind: u64, segment: u64, event: u64, key: u64) -> u64 {
     kind % 4 + segment % 256 * 4 + event % 256 * 1024 + key % 4398046511104 * 262144
@@ -99,6 +104,35 @@ pub fn field(file: &[u8], i: u64, far: u64, size: u64) -> u64
     x
 }
 
+// "Variable numbers 128 to 135 may stand wherever a variable is named, and mean ports 0 to 7."
+pub(crate) fn is_port(x: u64) -> bool {
+    x / 8 == 16
+}
+
+// The variable of a port, by the eight in one word.
+pub(crate) fn port(ports: u64, p: u64) -> u64
+    ensures { λ r. ⌜ r < 256 ⌝ }
+{
+    match p % 8 {
+        0 => ports % 256,
+        1 => ports / 256 % 256,
+        2 => ports / 65536 % 256,
+        3 => ports / 16777216 % 256,
+        4 => ports / 4294967296 % 256,
+        5 => ports / 1099511627776 % 256,
+        6 => ports / 281474976710656 % 256,
+        _ => ports / 72057594037927936,
+    }
+}
+
+// The variable that a number names.
+fn named(ports: u64, x: u64) -> u64 {
+    if is_port(x) {
+        return port(ports, x);
+    }
+    x
+}
+
 // What a variable is given: b, x the variable's own value, y that of variable b. "Sums and differences are taken modulo 4,294,967,296."
 fn value(op: u64, b: u64, x: u64, y: u64) -> u64 {
     match op {
@@ -110,8 +144,8 @@ fn value(op: u64, b: u64, x: u64, y: u64) -> u64 {
     }
 }
 
-// The statement at a place of the file.
-fn execute(file: &[u8], i: u64, now: u64, desk: &mut [u64; 640]) {
+// The statement at a place of the file, of a thread with these ports.
+fn execute(file: &[u8], i: u64, ports: u64, now: u64, desk: &mut [u64; 640]) {
     let op = byte(file, i, 0);
     let a = byte(file, i, 1);
     if op == 6 {
@@ -119,16 +153,17 @@ fn execute(file: &[u8], i: u64, now: u64, desk: &mut [u64; 640]) {
         return;
     }
     let b = field(file, i, 2, 4);
-    let x = at(desk, VARIABLES, a);
-    let y = at(desk, VARIABLES, b);
-    put(desk, VARIABLES, a, value(op, b, x, y));
+    let to = named(ports, a);
+    let x = at(desk, VARIABLES, to);
+    let y = at(desk, VARIABLES, named(ports, b));
+    put(desk, VARIABLES, to, value(op, b, x, y));
 }
 
 // "The next segment is A if the variable is below the limit after the statements, else B." The closer stands at a place of the file.
-fn chosen(file: &[u8], closer: u64, desk: &[u64; 640]) -> u64 {
+fn chosen(file: &[u8], closer: u64, ports: u64, desk: &[u64; 640]) -> u64 {
     let test = byte(file, closer, 8);
     if test < 255 {
-        if field(file, closer, 9, 4) <= at(desk, VARIABLES, test) {
+        if field(file, closer, 9, 4) <= at(desk, VARIABLES, named(ports, test)) {
             return byte(file, closer, 7);
         }
     }
@@ -233,7 +268,25 @@ fn wake(desk: &mut [u64; 640], now: u64) -> u64 {
     at(desk, AGENDA, 0)
 }
 
-// The places of segments and threads, their counts, and the horizon.
+// The ports of the last thread, by the record at a place of the file.
+fn survey_ports(file: &[u8], i: u64, desk: &mut [u64; 640]) {
+    let k = number::less(at(desk, THREADS, 0));
+    let low = field(file, i, 4, 4) % 4294967296;
+    let high = field(file, i, 8, 4) % 4294967296;
+    put(desk, PORTS, k, low + high * 4294967296);
+}
+
+// A segment or a thread at a place of the file; "Without it all eight are unused."
+fn survey_part(kind: u64, i: u64, desk: &mut [u64; 640]) {
+    let n = at(desk, COUNTS, kind);
+    put(desk, 64 * (kind % 256), n, number::sum(i, 4));
+    put(desk, COUNTS, kind, number::sum(n, 1));
+    if kind == 3 {
+        put(desk, PORTS, n, NEVER);
+    }
+}
+
+// The places of segments and threads, their counts, the threads' ports, and the horizon.
 pub(crate) fn survey(file: &[u8], desk: &mut [u64; 640]) {
     put(
         desk,
@@ -242,18 +295,25 @@ pub(crate) fn survey(file: &[u8], desk: &mut [u64; 640]) {
         field(file, 0, 4, 4) % 4294967296 * 1024 + 1023,
     );
     let mut i: u64 = 10;
-    let mut left: u64 = 97;
+    let mut left: u64 = 129;
     while 0 < left {
         let kind = byte(file, i, 2);
         if kind == 4 {
             return;
         }
-        let n = at(desk, COUNTS, kind);
-        put(desk, 64 * kind, n, number::sum(i, 4));
-        put(desk, COUNTS, kind, number::sum(n, 1));
+        if kind == 5 {
+            survey_ports(file, i, desk);
+        } else {
+            survey_part(kind, i, desk);
+        }
         i = number::sum(i, field(file, i, 0, 2));
         left -= 1;
     }
+}
+
+// The first segment of thread k.
+pub(crate) fn first_of(file: &[u8], desk: &[u64; 640], k: u64) -> u64 {
+    byte(file, at(desk, STARTS, k), 0)
 }
 
 // "All threads start ready at (0, 0)."
@@ -261,8 +321,12 @@ pub(crate) fn start(file: &[u8], desk: &mut [u64; 640]) {
     let t = at(desk, THREADS, 0);
     let mut k: u64 = 0;
     while k < t {
-        let first = byte(file, at(desk, STARTS, k), 0);
-        put(desk, RECORDS, k, record(READY, first, 0, 0));
+        put(
+            desk,
+            RECORDS,
+            k,
+            record(READY, first_of(file, desk, k), 0, 0),
+        );
         k += 1;
     }
 }
@@ -273,24 +337,24 @@ pub(crate) fn statements(file: &[u8], closer: u64) -> u64 {
     number::less(number::less(size / 6))
 }
 
-// Segment s whole; the record after it.
-pub(crate) fn run(file: &[u8], s: u64, now: u64, desk: &mut [u64; 640]) -> u64 {
+// Segment s whole, of a thread with these ports; the record after it.
+pub(crate) fn run(file: &[u8], s: u64, ports: u64, now: u64, desk: &mut [u64; 640]) -> u64 {
     let closer = at(desk, CLOSERS, s);
     let mut i = number::sum(closer, 13);
     let mut left = statements(file, closer);
     while 0 < left {
-        execute(file, i, now, desk);
+        execute(file, i, ports, now, desk);
         i = number::sum(i, 6);
         left -= 1;
     }
-    closed(file, closer, s, chosen(file, closer, desk), now)
+    closed(file, closer, s, chosen(file, closer, ports, desk), now)
 }
 
 // The soonest activation: its thread runs its segment whole, and is put on the agenda again.
 fn step(file: &[u8], desk: &mut [u64; 640], now: u64) {
     let k = at(desk, AGENDA, 0) % 32;
     let s = segment_of(at(desk, RECORDS, k));
-    let r = run(file, s, now, desk);
+    let r = run(file, s, at(desk, PORTS, k), now, desk);
     put(desk, RECORDS, k, r);
     replace_first(desk, activation(r, k));
 }

@@ -1,5 +1,6 @@
 // Where a list of requests starts, by seed and list: lists 0 to 2 fresh, the others at a drawn state.
 use crate::draw;
+use crate::graph;
 use crate::log;
 use crate::number;
 use crate::number::at;
@@ -45,7 +46,16 @@ fn drawn_kind(seed: u64, e: u64) -> u64 {
     }
 }
 
-fn drawn_record(seed: u64, n: u64, e: u64) -> u64 {
+// Any segment; the thread's first where a way from it names a port that the thread leaves unused.
+fn drawn_segment(g: &[u64; 24576], seed: u64, n: u64, ports: u64, first: u64) -> u64 {
+    let s = draw::pick(seed, 65, n);
+    if graph::lacks(g, ports, s) {
+        return first;
+    }
+    s
+}
+
+fn drawn_record(seed: u64, s: u64, e: u64) -> u64 {
     let kind = drawn_kind(seed, e);
     let event = if kind == simulator::WAITING {
         draw::pick(seed, 64, e)
@@ -53,16 +63,20 @@ fn drawn_record(seed: u64, n: u64, e: u64) -> u64 {
         0
     };
     let key = drawn_time(seed) % 4294967296 * 1024 + drawn_delta(seed) % 1024;
-    simulator::record(kind, draw::pick(seed, 65, n), event, key)
+    simulator::record(kind, s, event, key)
 }
 
-fn draw_records(desk: &mut [u64; 640], seed: u64, e: u64) {
+fn draw_records(file: &[u8], desk: &mut [u64; 640], seed: u64, e: u64) {
     let n = at(desk, simulator::SEGMENTS, 0);
     let t = at(desk, simulator::THREADS, 0);
+    let mut g = [0u64; 24576];
+    graph::fill_uses(file, desk, &mut g, n);
     let mut k: u64 = 0;
     while k < t {
         let x = draw::mixed(seed, number::sum(k, 300));
-        put(desk, simulator::RECORDS, k, drawn_record(x, n, e));
+        let first = simulator::first_of(file, desk, k);
+        let s = drawn_segment(&g, x, n, at(desk, simulator::PORTS, k), first);
+        put(desk, simulator::RECORDS, k, drawn_record(x, s, e));
         k += 1;
     }
 }
@@ -96,9 +110,9 @@ fn logged(seed: u64, list: u64) -> u64 {
 }
 
 // A drawn state: variables 0, any records, and a log.
-fn draw_state(desk: &mut [u64; 640], seed: u64, list: u64, e: u64) {
+fn draw_state(file: &[u8], desk: &mut [u64; 640], seed: u64, list: u64, e: u64) {
     let x = draw::mixed(seed, list);
-    draw_records(desk, x, e);
+    draw_records(file, desk, x, e);
     let count = if e == 0 { 0 } else { logged(x, list) };
     draw_log(desk, x, e, count);
 }
@@ -112,7 +126,7 @@ pub fn set_up(file: &[u8], seed: u64, list: u64, desk: &mut [u64; 640]) -> u64
     if list < 3 {
         simulator::start(file, desk);
     } else {
-        draw_state(desk, seed, list, simulator::byte(file, 9, 0));
+        draw_state(file, desk, seed, list, simulator::byte(file, 9, 0));
     }
     at(desk, simulator::THREADS, 0)
 }

@@ -14,9 +14,11 @@ use Rattle.model.specs.declared.Closer.{Closer}
 use Rattle.model.specs.declared.Closer.the-variants.{End, Time, Event}
 use Rattle.model.specs.declared.Segment.{Segment}
 use Rattle.model.specs.declared.Model.{Model}
+use Rattle.model.specs.Port.{noPorts}
+use Rattle.model.specs.Reach.{goesTo}
 use Rattle.model.specs.Values.{noStatement, noModel, withHead, withSegment, withStart}
 use Rattle.tables.specs.Conflict.{conflict, mark, marksOf, noMarks, markAt}
-use Rattle.tables.specs.Distance.{goesTo, stepOf, edge, cut, distanceOf}
+use Rattle.tables.specs.Distance.{stepOf, edge, cut, distanceOf}
 use Rattle.tables.specs.Word.{allOnes, wordOf, boundOf, wordsOf, stored, distanceIn}
 use Rattle.tables.specs.Outcome.{conflictNumber, conflictMarks, distancesNumber, distancesBuffer}
 use Rattle.tables.proofs.Computed.{computed}
@@ -284,7 +286,7 @@ distanceIn-places = (refl, refl)
 
 -- a model that keeps the file rules: one segment that ends, one thread
 unfoldable pub kept : ℕ → Model
-kept h = withStart (withSegments (withHead noModel h 0 0) (closing End ∷ [])) (record { first = 0 })
+kept h = withStart (withSegments (withHead noModel h 0 0) (closing End ∷ [])) (record { first = 0; ports = noPorts })
 
 -- "the tables refuse a held model with 11 if the file rules would refuse it": H = 0, no horizon
 pub conflictNumber-edges : (conflictNumber (kept 0) ≡ 11) × (conflictNumber (kept 1) ≡ 0)
@@ -293,7 +295,7 @@ conflictNumber-edges = (refl, refl)
 
 -- the marks of one segment that writes: set, or all unset where the number is not 0
 unfoldable pub writer : ℕ → Model
-writer h = withStart (withSegments (withHead noModel h 1 0) (doing (Set 0 0) End ∷ [])) (record { first = 0 })
+writer h = withStart (withSegments (withHead noModel h 1 0) (doing (Set 0 0) End ∷ [])) (record { first = 0; ports = noPorts })
 
 pub conflictMarks-edges : (markAt (conflictMarks (writer 1)) 0 0 ≡ true) × (markAt (conflictMarks (writer 0)) 0 0 ≡ false) × (length (conflictMarks (writer 0)) ≡ 64)
 unfolding writer withSegments computed
@@ -310,7 +312,7 @@ distancesNumber-edges = (refl, refl, refl, refl)
 
 -- "the table buffer is not written" on a refusal
 unfoldable pub two : ℕ → Model
-two h = withStart (withSegments (withHead noModel h 0 0) (closing (units 7 (onward 1)) ∷ closing End ∷ [])) (record { first = 0 })
+two h = withStart (withSegments (withHead noModel h 0 0) (closing (units 7 (onward 1)) ∷ closing End ∷ [])) (record { first = 0; ports = noPorts })
 
 pub distancesBuffer-edges :
     (distancesBuffer (two 1) (5 ∷ 6 ∷ 7 ∷ []) ≡ 5 ∷ 6 ∷ 7 ∷ []) ×

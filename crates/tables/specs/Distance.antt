@@ -2,7 +2,7 @@
 -- First what it is, by paths; then the form that computes it, which is proved to be that.
 use Prim.Native.Nat.{ℕ, zero, suc, _<_}
 use mathlib.Core.Path.{_≡_}
-use mathlib.Core.Bool.{Bool, true, false, cond, _||_}
+use mathlib.Core.Bool.{Bool, true, false, cond}
 use mathlib.Core.List.{List, []}
 use lib.Dec.{ltb, eqb}
 use lib.ListN.{getD}
@@ -12,16 +12,12 @@ use Rattle.clock.specs.declared.Bound.{Bound}
 use Rattle.clock.specs.declared.Bound.the-variants.{Never, At}
 use Rattle.clock.specs.Advance.{least, _⊕_, noAdvance, advanceOf}
 use Rattle.clock.specs.Order.{_≼_}
-use Rattle.model.specs.declared.Next.{Next}
 use Rattle.model.specs.declared.Closer.{Closer}
 use Rattle.model.specs.declared.Closer.the-variants.{End, Time, Event}
 use Rattle.model.specs.declared.Model.{Model}
 use Rattle.model.specs.Limits.{cutTime}
 use Rattle.model.specs.Values.{segmentAt}
-
--- both next segments are steps of the graph, whatever the limit
-unfoldable pub goesTo : Next → ℕ → Bool
-goesTo x s = eqb (x .a) s || eqb (x .b) s
+use Rattle.model.specs.Reach.{goesTo}
 
 -- the advance of the step from a segment with this closer to s; never, where there is no such step
 unfoldable pub stepOf : Closer → ℕ → Bound

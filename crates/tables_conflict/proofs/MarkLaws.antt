@@ -1,7 +1,7 @@
 -- The marks that the code makes are those of `marksOf`, for a model that keeps the file rules.
 use Prim.Native.Nat.{ℕ, _≤_, _<_}
 use mathlib.Core.Path.{_≡_, refl, ap, sym, _∙_}
-use mathlib.Core.Logic.{inr}
+use mathlib.Core.Logic.{inl, inr}
 use mathlib.Core.Bool.{Bool, false, _&&_, _||_}
 use mathlib.Core.List.{List, []}
 use native.Mathlib.Omega.{arith}
@@ -18,7 +18,7 @@ use Rattle.model.specs.declared.Model.{Model}
 use Rattle.model.specs.Values.{segmentAt}
 use Rattle.model.specs.Footprint.{writesOf, usesOf}
 use Rattle.model.specs.Rules.{modelFault}
-use Rattle.model_rules.proofs.RuleLaws.{modelFault-counts, modelFault-segment, segmentFault-uses}
+use Rattle.model_rules.proofs.RuleLaws.{Name, modelFault-counts, modelFault-segment, segmentFault-uses}
 use Rattle.tables.specs.Conflict.{conflict, mark, marksOf, noMarks}
 use Rattle.tables.specs.Outcome.{ifHeld, conflictNumber, conflictMarks}
 use Rattle.tables.proofs.OutcomeLaws.{ifHeld-yes, ifHeld-no, conflict-unfit, conflict-held}
@@ -38,19 +38,23 @@ module _ (m : Model) (fit : modelFault m ≡ 0) (placed : Placed m (m .n)) where
     shared : ℕ → Bool
     shared v = (usesOf (segmentAt m r) v && usesOf (segmentAt m s) v) && (writesOf (segmentAt m r) v || writesOf (segmentAt m s) v)
 
-    -- no bit from V on
+    -- no bit from V on; a port has none
     below : anyBelow 64 shared ≡ anyBelow (m .v) shared
     unfolding shared
     below =
         T-same (anyBelow 64 shared) (anyBelow (m .v) shared)
-        (λ t. let (v, l, u) = anyBelow-some 64 shared t in anyBelow-found (m .v) shared v (used v u) u)
+        (λ t. let (v, l, u) = anyBelow-some 64 shared t in anyBelow-found (m .v) shared v (used v l u) u)
         (λ t. let (v, l, u) = anyBelow-some (m .v) shared t in anyBelow-found 64 shared v (let h = modelFault-counts m fit .variables in omega arith) u)
       where
-        used : (v : ℕ) → T (shared v) → v < m .v
-        used v u =
+        variable : (v : ℕ) → v < 64 → Name (m .v) v → v < m .v
+        variable v l (inl h) = h
+        variable v l (inr (a, b)) = absurd (omega arith)
+
+        used : (v : ℕ) → v < 64 → T (shared v) → v < m .v
+        used v l u =
             let (a, b) = and→both (usesOf (segmentAt m r) v && usesOf (segmentAt m s) v) (writesOf (segmentAt m r) v || writesOf (segmentAt m s) v) u in
             let (x, y) = and→both (usesOf (segmentAt m r) v) (usesOf (segmentAt m s) v) a in
-            segmentFault-uses (m .v) (m .e) (segmentAt m r) (modelFault-segment m fit r rn) v x
+            variable v l (segmentFault-uses (m .v) (m .e) (segmentAt m r) (modelFault-segment m fit r rn) v x)
 
     clash-conflict : clash (masksOf (segmentAt m r)) (masksOf (segmentAt m s)) ≡ mark m r s
     unfolding mark conflict shared

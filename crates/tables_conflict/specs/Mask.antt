@@ -20,7 +20,7 @@ use Rattle.tables.specs.Conflict.{noMarks}
 abbrev pub masks : ℕ → ℕ → Masks
 masks w u = record { writes = w; uses = u }
 
--- variable x, if it is below 64; 255 is none
+-- variable x, if it is below 64; a port is none by itself, and 255 is none
 unfoldable pub bitOf : ℕ → ℕ
 bitOf x = cond (ltb x 64) (2 ^ x) 0
 

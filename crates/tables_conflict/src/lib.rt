@@ -17,7 +17,7 @@ struct Masks {
     uses: u64,
 }
 
-// Variable x as a bit; none for 255.
+// Variable x as a bit; none for a port, which names no variable by itself, and none for 255.
 fn bit(x: u32) -> u64
     ensures { λ r. ⌜ r ≡ bitOf x ⌝ }
 {

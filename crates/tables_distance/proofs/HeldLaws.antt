@@ -25,7 +25,8 @@ use Rattle.clock.proofs.WaitLaws.{waitEnds-advance}
 use Rattle.model.specs.declared.Closer.{Closer}
 use Rattle.model.specs.declared.Closer.the-variants.{End, Time, Event}
 use Rattle.model.specs.Limits.{cutTime}
-use Rattle.tables.specs.Distance.{goesTo, stepOf, cut}
+use Rattle.model.specs.Reach.{goesTo}
+use Rattle.tables.specs.Distance.{stepOf, cut}
 use Rattle.tables.specs.Word.{allOnes, wordOf}
 use Rattle.tables_distance.specs.Store.{far, heldWord, sumWord, stepsOf, directWord, cutWord}
 use Rattle.tables_distance.proofs.StoreLaws.{sumWord-far, sumWord-none, sumWord-more}

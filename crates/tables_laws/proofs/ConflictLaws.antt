@@ -20,7 +20,7 @@ use Rattle.model.specs.declared.Model.{Model}
 use Rattle.model.specs.Values.{segmentAt}
 use Rattle.model.specs.Footprint.{writesOf, usesOf}
 use Rattle.model.specs.Rules.{modelFault}
-use Rattle.model_rules.proofs.RuleLaws.{modelFault-counts, segmentFault-uses, modelFault-segment}
+use Rattle.model_rules.proofs.RuleLaws.{modelFault-counts}
 use Rattle.model_effect.proofs.FrameLaws.{writesOf→usesOf}
 use Rattle.tables.specs.Conflict.{conflict, mark, marksOf, noMarks, markAt}
 
@@ -111,19 +111,16 @@ module _ (m : Model) (fit : modelFault m ≡ 0) (r s : ℕ) (rn : r < m .n) (sn 
   few : {i : ℕ} → i < m .n → i < 64
   few h = omega (arith, modelFault-counts m fit .segments)
 
-  pub shared→marked : (v : ℕ) → Shared m r s v → T (markAt (marksOf m) r s)
-  shared→marked v x = rw (markAt-marksOf m r s (few rn) (few sn)) (→mark m r s rn sn (shared→conflict m r s v (below x) x))
-    where
-      below : Shared m r s v → v < m .v
-      below (inl (w, u)) = segmentFault-uses (m .v) (m .e) (segmentAt m s) (modelFault-segment m fit s sn) v u
-      below (inr (u, w)) = segmentFault-uses (m .v) (m .e) (segmentAt m r) (modelFault-segment m fit r rn) v u
+  -- a variable that both name directly
+  pub shared→marked : (v : ℕ) → v < m .v → Shared m r s v → T (markAt (marksOf m) r s)
+  shared→marked v h x = rw (markAt-marksOf m r s (few rn) (few sn)) (→mark m r s rn sn (shared→conflict m r s v h x))
 
-  pub unmarked→apart : markAt (marksOf m) r s ≡ false → (v : ℕ) → Shared m r s v → ⊥
-  unmarked→apart e v x = T-not (markAt (marksOf m) r s) (false→T (markAt (marksOf m) r s) e) (shared→marked v x)
+  pub unmarked→apart : markAt (marksOf m) r s ≡ false → (v : ℕ) → v < m .v → Shared m r s v → ⊥
+  unmarked→apart e v h x = T-not (markAt (marksOf m) r s) (false→T (markAt (marksOf m) r s) e) (shared→marked v h x)
 
 -- "A segment that writes conflicts with itself."
-pub mark-self : (m : Model) → modelFault m ≡ 0 → (r v : ℕ) → r < m .n → T (writesOf (segmentAt m r) v) → T (markAt (marksOf m) r r)
-mark-self m fit r v h w = shared→marked m fit r r h h v (inl (w, writesOf→usesOf (segmentAt m r) v w))
+pub mark-self : (m : Model) → modelFault m ≡ 0 → (r v : ℕ) → r < m .n → v < m .v → T (writesOf (segmentAt m r) v) → T (markAt (marksOf m) r r)
+mark-self m fit r v h l w = shared→marked m fit r r h h v l (inl (w, writesOf→usesOf (segmentAt m r) v w))
 
 pub markAt-noMarks : (r s : ℕ) → r < 64 → s < 64 → markAt noMarks r s ≡ false
 unfolding markAt

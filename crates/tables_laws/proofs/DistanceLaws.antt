@@ -3,13 +3,11 @@
 --     distanceOf-self     "0 to itself"
 --     distanceOf-step, distanceOf-after, distanceOf-triangle     at most a way with a step in front, a step behind, or a place between
 --     distanceOf-time, distanceOf-delta     below the cut, and fewer deltas than segments
-use Prim.Native.Nat.{ℕ, zero, suc, _<_}
+use Prim.Native.Nat.{ℕ, _<_}
 use mathlib.Core.Path.{_≡_, refl, ap, sym, _∙_}
-use mathlib.Core.Logic.{_⊎_, inl, inr}
-use mathlib.Core.List.{List}
 use native.Mathlib.Omega.{arith}
-use lib.Dec.{T, ltb, eqb, eqb-refl, lt→ltb, ltb→lt}
-use Rattle.base.proofs.BoolLaws.{T→true, cond-case, either→or}
+use lib.Dec.{T, ltb, lt→ltb, ltb→lt}
+use Rattle.base.proofs.BoolLaws.{T→true, cond-case}
 use Rattle.clock.specs.declared.Cycle.{Cycle}
 use Rattle.clock.specs.declared.Delay.{Delay}
 use Rattle.clock.specs.declared.Bound.{Bound}
@@ -27,9 +25,8 @@ use Rattle.model.specs.declared.Closer.the-variants.{End, Time, Event}
 use Rattle.model.specs.declared.Model.{Model}
 use Rattle.model.specs.Limits.{cutTime}
 use Rattle.model.specs.Values.{segmentAt}
-use Rattle.model.specs.Effect.{nextOf}
-use Rattle.model_effect.proofs.EffectLaws.{nextOf-either}
-use Rattle.tables.specs.Distance.{stepOf, goesTo, edge, IsLeast, cut, IsDistance, cell, distanceTable, distanceOf}
+use Rattle.model.specs.Reach.{goesTo}
+use Rattle.tables.specs.Distance.{stepOf, edge, IsLeast, cut, IsDistance, cell, distanceTable, distanceOf}
 use Rattle.tables_laws.proofs.PathLaws.{rounds-leastVia, rounds-least, IsLeast-unique, IsLeast-triangle, IsLeast-step, IsLeast-after, IsLeast-self}
 use Rattle.tables_laws.proofs.DeltaLaws.{IsStep, time-step, delta-step, StepsOnly, leastVia-delta-last}
 
@@ -152,22 +149,7 @@ module _ (m : Model) where
 pub IsDistance-unique : {m : Model} {r s : ℕ} {a b : Bound} → IsDistance m r s a → IsDistance m r s b → a ≡ b
 IsDistance-unique p q = p .is-cut ∙ (ap cut (IsLeast-unique (p .is-least) (q .is-least)) ∙ sym (q .is-cut))
 
--- the advance of a step, opened; the next segment is always a step
-
-pub goesTo-first : (x : Next) → T (goesTo x (x .a))
-unfolding goesTo
-goesTo-first x = either→or (eqb (x .a) (x .a)) (eqb (x .b) (x .a)) (inl (eqb-refl (x .a)))
-
-pub goesTo-second : (x : Next) → T (goesTo x (x .b))
-unfolding goesTo
-goesTo-second x = either→or (eqb (x .a) (x .b)) (eqb (x .b) (x .b)) (inr (eqb-refl (x .b)))
-
-pub goesTo-next : (x : Next) (v : List ℕ) → T (goesTo x (nextOf x v))
-goesTo-next x v = go (nextOf-either x v)
-  where
-    go : (nextOf x v ≡ x .a) ⊎ (nextOf x v ≡ x .b) → T (goesTo x (nextOf x v))
-    go (inl e) = rw e (goesTo-first x)
-    go (inr e) = rw e (goesTo-second x)
+-- the advance of a step, opened
 
 pub edge-time : (m : Model) (r s : ℕ) (k : Delay) (x : Next) → segmentAt m r .closer ≡ Time k x → T (goesTo x s) → edge m r s ≡ advanceOf (wait.Time k)
 unfolding edge stepOf

@@ -1,11 +1,12 @@
 // The reader on stored model files, each a part: the number, and of an accepted one the whole model. H, V, E, N and T, the segments
-// with their statements, the threads' first segments. Then the writer: a file that is not written again byte by byte is told.
+// with their statements, the threads' first segments with their ports. Then the writer: a file that is not written again byte by byte is told.
 use libc::STDOUT_FILENO;
 use model::Closer;
 use model::Model;
 use model::Next;
 use model::Op;
 use model::Segment;
+use model::Start;
 ghost use Rattle.io.specs.Counts.{Counts};
 ghost use Rattle.buffers.specs.Write.{Writes};
 ghost use Rattle.writer_print.specs.Again.{again};
@@ -75,11 +76,21 @@ fn write_segments(m: Model) {
     }
 }
 
+// The eight ports of a thread.
+fn write_ports(x: Start) {
+    let mut p = 0;
+    while p < 8 {
+        write_number(units(x.ports[p]));
+        p += 1;
+    }
+}
+
 fn write_starts(m: Model) {
     let mut k = 0;
     while k < 32 && k < m.t as usize {
         let x = m.starts[k];
         write_number(units(x.first));
+        write_ports(x);
         k += 1;
     }
 }

@@ -8,10 +8,14 @@ use Rattle.model.specs.declared.Statement.{Statement}
 use Rattle.model.specs.declared.Closer.{Closer}
 use Rattle.model.specs.declared.Closer.the-variants.{End, Time, Event}
 use Rattle.model.specs.declared.Segment.{Segment}
+use Rattle.model.specs.declared.Start.{Start}
 use Rattle.model.specs.declared.Model.{Model}
+use Rattle.model.specs.Port.{noPorts}
 use Rattle.model.specs.Values.{noStatement, noSegment, noStart, noModel}
+use Rattle.model.specs.Rules.{modelFault}
+use Rattle.reader.specs.File.{readFile}
 use Rattle.writer.specs.Bytes.{bytesOf, joined, closerBytes, opBytes}
-use Rattle.writer.specs.File.{recordBytes, segmentBytes, fileOf, trimmedSegment, trimmed}
+use Rattle.writer.specs.File.{recordBytes, segmentBytes, portsBytes, startBytes, fileOf, trimmedSegment, trimmedStart, trimmed}
 use Rattle.writer.proofs.Computed.{computed}
 
 -- "Little-endian."
@@ -80,6 +84,44 @@ pub segment-past :
 unfolding computed
 segment-past = (refl, refl)
 
+-- eight ports of which the first and the last are as given
+abbrev portsOf : ℕ → ℕ → List ℕ
+portsOf a b = a ∷ (replicate 6 255 ++ (b ∷ []))
+
+abbrev startOf : List ℕ → Start
+startOf ps = record { first = 2; ports = ps }
+
+-- "a record of kind 5 (length 12)": eight bytes, in the order of the ports
+pub ports-bytes :
+    portsBytes (0 ∷ 1 ∷ 2 ∷ 3 ∷ 4 ∷ 5 ∷ 6 ∷ 63 ∷ []) ≡ 12 ∷ 0 ∷ 5 ∷ 0 ∷ 0 ∷ 1 ∷ 2 ∷ 3 ∷ 4 ∷ 5 ∷ 6 ∷ 63 ∷ []
+unfolding computed
+ports-bytes = refl
+
+-- the first alone, the last alone, a number that is no variable; "writes no record where all eight are unused"
+pub ports-used :
+    (portsBytes (portsOf 0 255) ≡ 12 ∷ 0 ∷ 5 ∷ 0 ∷ 0 ∷ 255 ∷ 255 ∷ 255 ∷ 255 ∷ 255 ∷ 255 ∷ 255 ∷ []) ×
+    (portsBytes (portsOf 255 0) ≡ 12 ∷ 0 ∷ 5 ∷ 0 ∷ 255 ∷ 255 ∷ 255 ∷ 255 ∷ 255 ∷ 255 ∷ 255 ∷ 0 ∷ []) ×
+    (portsBytes (portsOf 255 254) ≡ 12 ∷ 0 ∷ 5 ∷ 0 ∷ 255 ∷ 255 ∷ 255 ∷ 255 ∷ 255 ∷ 255 ∷ 255 ∷ 254 ∷ []) ×
+    (portsBytes (portsOf 255 255) ≡ []) ×
+    (portsBytes noPorts ≡ [])
+unfolding computed
+ports-used = (refl, refl, refl, refl, refl)
+
+-- after the thread's record
+pub start-bytes :
+    (startBytes (startOf (portsOf 9 255)) ≡ (5 ∷ 0 ∷ 3 ∷ 0 ∷ 2 ∷ []) ++ (12 ∷ 0 ∷ 5 ∷ 0 ∷ 9 ∷ 255 ∷ 255 ∷ 255 ∷ 255 ∷ 255 ∷ 255 ∷ 255 ∷ [])) ×
+    (startBytes (startOf noPorts) ≡ 5 ∷ 0 ∷ 3 ∷ 0 ∷ 2 ∷ [])
+unfolding computed
+start-bytes = (refl, refl)
+
+-- eight ports stay, a ninth goes
+pub start-trimmed :
+    (trimmedStart (startOf (portsOf 9 7)) ≡ startOf (portsOf 9 7)) ×
+    (trimmedStart (startOf noPorts) ≡ startOf noPorts) ×
+    (trimmedStart (startOf (portsOf 9 7 ++ (1 ∷ []))) ≡ startOf (portsOf 9 7))
+unfolding computed
+start-trimmed = (refl, refl, refl)
+
 -- H = 10, V = 0, E = 0, one segment that ends, one thread at 0; in the second places what is given
 abbrev small : Segment → ℕ → Model
 small g s =
@@ -90,7 +132,7 @@ small g s =
       n = 1;
       t = 1;
       segments = noSegment ∷ g ∷ replicate 62 noSegment;
-      starts = noStart ∷ record { first = s } ∷ replicate 30 noStart;
+      starts = noStart ∷ record { first = s; ports = noPorts } ∷ replicate 30 noStart;
     }
 
 -- its 36 bytes
@@ -109,6 +151,66 @@ file-smallest = (refl, refl)
 pub file-past : (fileOf (small (twoOf noStatement) 7) ≡ smallFile) × (trimmed (small (twoOf noStatement) 7) ≡ small noSegment 0)
 unfolding computed
 file-past = (refl, refl)
+
+-- H = 10, V = 1, E = 0, one segment that ends, and of three threads as many as are counted: ports, none, ports
+abbrev ported : ℕ → Model
+ported t =
+    record {
+      horizon = record { 0 = 10 };
+      v = 1;
+      e = 0;
+      n = 1;
+      t = t;
+      segments = replicate 64 noSegment;
+      starts =
+          record { first = 0; ports = portsOf 255 0 } ∷ noStart ∷ record { first = 0; ports = portsOf 0 255 } ∷ replicate 29 noStart;
+    }
+
+-- its head and its segment
+abbrev portedFront : List ℕ
+portedFront = (10 ∷ 0 ∷ 1 ∷ 0 ∷ 10 ∷ 0 ∷ 0 ∷ 0 ∷ 1 ∷ 0 ∷ []) ++ (17 ∷ 0 ∷ 2 ∷ 0 ∷ replicate 13 0)
+
+-- each record of ports directly after its thread's, 70 bytes; past the count none
+pub file-ports :
+    (fileOf (ported 3)
+    ≡ portedFront
+    ++ (5 ∷ 0 ∷ 3 ∷ 0 ∷ 0 ∷ [])
+    ++ (12 ∷ 0 ∷ 5 ∷ 0 ∷ 255 ∷ 255 ∷ 255 ∷ 255 ∷ 255 ∷ 255 ∷ 255 ∷ 0 ∷ [])
+    ++ (5 ∷ 0 ∷ 3 ∷ 0 ∷ 0 ∷ [])
+    ++ (5 ∷ 0 ∷ 3 ∷ 0 ∷ 0 ∷ [])
+    ++ (12 ∷ 0 ∷ 5 ∷ 0 ∷ 0 ∷ 255 ∷ 255 ∷ 255 ∷ 255 ∷ 255 ∷ 255 ∷ 255 ∷ [])
+    ++ (4 ∷ 0 ∷ 4 ∷ 0 ∷ [])) ×
+    (length (fileOf (ported 3)) ≡ 70) ×
+    (length (fileOf (ported 2)) ≡ 53) ×
+    (length (fileOf (ported 1)) ≡ 48)
+unfolding computed
+file-ports = (refl, refl, refl, refl)
+
+-- "refuses with 17 (for a mapped number)": V = 1, a thread whose first port is as given: variable 0, V, 254, unused
+abbrev mapping : ℕ → Model
+mapping x =
+    record {
+      horizon = record { 0 = 10 };
+      v = 1;
+      e = 0;
+      n = 1;
+      t = 1;
+      segments = replicate 64 noSegment;
+      starts = record { first = 0; ports = portsOf x 255 } ∷ replicate 31 noStart;
+    }
+
+pub mapped-fault : (modelFault (mapping 0) ≡ 0) × (modelFault (mapping 1) ≡ 17) × (modelFault (mapping 254) ≡ 17) × (modelFault (mapping 255) ≡ 0)
+unfolding computed
+mapped-fault = (refl, refl, refl, refl)
+
+-- and the reader says so of their files
+pub mapped-read :
+    (readFile (fileOf (mapping 0)) ≡ record { number = 0; model = mapping 0 }) ×
+    (readFile (fileOf (mapping 1)) .number ≡ 17) ×
+    (readFile (fileOf (mapping 254)) .number ≡ 17) ×
+    (readFile (fileOf (mapping 255)) ≡ record { number = 0; model = mapping 255 })
+unfolding computed
+mapped-read = (refl, refl, refl, refl)
 
 -- no segment and no thread: a head of zeros and an end
 pub file-nothing : fileOf noModel ≡ (10 ∷ 0 ∷ 1 ∷ 0 ∷ 0 ∷ 0 ∷ 0 ∷ 0 ∷ 0 ∷ 0 ∷ []) ++ (4 ∷ 0 ∷ 4 ∷ 0 ∷ [])
@@ -137,7 +239,7 @@ modelM =
           segmentOf listening [] 0 32 ∷
           segmentOf listening (record { op = Copy 1 0 } ∷ record { op = Add 2 1 } ∷ []) 2 30 ∷
           replicate 60 noSegment;
-      starts = record { first = 0 } ∷ record { first = 2 } ∷ replicate 30 noStart;
+      starts = record { first = 0; ports = noPorts } ∷ record { first = 2; ports = noPorts } ∷ replicate 30 noStart;
     }
 
 -- its 116 bytes

@@ -1,4 +1,4 @@
--- Document 02, slip 2: what a call that writes a model promises of its bytes as the reader takes them.
+-- Document 02, slips 2 and 4: what a call that writes a model promises of its bytes as the reader takes them.
 use Prim.Native.Nat.{ℕ, _<_, _^_}
 use mathlib.Core.Path.{_≡_}
 use mathlib.Core.List.{List}
@@ -13,7 +13,8 @@ use Rattle.writer.specs.File.{fileOf, trimmed}
 
 -- of a model, the answer r, and the buffer after it
 pub record ReadsBack (m : Model) (r : Written) (after : List ℕ) : Type 0 where
-  -- "Held values are refused with 2 to 8 as the reader would refuse their file": where the horizon has its four bytes there
+  -- "Held values are refused with 2 to 8 as the reader would refuse their file", "with 17 (for a mapped number) and 18 too": where the
+  -- horizon has its four bytes there
   pub number : m .horizon .0 < 2 ^ 32 → readFile (fileOf m) .number ≡ modelFault m
   -- "Its output read back is the same model up to its counts"
   pub model : numberOf r ≡ 0 → readFile (take (lengthOf r) after) ≡ record { number = accepted; model = trimmed m }

@@ -8,6 +8,7 @@ use Rattle.model.specs.declared.Closer.{Closer}
 use Rattle.model.specs.declared.Closer.the-variants.{End, Time, Event}
 use Rattle.model.specs.declared.Segment.{Segment}
 use Rattle.model.specs.declared.Model.{Model}
+use Rattle.model.specs.Port.{portOf}
 use Rattle.model.specs.Values.{noStatement, segmentAt, startAt}
 
 abbrev pub FitsNext : Next → Type 0
@@ -37,3 +38,4 @@ pub record Fields (m : Model) : Type 0 where
   pub e : m .e < 256
   pub segments : (i : ℕ) → i < m .n → FitsSegment (segmentAt m i)
   pub starts : (k : ℕ) → k < m .t → startAt m k .first < 256
+  pub ports : (k p : ℕ) → k < m .t → p < 8 → portOf (startAt m k .ports) p < 256

@@ -1,7 +1,7 @@
 -- The values of a model fit the fields of a file, as owning it tells: all but its horizon, which may be longer than four bytes.
 --     fields-owned     a model
 use Prim.Native.Nat.{ℕ, zero, suc, _<_, _^_}
-use mathlib.Core.Path.{sym, subst}
+use mathlib.Core.Path.{_≡_, sym, subst}
 use mathlib.Core.List.{List, [], _∷_, map}
 use native.Mathlib.Decide.{decLt}
 use native.Mathlib.Omega.{arith}
@@ -11,7 +11,7 @@ use denote.Shadow.{shadow}
 use denote.Array.{each}
 use denote.Laws.{Is}
 use denote.Struct.Laws as LL
-use lib.ListN.{length, getD, List·getD-eq-default}
+use lib.ListN.{length, getD, getD-replicate, List·getD-eq-default}
 use Rattle.model.specs.declared.Next.{Next}
 use Rattle.model.specs.declared.Op.{Op}
 use Rattle.model.specs.declared.Op.the-variants.{Set, Add, Copy, AddVariable, SubVariable, Notify}
@@ -21,6 +21,7 @@ use Rattle.model.specs.declared.Closer.the-variants.{End, Time, Event}
 use Rattle.model.specs.declared.Segment.{Segment}
 use Rattle.model.specs.declared.Start.{Start}
 use Rattle.model.specs.declared.Model.{Model}
+use Rattle.model.specs.Port.{noPorts, portOf}
 use Rattle.model.specs.Values.{noStatement, noSegment, noStart, segmentAt, startAt}
 use Rattle.model.proofs.Next as next
 use Rattle.model.proofs.Op as op
@@ -28,6 +29,8 @@ use Rattle.model.proofs.Statement as statement
 use Rattle.model.proofs.Closer as closer
 use Rattle.model.proofs.Segment as segment
 use Rattle.model.proofs.Segment.Laws as segment′
+use Rattle.model.proofs.Start as start
+use Rattle.model.proofs.Start.Laws as start′
 use Rattle.model.proofs.Model as model
 use Rattle.model.proofs.Model.Laws as model′
 use Rattle.writer.specs.Fields.{FitsNext, FitsCloser, FitsOp, FitsSegment, Fields}
@@ -82,6 +85,15 @@ segment-fits g vs h =
           (omega arith, omega arith);
     }
 
+-- the ports of a thread, past the eight too
+start-fits : (s : Start) (vs : List Val) → Is start.the-row s vs → (p : ℕ) → portOf (s .ports) p < 256
+start-fits s vs h p =
+    let o = LL.owed start.the-type start′.the-laws s vs h in
+    at-each (λ (x : ℕ). x < 256) (s .ports) p 0 (λ l. each-at _ _ (s .ports) (o .1 .0 .0) p 0 (o .1 .0 .1 .1) l .1 .1) (omega arith)
+
+noPorts-fit : (p : ℕ) → portOf noPorts p < 256
+noPorts-fit p = at-each (λ (x : ℕ). x < 256) noPorts p 0 (λ l. let e : portOf noPorts p ≡ 255 = getD-replicate 8 p 255 0 l in omega arith) (omega arith)
+
 pub fields-owned : (m : Model) (vs : List Val) → Is model.the-row m vs → m .horizon .0 < 2 ^ 32 → Fields m
 unfolding segmentAt startAt
 fields-owned m vs g h =
@@ -100,4 +112,9 @@ fields-owned m vs g h =
           at-each (λ (s : Start). s .first < 256) (m .starts) k noStart
           (λ l. each-at _ _ (m .starts) (o .1 .1 .1 .1 .1 .1 .0 .0) k noStart (o .1 .1 .1 .1 .1 .1 .0 .1 .1) l .1 .1 .1 .0 .1)
           (omega arith);
+      ports =
+          λ k p _ _.
+          at-each (λ (s : Start). (p : ℕ) → portOf (s .ports) p < 256) (m .starts) k noStart
+          (λ l. start-fits (getD (m .starts) k noStart) _ (each-at _ _ (m .starts) (o .1 .1 .1 .1 .1 .1 .0 .0) k noStart (o .1 .1 .1 .1 .1 .1 .0 .1 .1) l .1))
+          noPorts-fit p;
     }

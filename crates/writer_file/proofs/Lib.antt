@@ -1,4 +1,5 @@
 pub mod JoinLaws
+pub mod PortLaws
 pub mod SizeLaws
 pub mod ReadLaws
 pub mod FieldLaws

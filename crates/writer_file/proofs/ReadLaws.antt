@@ -6,17 +6,19 @@ use mathlib.Core.List.{[], _∷_, _++_}
 use types.Run.{OneOf, miss}
 use denote.Enum.Declared.{tagOf}
 use lib.ListN.{length, getD, List·getD-eq-default}
+use Rattle.base.specs.Index.{anyBelow}
 use Rattle.model.specs.declared.Closer.{Closer}
 use Rattle.model.specs.declared.Closer.the-variants.{End, Time, Event}
 use Rattle.model.specs.declared.Segment.{Segment}
 use Rattle.model.specs.declared.Start.{Start}
 use Rattle.model.specs.declared.Model.{Model}
+use Rattle.model.specs.Port.{usesPorts}
 use Rattle.model.specs.Values.{noStatement, segmentAt, startAt}
 use Rattle.model.proofs.Closer as closer
 use Rattle.model_rules.proofs.FaultLaws.{segmentAt-read, segmentAt-past, startAt-read, startAt-past}
 use Rattle.reader.specs.Record.{segmentKind, threadKind}
 use Rattle.writer.specs.Bytes.{bytesOf, joined, nextBytes, closerBytes, statementOf, opBytes}
-use Rattle.writer.specs.File.{recordBytes, segmentBytes, startBytes}
+use Rattle.writer.specs.File.{recordBytes, segmentBytes, portsBytes, startBytes}
 use Rattle.writer_file.proofs.SizeLaws.{statementAt}
 
 -- the `End` arm: thirteen bytes of 0
@@ -43,11 +45,9 @@ module _ (m : Model) (i : ℕ) where
   unfolding bytesOf joined closerBytes recordBytes segmentBytes
   segmentBytes-past h = rw (segmentAt-past m i h) refl
 
-  pub startBytes-read :
-      (d : Start) → i < length (m .starts) → recordBytes threadKind (bytesOf 1 (getD (m .starts) i d .first)) ≡ startBytes (startAt m i)
-  unfolding startBytes
-  startBytes-read d h = rw (startAt-read m i d h) refl
+  pub startBytes-read : (d : Start) → i < length (m .starts) → startBytes (getD (m .starts) i d) ≡ startBytes (startAt m i)
+  startBytes-read d h = ap startBytes (startAt-read m i d h)
 
   pub startBytes-past : length (m .starts) ≤ i → recordBytes threadKind (bytesOf 1 0) ≡ startBytes (startAt m i)
-  unfolding startBytes
+  unfolding bytesOf recordBytes portsBytes startBytes usesPorts anyBelow
   startBytes-past h = rw (startAt-past m i h) refl

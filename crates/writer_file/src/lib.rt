@@ -6,17 +6,19 @@ use model::Model;
 use model::Next;
 use model::Op;
 use model::Segment;
+use model::Start;
 ghost use mathlib.Core.Path.{_≡_};
 ghost use mathlib.Core.List.{_++_};
-ghost use Prim.Native.Nat.{_+_, _*_};
+ghost use Prim.Native.Nat.{_+_, _*_, _≤_};
 ghost use lib.ListN.{length, getD};
 ghost use Rattle.buffers.specs.Put.{Puts};
 ghost use Rattle.buffers.specs.Written.{Saves};
+ghost use Rattle.model.specs.Port.{portOf, usesPorts};
 ghost use Rattle.model.specs.Values.{noStatement, segmentAt, startAt};
 ghost use Rattle.model.specs.Rules.{modelFault};
 ghost use Rattle.reader.specs.Record.{headKind, segmentKind, threadKind};
 ghost use Rattle.writer.specs.Bytes.{bytesOf, joined, nextBytes, closerBytes, statementOf, opBytes};
-ghost use Rattle.writer.specs.File.{recordBytes, segmentBytes, startBytes, fileOf};
+ghost use Rattle.writer.specs.File.{recordBytes, segmentBytes, portsBytes, startBytes, fileOf};
 ghost use Rattle.writer.specs.Back.{ReadsBack};
 
 // Document 01: "Little-endian." One, two and four bytes; each put answers where the next byte goes.
@@ -184,7 +186,41 @@ fn put_start(out: &mut [u8], at: usize, first: u8) -> usize
     put_one(out, a, first)
 }
 
-// A model's threads. Past its 32 places each begins at segment 0.
+// Document 02, slip 4: "eight variable numbers".
+fn put_eight(out: &mut [u8], at: usize, ports: [u8; 8]) -> usize
+    ensures { λ r. ⌜ Puts (now (out .entry)) at (now (out .exit)) r (joined 8 0 (λ p. bytesOf 1 (portOf ports p))) ⌝ }
+{
+    let mut to = buffers::least(at, out.len());
+    let mut i = 0;
+    while i < 8 {
+        let x = ports[i];
+        to = put_one(out, to, x);
+        i += 1;
+    }
+    to
+}
+
+// Document 02, slip 4: "length 12"; "writes no record where all eight are unused".
+fn put_ports(out: &mut [u8], at: usize, ports: [u8; 8]) -> usize
+    ensures { λ r. ⌜ Puts (now (out .entry)) at (now (out .exit)) r (portsBytes ports) ⌝ }
+{
+    if model_effect::uses_ports(ports) {
+        let a = put_frame(out, at, 12, 5);
+        return put_eight(out, a, ports);
+    }
+    buffers::least(at, out.len())
+}
+
+// A thread's record, then that of its ports.
+fn put_thread(out: &mut [u8], at: usize, s: Start) -> usize
+    ensures { λ r. ⌜ Puts (now (out .entry)) at (now (out .exit)) r (startBytes s) ⌝ }
+{
+    let ports = s.ports;
+    let a = put_start(out, at, s.first);
+    put_ports(out, a, ports)
+}
+
+// A model's threads. Past its 32 places each begins at segment 0 and uses no port.
 fn put_starts(out: &mut [u8], at: usize, m: Model) -> usize
     ensures { λ r. ⌜ Puts (now (out .entry)) at (now (out .exit)) r (joined (m .t) 0 (λ k. startBytes (startAt m k))) ⌝ }
 {
@@ -193,7 +229,8 @@ fn put_starts(out: &mut [u8], at: usize, m: Model) -> usize
     let mut k = 0;
     while k < t {
         if k < 32 {
-            to = put_start(out, to, m.starts[k].first);
+            let s = m.starts[k];
+            to = put_thread(out, to, s);
         } else {
             to = put_start(out, to, 0);
         }
@@ -213,12 +250,42 @@ pub fn put_file(m: Model, out: &mut [u8]) -> usize
     put_frame(out, c, 4, 4)
 }
 
+// How many bytes a thread takes, with the record of its ports.
+fn start_size(ports: [u8; 8]) -> usize
+    ensures { λ r. ⌜ (r ≡ 5 + length (portsBytes ports)) × (r ≤ 17) ⌝ }
+{
+    if model_effect::uses_ports(ports) {
+        17
+    } else {
+        5
+    }
+}
+
+fn starts_size(m: Model) -> usize
+    ensures { λ r. ⌜ (r ≡ length (joined (m .t) 0 (λ k. startBytes (startAt m k)))) × (r ≤ 4335) ⌝ }
+{
+    let t = buffers::wide(m.t);
+    let mut size = 0;
+    let mut i = 0;
+    while i < t {
+        if i < 32 {
+            let s = m.starts[i];
+            let ports = s.ports;
+            size += start_size(ports);
+        } else {
+            size += 5;
+        }
+        i += 1;
+    }
+    size
+}
+
 // The length of a model's file: head, segments, threads, end.
 pub fn size_of(m: Model) -> usize
     ensures { λ r. ⌜ r ≡ length (fileOf m) ⌝ }
 {
     let n = buffers::wide(m.n);
-    let mut size = 14 + 5 * buffers::wide(m.t);
+    let mut size = 14 + starts_size(m);
     let mut i = 0;
     while i < n {
         if i < 64 {

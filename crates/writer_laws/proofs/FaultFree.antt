@@ -14,11 +14,12 @@ use Rattle.reader.specs.declared.Read.{Read}
 use Rattle.reader.specs.File.{readOr, readFile}
 use Rattle.reader_laws.proofs.Accepted.{accepted-kept}
 use Rattle.writer.specs.Bytes.{bytesOf, joined}
-use Rattle.writer.specs.File.{headBytes, segmentBytes, startBytes, endBytes, fileOf, trimmed}
+use Rattle.writer.specs.File.{recordBytes, headBytes, segmentBytes, portsBytes, startBytes, endBytes, fileOf, trimmed}
 use Rattle.writer.specs.Fields.{Fields}
 use Rattle.writer_laws.proofs.ByteLaws.{AllBytes, bytesOf-below, append-below}
 use Rattle.writer_laws.proofs.JoinLaws.{joined-below}
 use Rattle.writer_laws.proofs.RecordLaws.{recordBytes-below}
+use Rattle.writer_laws.proofs.PortLaws.{portsBytes-below}
 use Rattle.writer_laws.proofs.TrimLaws.{modelFault-trimmed}
 use Rattle.writer_laws.proofs.SegmentLaws.{segmentBytes-below}
 use Rattle.writer_laws.proofs.ReadWritten.{read-written}
@@ -33,7 +34,9 @@ module _ (m : Model) where
 
   start-below : (k : ℕ) → AllBytes (startBytes (startAt m k))
   unfolding startBytes
-  start-below k = recordBytes-below 3 (bytesOf 1 (startAt m k .first)) (bytesOf-below 1 (startAt m k .first))
+  start-below k =
+      append-below (recordBytes 3 (bytesOf 1 (startAt m k .first))) (portsBytes (startAt m k .ports))
+      (recordBytes-below 3 (bytesOf 1 (startAt m k .first)) (bytesOf-below 1 (startAt m k .first))) (portsBytes-below (startAt m k .ports))
 
   end-below : AllBytes endBytes
   unfolding endBytes

@@ -3,6 +3,7 @@ pub mod JoinLaws
 pub mod StatementLaws
 pub mod CloserLaws
 pub mod RecordLaws
+pub mod PortLaws
 pub mod TrimLaws
 pub mod SegmentLaws
 pub mod StepLaws

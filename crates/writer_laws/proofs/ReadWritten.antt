@@ -1,38 +1,41 @@
 -- A model that is written is read back: the number is that of the model's first fault in file order, and where there is none the model is
 -- the one that was written, zero past its counts.
 -- By induction over the segments left, then the threads left. What was read so far is `partOf m i k`: a record either has the fault that
--- the rules over values give to its segment, or adds it. Each record takes at least 4 bytes, so the reader's steps suffice.
+-- the rules over values give to its segment or its thread, or adds it; a thread's record gives unused ports, which its ports' record then
+-- sets. Each record takes at least 4 bytes, so the reader's steps suffice.
 -- Assumes values that fit their fields, and at most 64 places for segments: at a 65th the reader judges the length (3) before the count
 -- (4), the rules over values the other way round, and without a 65th place there is no length to judge.
 use Prim.Native.Nat.{ℕ, zero, suc, _+_, _-_, _*_, _%_, _≤_, _<_}
-use mathlib.Core.Path.{_≡_, refl, sym, ap, ap₂, _∙_}
+use mathlib.Core.Path.{_≡_, refl, sym, ap, ap₂, _∙_, subst}
 use mathlib.Core.Bool.{Bool, true, false, _&&_}
-use mathlib.Core.List.{List, [], _++_, append-nil}
+use mathlib.Core.List.{List, [], _++_, append-assoc, append-nil}
 use native.Mathlib.Omega.{arith}
 use native.Mathlib.Decide.{ℕ-discrete, decLt}
 use lib.Dec.{ltb, leb, leb→le, le→leb}
-use lib.ListN.{length, getD, drop, replicate, List·getD-eq-default}
+use lib.ListN.{length, getD, drop, replicate, length-append, length-replicate, List·getD-eq-default}
 use borrow.Author.Tests.{ltb-true, ltb-false, lt-ltb, le-ltb, le-leb, lt-leb, eq-eqb}
 use Rattle.base.specs.Index.{orElse, firstBelow, tabulate}
 use Rattle.base.proofs.BoolLaws.{T-same, true→T}
-use Rattle.base.proofs.IndexLaws.{orElse-none, orElse-some, orElse-zero, firstBelow-none, firstBelow-more, firstBelow-here}
+use Rattle.base.proofs.IndexLaws.{orElse-none, orElse-some, orElse-zero, orElse-last, firstBelow-none, firstBelow-more, firstBelow-here, tabulate-length}
 use Rattle.model.specs.declared.Segment.{Segment}
 use Rattle.model.specs.declared.Model.{Model}
-use Rattle.model.specs.Values.{noStatement, noSegment, noStart, noModel, segmentAt, startAt, withHead, withSegment, withStart}
-use Rattle.model.specs.Rules.{unless, headFault, segmentFault, segmentsFault, countsFault, targetsFault, modelFault, closerFault, statementsFault}
+use Rattle.model.specs.Port.{noPorts, usesPorts}
+use Rattle.model.specs.Values.{noStatement, noSegment, noStart, noModel, segmentAt, startAt, portsAt, withHead, withSegment, withStart, withPorts}
+use Rattle.model.specs.Rules.{unless, headFault, segmentFault, segmentsFault, portsFault, startsFault, countsFault, linksFault, modelFault, closerFault, statementsFault}
 use Rattle.model_rules.proofs.FaultLaws.{unless-zero}
 use Rattle.reader.specs.declared.Read.{Read}
 use Rattle.reader.specs.Word.{byteAt, longAt}
 use Rattle.reader.specs.Record.{follows, lengthFits, bodyFault, withRecord}
 use Rattle.reader.specs.File.{readOr, readEnd, readFrom, readFile}
 use Rattle.writer.specs.Bytes.{bytesOf, joined, closerBytes, opBytes}
-use Rattle.writer.specs.File.{recordBytes, headBytes, segmentBytes, startBytes, endBytes, fileOf, trimmed}
+use Rattle.writer.specs.File.{recordBytes, headBytes, segmentBytes, portsBytes, startBytes, endBytes, fileOf, trimmedStart, trimmed}
 use Rattle.writer.specs.Fields.{Fields}
 use Rattle.writer_laws.proofs.ByteLaws.{bytesOf-length, byteAt-written, longAt-written}
 use Rattle.writer_laws.proofs.JoinLaws.{joined-first}
 use Rattle.writer_laws.proofs.RecordLaws.{record-whole}
 use Rattle.writer_laws.proofs.SegmentLaws.{body-length, segmentFrom-written, segmentBytesFault-written}
-use Rattle.writer_laws.proofs.TrimLaws.{partOf, partOf-all, partOf-segment, partOf-start, targetsFault-trimmed}
+use Rattle.writer_laws.proofs.PortLaws.{eightOf, portsBody, portsBody-length, unused-trimmed, unused-fault, portsBytes-unused, portsBytes-used, portsFrom-written, portsBytesFault-written, withPorts-last}
+use Rattle.writer_laws.proofs.TrimLaws.{filled, partOf, partOf-all, partOf-segment, partOf-start, linksFault-trimmed}
 use Rattle.writer_laws.proofs.StepLaws.{readOr-other, recordFault, read-refused, read-more, read-ended}
 
 -- the bytes of a record after its head
@@ -109,8 +112,9 @@ module _ (m : Model) (fits : Fields m) (places : length (m .segments) ≤ 64) wh
   abbrev segments : ℕ → List ℕ
   segments i = recordBytes 2 (segmentBody (segmentAt m i))
 
+  -- a thread's record, then that of its ports
   abbrev starts : ℕ → List ℕ
-  starts k = recordBytes 3 (startBody k)
+  starts k = recordBytes 3 (startBody k) ++ portsBytes (startAt m k .ports)
 
   -- what is left after k threads where there are j more
   abbrev threadsLeft : ℕ → ℕ → List ℕ
@@ -123,8 +127,11 @@ module _ (m : Model) (fits : Fields m) (places : length (m .segments) ≤ 64) wh
   told-refused : (x : ℕ) (n : Model) → modelFault m ≡ x → (x ≡ 0 → ⊥) → Told (readOr x n)
   told-refused x n e h = readOr-other x n (trimmed m) h ∙ ap (λ (y : ℕ). readOr y (trimmed m)) (sym e)
 
+  abbrev startFaultAt : ℕ → ℕ
+  startFaultAt k = orElse (unless (ltb k 32) 4) (portsFault (m .v) (portsAt m k))
+
   -- the number of the counts
-  module _ (clear : modelFault m ≡ orElse (countsFault m) (targetsFault m)) where
+  module _ (clear : modelFault m ≡ orElse (countsFault m) (linksFault m)) where
     counts-segments : m .n ≡ 0 → modelFault m ≡ 2
     unfolding countsFault orElse
     counts-segments e = clear ∙ rw (lt-leb 1 (m .n) (omega arith)) refl
@@ -133,13 +140,22 @@ module _ (m : Model) (fits : Fields m) (places : length (m .segments) ≤ 64) wh
     unfolding countsFault orElse
     counts-threads l e = clear ∙ rw (le-leb 1 (m .n) l, lt-leb 1 (m .t) (omega arith)) refl
 
-    counts-many : 1 ≤ m .n → 32 < m .t → modelFault m ≡ 4
-    unfolding countsFault orElse
-    counts-many l h = clear ∙ rw (le-leb 1 (m .n) l, le-leb 1 (m .t) (omega arith), lt-leb (m .t) 32 h) refl
+    -- with a segment and a thread
+    counts-some : 1 ≤ m .n → 1 ≤ m .t → modelFault m ≡ orElse (firstBelow (m .t) startFaultAt) (linksFault m)
+    unfolding countsFault startsFault
+    counts-some l k =
+        clear
+        ∙ ap (λ (x : ℕ). orElse x (linksFault m))
+        (orElse-none _ _ (rw (le-leb 1 (m .n) l) refl) ∙ orElse-none _ _ (rw (le-leb 1 (m .t) k) refl))
 
-    counts-kept : 1 ≤ m .n → 1 ≤ m .t → m .t ≤ 32 → modelFault m ≡ targetsFault m
-    unfolding countsFault orElse
-    counts-kept l k h = clear ∙ rw (le-leb 1 (m .n) l, le-leb 1 (m .t) k, le-leb (m .t) 32 h) refl
+    -- the first thread with a fault
+    at-start : 1 ≤ m .n → (k : ℕ) → k < m .t → firstBelow k startFaultAt ≡ 0 → (startFaultAt k ≡ 0 → ⊥) → modelFault m ≡ startFaultAt k
+    at-start some k l none here =
+        let e : firstBelow (m .t) startFaultAt ≡ startFaultAt k = firstBelow-here k (m .t) startFaultAt l none here in
+        counts-some some (omega arith) ∙ ap (λ (x : ℕ). orElse x (linksFault m)) e ∙ orElse-some (startFaultAt k) (linksFault m) here
+
+    counts-kept : 1 ≤ m .n → 1 ≤ m .t → firstBelow (m .t) startFaultAt ≡ 0 → modelFault m ≡ linksFault m
+    counts-kept l k none = counts-some l k ∙ orElse-none (firstBelow (m .t) startFaultAt) (linksFault m) none
 
   -- a kind that does not follow
   kind-refused : (last k most : ℕ) (body rest : List ℕ) (n : Model) → 4 + length body < 65536 → k < 65536 → follows last k ≡ false
@@ -160,89 +176,180 @@ module _ (m : Model) (fits : Fields m) (places : length (m .segments) ≤ 64) wh
       ∙ kind-refused 1 4 most [] [] n (omega arith) (omega arith) refl (rw b h)
       ∙ told-refused 2 n e (λ z. omega arith)
   none-read (suc t) most n e h =
-      let rest = threadsLeft t 1 in
-      let b : threadsLeft (suc t) 0 ≡ starts 0 ++ rest = joined-first t 0 starts (recordBytes 4 []) in
+      let rest = portsBytes (startAt m 0 .ports) ++ threadsLeft t 1 in
+      let b : threadsLeft (suc t) 0 ≡ recordBytes 3 (startBody 0) ++ rest =
+      joined-first t 0 starts (recordBytes 4 [])
+      ∙ append-assoc (recordBytes 3 (startBody 0)) (portsBytes (startAt m 0 .ports)) (threadsLeft t 1) in
       ap (λ (b : List ℕ). readFrom most 1 b n) b
       ∙ kind-refused 1 3 most (startBody 0) rest n (omega (arith, bytesOf-length 1 (startAt m 0 .first))) (omega arith) refl (rw b at h)
       ∙ told-refused 2 n e (λ z. omega arith)
 
-  -- j threads left, after k
-  module _ (some : 1 ≤ m .n) (clear : modelFault m ≡ orElse (countsFault m) (targetsFault m)) where
-    abbrev soFar : ℕ → Model
-    soFar k = partOf m (m .n) k
+  -- a thread's two records, after k threads
+  abbrev soFar : ℕ → Model
+  soFar k = partOf m (m .n) k
 
-    thread-fault : (k : ℕ) → recordFault (lastAfter 2 3 k) 3 (startBody k) (soFar k) ≡ unless (ltb k 32) 4
-    unfolding follows lengthFits bodyFault bytesOf orElse
-    thread-fault zero = refl
-    thread-fault (suc k) = refl
+  -- with thread k, of which the ports are not yet read
+  abbrev bare : ℕ → Model
+  bare k = withStart (soFar k) (record { first = startAt m k .first; ports = noPorts })
 
-    start-added : (k : ℕ) → k < m .t → k < 32 → withRecord 3 (soFar k) (starts k) ≡ soFar (suc k)
+  module _ (k : ℕ) (l : k < m .t) where
+    abbrev ports : List ℕ
+    ports = startAt m k .ports
+
+    small-start : 4 + length (startBody k) < 65536
+    small-start = omega (arith, bytesOf-length 1 (startAt m k .first))
+
+    small-ports : 4 + length (portsBody ports) < 65536
+    small-ports = omega (arith, portsBody-length ports)
+
+    thread-fault : (last : ℕ) → follows last 3 ≡ true → recordFault last 3 (startBody k) (soFar k) ≡ unless (ltb k 32) 4
+    unfolding lengthFits bodyFault bytesOf orElse
+    thread-fault last f = rw f refl
+
+    start-added : withRecord 3 (soFar k) (recordBytes 3 (startBody k)) ≡ bare k
     unfolding withRecord recordBytes bytesOf
-    start-added k l h =
-        let s = startAt m k in
-        let e : byteAt (starts k) 4 ≡ s .first = byteAt-written (s .first) (starts k) [] 4 refl (fits .starts k l) in
-        ap (λ (x : ℕ). withStart (soFar k) (record { first = x })) e ∙ partOf-start m (m .n) k h
+    start-added =
+        let r = recordBytes 3 (startBody k) in
+        let e : byteAt r 4 ≡ startAt m k .first = byteAt-written (startAt m k .first) r [] 4 refl (fits .starts k l) in
+        ap (λ (x : ℕ). withStart (soFar k) (record { first = x; ports = noPorts })) e
 
-    thread-step : (k most : ℕ) (rest : List ℕ) → k < m .t → length (starts k ++ rest) ≤ most
-        → ((most : ℕ) → length rest ≤ most → k < 32 → Told (readFrom most 3 rest (soFar (suc k))))
-        → Told (readFrom most (lastAfter 2 3 k) (starts k ++ rest) (soFar k))
-    thread-step k zero rest l h more = absurd (omega (arith, record-whole 3 (startBody k) rest))
-    thread-step k (suc most) rest l h more = go (decLt k 32)
+    -- no port is used: there is no second record
+    unused-added : usesPorts ports ≡ false → k < 32 → bare k ≡ soFar (suc k)
+    unfolding trimmedStart
+    unused-added none h =
+        ap (λ (ps : List ℕ). withStart (soFar k) (record { first = startAt m k .first; ports = ps })) (sym (unused-trimmed ports none))
+        ∙ partOf-start m (m .n) k h
+
+    module _ (some : usesPorts ports ≡ true) where
+      ports-fault : recordFault 3 5 (portsBody ports) (bare k) ≡ portsFault (m .v) ports
+      unfolding follows lengthFits bodyFault withStart
+      ports-fault =
+          ap (λ (n : ℕ). orElse (orElse 0 (unless (lengthFits 5 (4 + n)) 3)) (bodyFault 5 (bare k) (recordBytes 5 (portsBody ports)))) (portsBody-length ports)
+          ∙ orElse-none _ _ (orElse-none 0 0 refl)
+          ∙ portsBytesFault-written ports some (λ p h. fits .ports k p l h) (m .v)
+
+      ports-added : k < 32 → withRecord 5 (bare k) (recordBytes 5 (portsBody ports)) ≡ soFar (suc k)
+      unfolding withRecord trimmedStart
+      ports-added h =
+          let places : length (filled noStart 32 (λ k. trimmedStart (startAt m k)) k) ≡ 32 =
+          length-append (tabulate k 0 (λ k. trimmedStart (startAt m k))) (replicate (32 - k) noStart)
+          ∙ ap₂ _+_ (tabulate-length k 0 (λ k. trimmedStart (startAt m k))) (length-replicate (32 - k) noStart)
+          ∙ omega arith in
+          ap (withPorts (bare k)) (portsFrom-written ports some (λ p h. fits .ports k p l h))
+          ∙ withPorts-last (soFar k) (startAt m k .first) noPorts (eightOf ports) (omega arith)
+          ∙ partOf-start m (m .n) k h
+
+  -- j threads left, after k
+  module _ (some : 1 ≤ m .n) (clear : modelFault m ≡ orElse (countsFault m) (linksFault m)) where
+    -- what follows thread k, after the record of its ports or none
+    abbrev More : ℕ → List ℕ → Type 0
+    More k rest = (last most : ℕ) → follows last 3 ≡ true → follows last 4 ≡ true → length rest ≤ most → startFaultAt k ≡ 0
+        → Told (readFrom most last rest (soFar (suc k)))
+
+    few-fault : (k : ℕ) → k < 32 → startFaultAt k ≡ portsFault (m .v) (startAt m k .ports)
+    unfolding portsAt
+    few-fault k h = orElse-none _ _ (rw (lt-ltb k 32 h) refl)
+
+    many-fault : (k : ℕ) → 32 ≤ k → startFaultAt k ≡ 4
+    many-fault k h = rw (le-ltb k 32 h) (orElse-some 4 _ (λ e. omega arith))
+
+    ports-step : (k most : ℕ) (rest : List ℕ) → k < m .t → k < 32 → firstBelow k startFaultAt ≡ 0
+        → length (portsBytes (startAt m k .ports) ++ rest) ≤ most → More k rest
+        → Told (readFrom most 3 (portsBytes (startAt m k .ports) ++ rest) (bare k))
+    unfolding follows
+    ports-step k most rest l p none h more = go (usesPorts ps) refl
       where
-        small : 4 + length (startBody k) < 65536
-        small = omega (arith, bytesOf-length 1 (startAt m k .first))
+        ps : List ℕ
+        ps = startAt m k .ports
 
-        go : Dec (k < 32) → Told (readFrom (suc most) (lastAfter 2 3 k) (starts k ++ rest) (soFar k))
-        go (yes p) =
-            read-more (lastAfter 2 3 k) 3 (startBody k) rest small (omega arith) most (soFar k) (thread-fault k ∙ rw (lt-ltb k 32 p) refl)
+        fault : ℕ
+        fault = portsFault (m .v) ps
+
+        Left : List ℕ → Type 0
+        Left b = length (b ++ rest) ≤ most → Told (readFrom most 3 (b ++ rest) (bare k))
+
+        judged : usesPorts ps ≡ true → (most : ℕ) → length (recordBytes 5 (portsBody ps) ++ rest) ≤ most → Dec (fault ≡ 0)
+            → Told (readFrom most 3 (recordBytes 5 (portsBody ps) ++ rest) (bare k))
+        judged e zero h d = absurd (omega (arith, record-whole 5 (portsBody ps) rest))
+        judged e (suc most) h (yes z) =
+            read-more 3 5 (portsBody ps) rest (small-ports k l) (omega arith) most (bare k) (ports-fault k l e ∙ z) (λ e. omega arith)
+            ∙ ap (readFrom most 5 rest) (ports-added k l e p)
+            ∙ more 5 most refl refl (omega (arith, record-whole 5 (portsBody ps) rest)) (few-fault k p ∙ z)
+        judged e (suc most) h (no z) =
+            read-refused 3 5 (portsBody ps) rest (small-ports k l) (omega arith) most (bare k) fault (ports-fault k l e) z
+            ∙ told-refused fault (bare k) (at-start clear some k l none (λ y. z (sym (few-fault k p) ∙ y)) ∙ few-fault k p) z
+
+        go : (b : Bool) → usesPorts ps ≡ b → Told (readFrom most 3 (portsBytes ps ++ rest) (bare k))
+        go false e =
+            subst Left (sym (portsBytes-unused ps e))
+            (λ h. ap (readFrom most 3 rest) (unused-added k l e p) ∙ more 3 most refl refl h (few-fault k p ∙ unused-fault ps e (m .v)))
+            h
+        go true e = subst Left (sym (portsBytes-used ps e)) (λ h. judged e most h (ℕ-discrete fault 0)) h
+
+    thread-step : (last k most : ℕ) (rest : List ℕ) → follows last 3 ≡ true → k < m .t → firstBelow k startFaultAt ≡ 0
+        → length (starts k ++ rest) ≤ most → More k rest → Told (readFrom most last (starts k ++ rest) (soFar k))
+    thread-step last k most rest f l none h more =
+        let b : starts k ++ rest ≡ recordBytes 3 (startBody k) ++ left = append-assoc (recordBytes 3 (startBody k)) (portsBytes (startAt m k .ports)) rest in
+        ap (λ (b : List ℕ). readFrom most last b (soFar k)) b ∙ go most (rw b at h) (decLt k 32)
+      where
+        left : List ℕ
+        left = portsBytes (startAt m k .ports) ++ rest
+
+        go : (most : ℕ) → length (recordBytes 3 (startBody k) ++ left) ≤ most → Dec (k < 32)
+            → Told (readFrom most last (recordBytes 3 (startBody k) ++ left) (soFar k))
+        go zero h d = absurd (omega (arith, record-whole 3 (startBody k) left))
+        go (suc most) h (yes p) =
+            read-more last 3 (startBody k) left (small-start k l) (omega arith) most (soFar k) (thread-fault k l last f ∙ rw (lt-ltb k 32 p) refl)
             (λ e. omega arith)
-            ∙ ap (readFrom most 3 rest) (start-added k l p)
-            ∙ more most (omega (arith, record-whole 3 (startBody k) rest)) p
-        go (no p) =
-            read-refused (lastAfter 2 3 k) 3 (startBody k) rest small (omega arith) most (soFar k) 4
-            (thread-fault k ∙ rw (le-ltb k 32 (omega arith)) refl) (λ e. omega arith)
-            ∙ told-refused 4 (soFar k) (counts-many clear some (omega arith)) (λ e. omega arith)
+            ∙ ap (readFrom most 3 left) (start-added k l)
+            ∙ ports-step k most rest l p none (omega (arith, record-whole 3 (startBody k) left)) more
+        go (suc most) h (no p) =
+            let four : startFaultAt k ≡ 4 = many-fault k (omega arith) in
+            read-refused last 3 (startBody k) left (small-start k l) (omega arith) most (soFar k) 4
+            (thread-fault k l last f ∙ rw (le-ltb k 32 (omega arith)) refl) (λ e. omega arith)
+            ∙ told-refused 4 (soFar k) (at-start clear some k l none (λ z. let e : 4 ≡ 0 = sym four ∙ z in omega arith) ∙ four) (λ e. omega arith)
 
     -- the end record
-    end-fault : (k : ℕ) → recordFault (lastAfter 2 3 k) 4 [] (soFar k) ≡ unless (leb 1 k) 2
-    unfolding follows lengthFits bodyFault orElse
-    end-fault zero = refl
-    end-fault (suc k) = rw (le-leb 1 (suc k) (omega arith)) refl
+    end-fault : (last k : ℕ) → follows last 4 ≡ leb 1 k → recordFault last 4 [] (soFar k) ≡ unless (leb 1 k) 2
+    unfolding lengthFits bodyFault
+    end-fault last k f =
+        ap (λ (b : Bool). orElse (orElse (unless b 2) 0) 0) f ∙ orElse-last (orElse (unless (leb 1 k) 2) 0) ∙ orElse-last (unless (leb 1 k) 2)
 
-    ended : 1 ≤ m .t → m .t ≤ 32 → Told (readEnd [] (soFar (m .t)))
+    ended : 1 ≤ m .t → firstBelow (m .t) startFaultAt ≡ 0 → Told (readEnd [] (soFar (m .t)))
     unfolding readEnd
-    ended l few =
-        ap (λ (n : Model). readOr (orElse 0 (targetsFault n)) n) (sym (partOf-all m))
+    ended l none =
+        ap (λ (n : Model). readOr (orElse 0 (linksFault n)) n) (sym (partOf-all m))
         ∙ ap (λ (x : ℕ). readOr x (trimmed m))
-        (orElse-none 0 (targetsFault (trimmed m)) refl ∙ targetsFault-trimmed m ∙ sym (counts-kept clear some l few))
+        (orElse-none 0 (linksFault (trimmed m)) refl ∙ linksFault-trimmed m ∙ sym (counts-kept clear some l none))
 
-    end-read : (most : ℕ) → length (recordBytes 4 [] ++ []) ≤ most → m .t ≤ 32
-        → Told (readFrom most (lastAfter 2 3 (m .t)) (recordBytes 4 [] ++ []) (soFar (m .t)))
-    end-read zero h few = absurd (omega (arith, record-whole 4 [] []))
-    end-read (suc most) h few = go (ℕ-discrete (m .t) 0)
+    end-read : (last most : ℕ) → follows last 4 ≡ leb 1 (m .t) → length (recordBytes 4 [] ++ []) ≤ most → firstBelow (m .t) startFaultAt ≡ 0
+        → Told (readFrom most last (recordBytes 4 [] ++ []) (soFar (m .t)))
+    end-read last zero f h none = absurd (omega (arith, record-whole 4 [] []))
+    end-read last (suc most) f h none = go (ℕ-discrete (m .t) 0)
       where
-        go : Dec (m .t ≡ 0) → Told (readFrom (suc most) (lastAfter 2 3 (m .t)) (recordBytes 4 [] ++ []) (soFar (m .t)))
+        go : Dec (m .t ≡ 0) → Told (readFrom (suc most) last (recordBytes 4 [] ++ []) (soFar (m .t)))
         go (yes z) =
-            read-refused (lastAfter 2 3 (m .t)) 4 [] [] (omega arith) (omega arith) most (soFar (m .t)) 2
-            (end-fault (m .t) ∙ rw (lt-leb 1 (m .t) (omega arith)) refl) (λ e. omega arith)
+            read-refused last 4 [] [] (omega arith) (omega arith) most (soFar (m .t)) 2
+            (end-fault last (m .t) f ∙ rw (lt-leb 1 (m .t) (omega arith)) refl) (λ e. omega arith)
             ∙ told-refused 2 (soFar (m .t)) (counts-threads clear some z) (λ e. omega arith)
         go (no z) =
-            read-ended (lastAfter 2 3 (m .t)) 4 [] [] (omega arith) (omega arith) most (soFar (m .t))
-            (end-fault (m .t) ∙ rw (le-leb 1 (m .t) (omega arith)) refl) refl
-            ∙ ended (omega arith) few
+            read-ended last 4 [] [] (omega arith) (omega arith) most (soFar (m .t))
+            (end-fault last (m .t) f ∙ rw (le-leb 1 (m .t) (omega arith)) refl) refl
+            ∙ ended (omega arith) none
 
-    threads-read : (j k most : ℕ) → k + j ≡ m .t → k ≤ 32 → length (threadsLeft j k) ≤ most
-        → Told (readFrom most (lastAfter 2 3 k) (threadsLeft j k) (soFar k))
+    threads-read : (last j k most : ℕ) → follows last 3 ≡ true → follows last 4 ≡ leb 1 k → k + j ≡ m .t → firstBelow k startFaultAt ≡ 0
+        → length (threadsLeft j k) ≤ most → Told (readFrom most last (threadsLeft j k) (soFar k))
     unfolding joined
-    threads-read zero k most e few h =
+    threads-read last zero k most f g e none h =
         let z : k ≡ m .t = omega arith in
         let b : recordBytes 4 [] ≡ recordBytes 4 [] ++ [] = sym (append-nil (recordBytes 4 [])) in
-        ap₂ (λ (k : ℕ) (b : List ℕ). readFrom most (lastAfter 2 3 k) b (soFar k)) z b ∙ end-read most (rw b at h) (omega arith)
-    threads-read (suc j) k most e few h =
+        ap₂ (λ (k : ℕ) (b : List ℕ). readFrom most last b (soFar k)) z b ∙ end-read last most (rw z at g) (rw b at h) (rw z at none)
+    threads-read last (suc j) k most f g e none h =
         let b : threadsLeft (suc j) k ≡ starts k ++ threadsLeft j (suc k) = joined-first j k starts (recordBytes 4 []) in
-        ap (λ (b : List ℕ). readFrom most (lastAfter 2 3 k) b (soFar k)) b
-        ∙ thread-step k most (threadsLeft j (suc k)) (omega arith) (rw b at h)
-        (λ most l p. threads-read j (suc k) most (omega arith) (omega arith) l)
+        ap (λ (b : List ℕ). readFrom most last b (soFar k)) b
+        ∙ thread-step last k most (threadsLeft j (suc k)) f (omega arith) none (rw b at h)
+        (λ last most f g l z.
+        threads-read last j (suc k) most f (g ∙ sym (le-leb 1 (suc k) (omega arith))) (omega arith) (firstBelow-more k startFaultAt none ∙ z) l)
 
   -- what is left after i segments where there are j more
   abbrev segmentsLeft : ℕ → ℕ → List ℕ
@@ -250,7 +357,7 @@ module _ (m : Model) (fits : Fields m) (places : length (m .segments) ≤ 64) wh
 
   -- a head without fault
   module _ (head : headFault (m .horizon .0) (m .v) (m .e) ≡ 0) where
-    after-segments : firstBelow (m .n) segmentFaultAt ≡ 0 → modelFault m ≡ orElse (countsFault m) (targetsFault m)
+    after-segments : firstBelow (m .n) segmentFaultAt ≡ 0 → modelFault m ≡ orElse (countsFault m) (linksFault m)
     unfolding modelFault segmentsFault
     after-segments none = orElse-none _ _ head ∙ orElse-none _ _ none
 
@@ -260,7 +367,7 @@ module _ (m : Model) (fits : Fields m) (places : length (m .segments) ≤ 64) wh
     at-segment i l none here =
         let e : firstBelow (m .n) segmentFaultAt ≡ segmentFaultAt i = firstBelow-here i (m .n) segmentFaultAt l none here in
         orElse-none _ _ head
-        ∙ ap (λ (x : ℕ). orElse x (orElse (countsFault m) (targetsFault m))) e
+        ∙ ap (λ (x : ℕ). orElse x (orElse (countsFault m) (linksFault m))) e
         ∙ orElse-some (segmentFaultAt i) _ here
 
     segment-follows : (i : ℕ) → follows (lastAfter 1 2 i) 2 ≡ true
@@ -291,11 +398,12 @@ module _ (m : Model) (fits : Fields m) (places : length (m .segments) ≤ 64) wh
 
     all-segments : (most : ℕ) → firstBelow (m .n) segmentFaultAt ≡ 0 → length (threadsLeft (m .t) 0) ≤ most
         → Told (readFrom most (lastAfter 1 2 (m .n)) (threadsLeft (m .t) 0) (partOf m (m .n) 0))
+    unfolding follows
     all-segments most none h = go (m .n) refl
       where
         go : (n : ℕ) → n ≡ m .n → Told (readFrom most (lastAfter 1 2 n) (threadsLeft (m .t) 0) (partOf m (m .n) 0))
         go zero e = none-read (m .t) most (partOf m (m .n) 0) (counts-segments (after-segments none) (sym e)) h
-        go (suc n) e = threads-read (omega arith) (after-segments none) (m .t) 0 most (omega arith) (omega arith) h
+        go (suc n) e = threads-read (omega arith) (after-segments none) 2 (m .t) 0 most refl refl (omega arith) (firstBelow-none startFaultAt) h
 
     segments-read : (j i most : ℕ) → i + j ≡ m .n → firstBelow i segmentFaultAt ≡ 0 → length (segmentsLeft j i) ≤ most
         → Told (readFrom most (lastAfter 1 2 i) (segmentsLeft j i) (partOf m i 0))

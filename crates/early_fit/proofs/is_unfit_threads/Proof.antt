@@ -9,42 +9,48 @@ use borrow.Author.Tests.{not-true, not-false}
 use Rattle.base.proofs.BoolLaws.{true→T}
 use Rattle.model.specs.declared.Model.{Model}
 use Rattle.model.specs.Record.{threadAt}
+use Rattle.model_effect.proofs.LengthLaws.{threads-length}
+use Rattle.model_reach.specs.Lacks.{HoldsLacks}
 use Rattle.early.specs.Fit.{isFitThread}
 use Rattle.early_laws.proofs.FitLaws.{→isUnfitThreads}
-use Rattle.model_effect.proofs.LengthLaws.{threads-length}
 use Rattle.early_fit.proofs.FitnessLaws.{isFitThread-at, isUnfitThreads-here}
 use Rattle.early_fit.proofs.is_unfit_threads.Statement.{statement}
 use Rattle.early_fit.proofs.is_unfit_threads.Tie as tie
 
 abbrev Inv-loop : tie.InvT-loop
-Inv-loop t n e threads count k₀ k = (k ≤ count) × ((m : Model) → m .n ≡ n → m .e ≡ e → (i : ℕ) → i < k → T (isFitThread m i (threadAt (threads .at) i)))
+Inv-loop t n e threads lacking count k₀ k =
+    (k ≤ count) × ((m : Model) → m .n ≡ n → m .e ≡ e → HoldsLacks m lacking → (i : ℕ) → i < k → T (isFitThread m i (threadAt (threads .at) i)))
 
 abbrev μ-loop : tie.MeasureT-loop
-μ-loop t n e threads count k₀ k = count - k
+μ-loop t n e threads lacking count k₀ k = count - k
 
 loop-holds : tie.Need-loop-holds Inv-loop μ-loop
-loop-holds c = (omega arith, λ m p q. below-none _)
+loop-holds c = (omega arith, λ m p q w. below-none _)
 
 returns : tie.Need-returns Inv-loop μ-loop
 returns c =
     let x = c .before .before .before .before .before .before .args in
     let k = c .before .before .before .before .loop .k in
-    λ m o p q. isUnfitThreads-here m (x .t1 .at) k (omega arith) (isFitThread-at m (x .t1 .at) k ∙ sym (c .before .is-fit-thread .ensures m k p q) ∙ not-true _ (c .if1 .taken))
+    λ m o p q w. isUnfitThreads-here m (x .t1 .at) k (omega arith)
+    (isFitThread-at m (x .t1 .at) k ∙ sym (c .before .is-fit-thread .ensures m k p q (λ s h. w .bits (omega arith) k s (omega arith) h)) ∙ not-true _ (c .if1 .taken))
 
 loop-again : tie.Need-loop-again Inv-loop μ-loop
 loop-again c =
     let x = c .before .before .before .before .before .before .args in
-    let l = c .before .before .before .before .loop in
-    (omega arith, λ m p q. below-more _ _ (l .inv .1 m p q) (true→T _ (isFitThread-at m (x .t1 .at) (l .k) ∙ sym (c .before .is-fit-thread .ensures m (l .k) p q) ∙ not-false _ (c .if1 .left))))
+    let l = c .before .before .before .before .loop in (
+      omega arith,
+      λ m p q w. below-more _ _ (l .inv .1 m p q w)
+          (true→T _ (isFitThread-at m (x .t1 .at) (l .k) ∙ sym (c .before .is-fit-thread .ensures m (l .k) p q (λ s h. w .bits (omega arith) (l .k) s (omega arith) h)) ∙ not-false _ (c .if1 .left))),
+    )
 
 returns-2 : tie.Need-returns-2 Inv-loop μ-loop
 returns-2 c =
     let x = c .before .before .before .args in
     let size = threads-length (x .t1) _ (c .before .before .before .good .0) in
-    λ m o p q. sym (→isUnfitThreads m (x .t1 .at) (omega arith) (λ i h. c .before .loop .inv .1 m p q i (omega arith)))
+    λ m o p q w. sym (→isUnfitThreads m (x .t1 .at) (omega arith) (λ i h. c .before .loop .inv .1 m p q w i (omega arith)))
 
 pub is-unfit-threads-spec : {M : Type 1} → statement M
 is-unfit-threads-spec =
     tie.close
-    (tie.spec Inv-loop μ-loop (λ c κs. search needs) loop-holds (λ c. search needs) (λ c. search needs)
-    (λ c. search needs) (λ c κs. search needs) returns (λ c. search needs) loop-again returns-2)
+    (tie.spec Inv-loop μ-loop (λ c κs. search needs) loop-holds (λ c. search needs) (λ c. search needs) (λ c. search needs)
+    (λ c. search needs) (λ c. search needs) (λ c κs. search needs) returns (λ c. search needs) loop-again returns-2)

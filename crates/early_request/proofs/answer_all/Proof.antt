@@ -11,48 +11,69 @@ use Rattle.early_request.proofs.answer_all.Statement.{statement}
 use Rattle.early_request.proofs.answer_all.Tie as tie
 
 abbrev Inv-loop : tie.InvT-loop
-Inv-loop marks words reach ks answers₀ m t n horizon s₀ ts₀ granted₀ i₀ answers s ts granted i =
+Inv-loop marks names words reach ks answers₀ m t n horizon starts s₀ ts₀ granted₀ i₀ answers s ts granted i =
     Going m marks words s₀ (ts₀ .at) ks answers₀ answers s (ts .at) granted i
 
 abbrev μ-loop : tie.MeasureT-loop
-μ-loop marks words reach ks answers₀ m t n horizon s₀ ts₀ granted₀ i₀ answers s ts granted i = length ks - i
+μ-loop marks names words reach ks answers₀ m t n horizon starts s₀ ts₀ granted₀ i₀ answers s ts granted i = length ks - i
 
 loop-holds : tie.Need-loop-holds Inv-loop μ-loop
-loop-holds c = going-start (c .before .before .before .before .before .args .t1) (c .before .before .before .before .before .args .marks) (c .before .before .before .before .before .args .words .now) (c .before .before .before .before .before .args .site) (c .before .before .before .before .before .args .threads .at) (c .before .before .before .before .before .args .ks .now) (c .before .before .before .before .before .args .answers .now) (c .before .before .before .before .before .pre .0)
+loop-holds c =
+    let start = c .before .before .before .before .before .before .before in
+    let x = start .args in
+    going-start (x .t1) (x .marks) (x .words .now) (x .site) (x .threads .at) (x .ks .now) (x .answers .now) (start .pre .0)
 
 segment-of-requires : tie.Need-segment-of-requires Inv-loop μ-loop
-segment-of-requires c κs = fit-threads-few (c .before .before .before .before .before .before .before .before .args .t1) (c .before .before .before .before .before .before .before .before .args .marks) (c .before .before .before .before .before .before .before .before .args .words .now) (c .before .before .loop .s) (c .before .before .loop .ts .at) (getD (c .before .before .before .before .before .before .before .before .args .ks .now) (c .before .before .loop .i) 0) (c .before .before .loop .inv .fit)
+segment-of-requires c κs =
+    let x = c .before .before .before .before .before .before .before .before .before .before .args in
+    let here = c .before .before .loop in
+    fit-threads-few (x .t1) (x .marks) (x .words .now) (here .s) (here .ts .at) (getD (x .ks .now) (here .i) 0) (here .inv .fit)
 
 mul-g : tie.Need-mul-g Inv-loop μ-loop
-mul-g c = omega (arith, c .segment-of .ensures, fit-segment-few (c .before .before .before .before .before .before .before .before .before .args .t1) (c .before .before .before .before .before .before .before .before .before .args .marks) (c .before .before .before .before .before .before .before .before .before .args .words .now) (c .before .before .before .loop .s) (c .before .before .before .loop .ts .at) (getD (c .before .before .before .before .before .before .before .before .before .args .ks .now) (c .before .before .before .loop .i) 0) (c .before .before .before .loop .inv .fit))
+mul-g c =
+    let x = c .before .before .before .before .before .before .before .before .before .before .before .args in
+    let here = c .before .before .before .loop in
+    omega (arith, c .segment-of .ensures, fit-segment-few (x .t1) (x .marks) (x .words .now) (here .s) (here .ts .at) (getD (x .ks .now) (here .i) 0) (here .inv .fit))
 
 element-copy-out-g : tie.Need-element-copy-out-g Inv-loop μ-loop
-element-copy-out-g c = omega (arith, c .segment-of .ensures, fit-segment-few (c .before .before .before .before .before .before .before .before .before .args .t1) (c .before .before .before .before .before .before .before .before .before .args .marks) (c .before .before .before .before .before .before .before .before .before .args .words .now) (c .before .before .before .loop .s) (c .before .before .before .loop .ts .at) (getD (c .before .before .before .before .before .before .before .before .before .args .ks .now) (c .before .before .before .loop .i) 0) (c .before .before .before .loop .inv .fit))
+element-copy-out-g c =
+    let x = c .before .before .before .before .before .before .before .before .before .before .before .args in
+    let here = c .before .before .before .loop in
+    omega (arith, c .segment-of .ensures, fit-segment-few (x .t1) (x .marks) (x .words .now) (here .s) (here .ts .at) (getD (x .ks .now) (here .i) 0) (here .inv .fit))
 
 answered-requires : tie.Need-answered-requires Inv-loop μ-loop
-answered-requires c κs = fit-threads-few (c .before .before .before .before .before .before .before .before .before .before .args .t1) (c .before .before .before .before .before .before .before .before .before .before .args .marks) (c .before .before .before .before .before .before .before .before .before .before .args .words .now) (c .before .before .before .before .loop .s) (c .before .before .before .before .loop .ts .at) (getD (c .before .before .before .before .before .before .before .before .before .before .args .ks .now) (c .before .before .before .before .loop .i) 0) (c .before .before .before .before .loop .inv .fit)
+answered-requires c κs =
+    let x = c .before .before .before .before .before .before .before .before .before .before .before .before .args in
+    let here = c .before .before .before .before .loop in
+    fit-threads-few (x .t1) (x .marks) (x .words .now) (here .s) (here .ts .at) (getD (x .ks .now) (here .i) 0) (here .inv .fit)
 
 mul-put-answer : tie.Need-mul-put-answer Inv-loop μ-loop
-mul-put-answer c = omega (arith, c .before .before .before .before .before .loop-test .taken, c .before .before .before .before .before .before .before .before .before .before .before .before .good .1 .1 .1 .1 .1 .1 .1 .0 .0, c .before .before .before .before .before .before .loop .inv .size, c .before .before .before .before .before .before .before .before .before .before .before .before .pre .1 .1)
+mul-put-answer c =
+    let start = c .before .before .before .before .before .before .before .before .before .before .before .before .before .before in
+    omega (arith, c .before .before .before .before .before .loop-test .taken, start .good .1 .1 .1 .1 .1 .1 .1 .1 .0 .0, c .before .before .before .before .before .before .loop .inv .size, start .pre .1 .2)
 
 put-answer-requires : tie.Need-put-answer-requires Inv-loop μ-loop
-put-answer-requires c κs = omega (arith, c .before .before .before .before .before .before .loop .inv .size, c .before .before .before .before .before .before .before .before .before .before .before .before .pre .1 .1)
+put-answer-requires c κs = omega (arith, c .before .before .before .before .before .before .loop .inv .size, c .before .before .before .before .before .before .before .before .before .before .before .before .before .before .pre .1 .2)
 
 add-granted : tie.Need-add-granted Inv-loop μ-loop
-add-granted c = omega (arith, grantsIn-≤ (c .before .before .before .before .before .answered .result .answer) (c .grants-in .ensures), c .before .before .before .before .before .before .before .before .before .loop-test .taken, c .before .before .before .before .before .before .before .before .before .before .before .before .before .before .before .before .good .1 .1 .1 .1 .1 .1 .0 .0, c .before .before .before .before .before .before .before .before .before .before .loop .inv .few)
+add-granted c =
+    let start = c .before .before .before .before .before .before .before .before .before .before .before .before .before .before .before .before .before .before in
+    omega (arith, grantsIn-≤ (c .before .before .before .before .before .answered .result .answer) (c .grants-in .ensures), c .before .before .before .before .before .before .before .before .before .loop-test .taken, start .good .1 .1 .1 .1 .1 .1 .1 .0 .0, c .before .before .before .before .before .before .before .before .before .before .loop .inv .few)
 
 add-i : tie.Need-add-i Inv-loop μ-loop
-add-i c = omega (arith, c .before .before .before .before .before .before .before .before .before .before .before .loop-test .taken, c .before .before .before .before .before .before .before .before .before .before .before .before .before .before .before .before .before .before .good .1 .1 .1 .1 .1 .1 .0 .0)
+add-i c = omega (arith, c .before .before .before .before .before .before .before .before .before .before .before .loop-test .taken, c .before .before .before .before .before .before .before .before .before .before .before .before .before .before .before .before .before .before .before .before .good .1 .1 .1 .1 .1 .1 .1 .0 .0)
 
 loop-again : tie.Need-loop-again Inv-loop μ-loop
 loop-again c =
-    let start = c .before .before .before .before .before .before .before .before .before .before .before .before .before .before .before .before .before .before in
+    let start = c .before .before .before .before .before .before .before .before .before .before .before .before .before .before .before .before .before .before .before .before in
+    let x = start .args in
     let here = c .before .before .before .before .before .before .before .before .before .before .before .before .loop in
-    going-more (start .args .t1) (start .args .marks) (start .args .words .now) (start .args .site) (start .args .threads .at) (start .args .ks .now) (start .args .answers .now) (here .answers) (here .s) (here .ts .at) (here .granted) (here .i) (here .inv) (c .before .before .before .before .before .before .before .answered .result) _ _
+    let j = c .before .before .before .before .before .before .before .before .before .segment-of in
+    going-more (x .t1) (x .marks) (x .words .now) (x .site) (x .threads .at) (x .ks .now) (x .answers .now) (here .answers) (here .s) (here .ts .at) (here .granted) (here .i) (here .inv) (c .before .before .before .before .before .before .before .answered .result) _ _
     (c .before .before .before .before .before .before .before .before .before .before .before .loop-test .taken)
     (c .before .before .before .before .before .before .before .answered .ensures
-    ∙ request-fit (start .args .t1) (start .args .marks) (start .args .words .now) (here .s) (here .ts .at) (getD (start .args .ks .now) (here .i) 0) (here .inv .fit) (c .before .before .before .before .before .before .before .before .before .segment-of .result) _ _
-    (c .before .before .before .before .before .before .before .before .before .segment-of .ensures) (segments-length (start .args .t1) _ (start .good .0)) refl (start .pre .1 .0))
+    ∙ request-fit (x .t1) (x .marks) (x .words .now) (here .s) (here .ts .at) (getD (x .ks .now) (here .i) 0) (here .inv .fit) (j .result) _ _ _
+    (j .ensures) (segments-length (x .t1) _ (start .good .0)) refl (start .pre .1 .0) (start .pre .1 .1))
     (c .before .before .before .before .before .put-answer .ensures)
     (c .before .before .grants-in .ensures)
 
@@ -61,7 +82,7 @@ same-length c = c .before .loop .inv .size
 
 returns : tie.Need-returns Inv-loop μ-loop
 returns c =
-    let start = c .before .before .before .before .before .before .before in
+    let start = c .before .before .before .before .before .before .before .before .before in
     let here = c .before .loop in
     going-done (start .args .t1) (start .args .marks) (start .args .words .now) (start .args .site) (start .args .threads .at) (start .args .ks .now) (start .args .answers .now) (here .answers) (here .s) (here .ts .at) (here .granted) (here .i) (here .inv) (here .ts) refl (omega arith)
 

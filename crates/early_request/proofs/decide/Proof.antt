@@ -14,29 +14,29 @@ use Rattle.early_request.proofs.decide.Tie as tie
 returns : tie.Need-returns
 unfolding numberOn
 returns c =
-    let x = c .before .before .before .before .args in
-    number-thread _ _ _ _ (x .t) (x .horizon .0 + 1) (x .t9 .at) (x .k .0) (omega arith)
+    let x = c .before .before .before .before .before .args in
+    number-thread _ _ _ _ (x .t) (x .horizon .0 + 1) (x .t11 .at) (x .k .0) (omega arith)
 
 returns-2 : tie.Need-returns-2
 unfolding numberOn
 returns-2 c =
-    let x = c .before .before .before .before .before .before .before .args in
+    let x = c .before .before .before .before .before .before .before .before .args in
     let i = c .before .before .wide in
-    number-unready _ _ _ _ (x .t) (x .horizon .0 + 1) (x .t9 .at) (x .k .0) (omega arith)
-    (ap (λ j. readyCycle (getD (x .t9 .at) j noThread .state)) (sym (i .ensures .0)) ∙ sym (readyCycle-other (getD (x .t9 .at) (i .result) noThread .state) (c .match .keys2)))
+    number-unready _ _ _ _ (x .t) (x .horizon .0 + 1) (x .t11 .at) (x .k .0) (omega arith)
+    (ap (λ j. readyCycle (getD (x .t11 .at) j noThread .state)) (sym (i .ensures .0)) ∙ sym (readyCycle-other (getD (x .t11 .at) (i .result) noThread .state) (c .match .keys2)))
 
 returns-3 : tie.Need-returns-3
 unfolding numberOn
 returns-3 c =
-    let x = c .before .before .before .before .before .before .before .before .before .before .before .before .args in
-    number-late _ _ _ _ (x .t) (x .horizon .0 + 1) (x .t9 .at) (x .k .0) (omega arith) _ (ap (λ j. getD (x .t9 .at) j noThread .state) (sym (c .before .before .before .before .before .before .before .wide .ensures .0)) ∙ c .before .before .before .before .s .given .1) (omega arith)
+    let x = c .before .before .before .before .before .before .before .before .before .before .before .before .before .args in
+    number-late _ _ _ _ (x .t) (x .horizon .0 + 1) (x .t11 .at) (x .k .0) (omega arith) _ (ap (λ j. getD (x .t11 .at) j noThread .state) (sym (c .before .before .before .before .before .before .before .wide .ensures .0)) ∙ c .before .before .before .before .s .given .1) (omega arith)
 
 returns-4 : tie.Need-returns-4
 unfolding numberOn
 returns-4 c =
-    let x = c .before .before .before .before .before .before .before .before .before .before .before .before .before .args in
+    let x = c .before .before .before .before .before .before .before .before .before .before .before .before .before .before .args in
     c .decide-ready .ensures
-    ∙ number-ready _ _ _ _ (x .t) (x .horizon .0 + 1) (x .t9 .at) (x .k .0) (omega arith) _ (ap (λ j. getD (x .t9 .at) j noThread .state) (sym (c .before .before .before .before .before .before .before .before .wide .ensures .0)) ∙ c .before .before .before .before .before .s .given .1) (omega arith)
+    ∙ number-ready _ _ _ _ (x .t) (x .horizon .0 + 1) (x .t11 .at) (x .k .0) (omega arith) _ (ap (λ j. getD (x .t11 .at) j noThread .state) (sym (c .before .before .before .before .before .before .before .before .wide .ensures .0)) ∙ c .before .before .before .before .before .s .given .1) (omega arith)
 
 pub decide-spec : {M : Type 1} → statement M
 decide-spec =

@@ -18,18 +18,23 @@ returns-2 c =
 
 answer-all-requires : tie.Need-answer-all-requires
 answer-all-requires c κs =
-    let start = c .before .before .before .before .before .before .before .before .before .before .before in (
-      sym (c .before .before .before .before .before .before .is-unfit .ensures) ∙ c .before .before .before .before .before .if2 .left,
-      (c .before .before .before .fill-reach .ensures ∙ reachIn-all (start .args .m) (start .args .words .now) (replicate 2048 0) (simp length-replicate), omega arith),
+    let left = c .before .before .before .before .before .before .before .before .before in
+    let start = left .before .before .before .before .before .before in (
+      sym (left .before .is-unfit .ensures) ∙ left .if2 .left,
+      (
+        c .before .before .before .before .fill-names .ensures,
+        c .before .before .before .before .before .before .before .fill-reach .ensures ∙ reachIn-all (start .args .m) (start .args .words .now) (replicate 2048 0) (simp length-replicate),
+        omega arith,
+      ),
     )
 
 returns-3 : tie.Need-returns-3
 returns-3 c =
-    let start = c .before .before .before .before .before .before .before .before .before .before .before .before .before .before in
-    requests-fit (start .args .m) (start .args .marks) (start .args .words .now) (start .args .site) (start .args .threads) (start .args .ks .now) (start .args .answers .now) (omega (arith, c .before .before .before .before .before .before .before .before .before .before .if1 .left)) _ _ (c .before .before .answer-all .ensures .0) (c .before .before .answer-all .ensures .1)
+    let start = c .before .before .before .before .before .before .before .before .before .before .before .before .before .before .before .before .before .before in
+    requests-fit (start .args .m) (start .args .marks) (start .args .words .now) (start .args .site) (start .args .threads) (start .args .ks .now) (start .args .answers .now) (omega (arith, c .before .before .before .before .before .before .before .before .before .before .before .before .before .before .if1 .left)) _ _ (c .before .before .answer-all .ensures .0) (c .before .before .answer-all .ensures .1)
 
 pub requests-spec : {M : Type 1} → statement M
 requests-spec =
     tie.close
     (tie.spec returns (λ c κs. search needs) (λ c κs. search needs) (λ c. search needs) returns-2 (λ c. search needs)
-    (λ c κs. search needs) (λ c. search needs) answer-all-requires (λ c. search needs) returns-3)
+    (λ c κs. search needs) (λ c. search needs) (λ c κs. search needs) (λ c. search needs) (λ c. search needs) answer-all-requires (λ c. search needs) returns-3)

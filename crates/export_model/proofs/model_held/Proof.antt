@@ -1,7 +1,7 @@
 -- `export_model::model_held` meets its contract: the model, or none.
 use mathlib.Core.Path.{sym, _∙_}
 use borrow.Author.Needs.{needs}
-use Rattle.export_model.proofs.HeldLaws.{held-length, held-counts, heldOr-kept, heldOr-none}
+use Rattle.export_model.proofs.HeldLaws.{held-length, held-parts, held-counts, heldOr-kept, heldOr-none}
 use Rattle.export_model.proofs.model_held.Statement.{statement}
 use Rattle.export_model.proofs.model_held.Tie as tie
 
@@ -12,8 +12,9 @@ model-kept-requires : tie.Need-model-kept-requires
 model-kept-requires c κs =
     let xs = c .before .before .before .args .xs .now in
     let fit = sym (c .before .held-number .ensures) ∙ c .if1 .left in
-    let k = held-counts xs fit in
-    (fit, held-length xs fit, k .variables, k .events, k .segments, k .threads)
+    let parts = held-parts xs fit in
+    let k = held-counts xs parts in
+    (parts, held-length xs fit, k .variables, k .events, k .segments, k .threads)
 
 returns-2 : tie.Need-returns-2
 returns-2 c = c .model-kept .ensures ∙ heldOr-kept _ (sym (c .before .before .held-number .ensures) ∙ c .before .if1 .left)

@@ -16,10 +16,11 @@ returns c =
 returns-2 : tie.Need-returns-2
 unfolding choiceFault testFault
 returns-2 c =
-    let u = c .before .before .before in
+    let n = c .before in
+    let u = n .before .before .before in
     let a = u .before .before .before .before .before .before .args in
-    fault-later _ _ _ (sym (u .unless .ensures) ∙ c .before .before .if1 .left)
-    (c .unless2 .ensures ∙ sym (unless-both (a .named) _ 7 (λ z. omega arith)))
+    fault-later _ _ _ (sym (u .unless .ensures) ∙ n .before .before .if1 .left)
+    (rw (← n .is-name .ensures) (c .unless2 .ensures ∙ sym (unless-both (a .named) _ 7 (λ z. omega arith))))
     ∙ unless-both-then (a .short) _ 5 _ (λ z. omega arith)
 
 pub next-fault-spec : {M : Type 1} → statement M
@@ -28,4 +29,4 @@ next-fault-spec =
     (tie.spec (λ c. search needs) (λ c. search needs) (λ c. search needs) (λ c. search needs) (λ c. search needs)
     (λ c. search needs) (λ c. search needs) (λ c. search needs) (λ c. search needs) (λ c. search needs)
     (λ c. search needs) (λ c. search needs) (λ c κs. search needs) returns (λ c. search needs) (λ c κs. search needs)
-    returns-2)
+    (λ c κs. search needs) returns-2)

@@ -73,5 +73,6 @@ pub numbers-into-spec : {M : Type 1} → statement M
 numbers-into-spec =
     tie.close
     (tie.spec (λ c κs. search needs) returns (λ c κs. search needs) (λ c. search needs) (λ c. search needs)
-    (λ c κs. search needs) (λ c. search needs) returns-2 put-head-requires put-segments-requires put-starts-requires
+    (λ c κs. search needs) (λ c. search needs) (λ c. search needs) returns-2 put-head-requires put-segments-requires
+    put-starts-requires
     (λ c. search needs) returns-3)

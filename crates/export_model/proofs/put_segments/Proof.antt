@@ -64,7 +64,7 @@ returns c =
     let s = c .before .before .before .before in
     let m = s .args .t1 in
     let l = c .before .loop in
-    joined-all (s .args .xs .now) (l .xs) 5 (l .i) (m .n) (λ k. segmentNumbers (segmentAt m k)) (omega (arith, l .inv .0)) (l .inv .3)
+    joined-all (s .args .xs .now) (l .xs) 5 5 (l .i) (m .n) (λ k. segmentNumbers (segmentAt m k)) refl (omega (arith, l .inv .0)) (l .inv .3)
 
 pub put-segments-spec : {M : Type 1} → statement M
 put-segments-spec =

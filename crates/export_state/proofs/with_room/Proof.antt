@@ -1,5 +1,5 @@
 -- `export_state::with_room` meets its contract.
-use mathlib.Core.Path.{sym, ap, _∙_}
+use mathlib.Core.Path.{refl, sym, ap, _∙_}
 use mathlib.Core.List.{[]}
 use borrow.Author.Needs.{needs}
 use Rattle.reader.specs.declared.Read.{Read}
@@ -18,21 +18,21 @@ returns c =
 
 returns-2 : tie.Need-returns-2
 returns-2 c =
-    let x = c .before .before .before .before .before .before .before .before .before .before .args in
+    let x = c .before .before .before .before .before .before .before .before .before .args in
     let b = keeps (x .variables .now) (x .log .now) (x .records .now) in
-    let r = c .before .before .before .before .before .read-file in
+    let r = c .before .before .before .before .read-file in
     let fit = ap (λ (y : Read). hasRoom (y .model .t) b) (sym (r .ensures)) ∙ sym (c .before .has-room .ensures) ∙ c .if2 .taken in
-    room-opened (x .file .now) b [] _ (opened-fit (x .file .now) _ _ (r .ensures) (c .before .before .before .if1 .left) fit)
+    room-opened (x .file .now) b [] _ (opened-fit (x .file .now) _ _ (r .ensures) (c .before .before .if1 .left) fit)
 
 returns-3 : tie.Need-returns-3
 returns-3 c =
-    let x = c .before .before .before .before .before .before .before .before .before .before .before .args in
+    let x = c .before .before .before .before .before .before .before .before .before .args in
     let b = keeps (x .variables .now) (x .log .now) (x .records .now) in
-    let r = c .before .before .before .before .before .before .read-file in
-    let fit = ap (λ (y : Read). hasRoom (y .model .t) b) (sym (r .ensures)) ∙ sym (c .before .before .has-room .ensures) ∙ c .before .if2 .left in
-    room-opened (x .file .now) b [] _ (opened-unfit (x .file .now) _ _ (r .ensures) (c .before .before .before .before .if1 .left) fit _ (c .refused .ensures))
+    let r = c .before .before .before .before .read-file in
+    let fit = ap (λ (y : Read). hasRoom (y .model .t) b) (sym (r .ensures)) ∙ sym (c .before .has-room .ensures) ∙ c .if2 .left in
+    room-opened (x .file .now) b [] _ (opened-unfit (x .file .now) _ _ (r .ensures) (c .before .before .if1 .left) fit _ refl)
 
 pub with-room-spec : {M : Type 1} → statement M
 with-room-spec =
     tie.close
-    (tie.spec (λ c κs. search needs) returns (λ c κs. search needs) returns-2 (λ c κs. search needs) returns-3)
+    (tie.spec (λ c κs. search needs) returns (λ c κs. search needs) returns-2 returns-3)

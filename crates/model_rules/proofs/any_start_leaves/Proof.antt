@@ -24,6 +24,9 @@ within c = both-below _ _ 32 (c .loop-test .taken)
 loop-holds : tie.Need-loop-holds Inv-loop μ-loop
 loop-holds c = (omega arith, (omega arith, below-none _))
 
+mul-if1 : tie.Need-mul-if1 Inv-loop μ-loop
+mul-if1 c = let l = within c in omega (arith, l .0, l .1)
+
 element-copy-out-if1 : tie.Need-element-copy-out-if1 Inv-loop μ-loop
 element-copy-out-if1 c = let l = within c in omega (arith, l .0, l .1)
 
@@ -59,5 +62,5 @@ returns-2 c =
 pub any-start-leaves-spec : {M : Type 1} → statement M
 any-start-leaves-spec =
     tie.close
-    (tie.spec Inv-loop μ-loop (λ c. search needs) loop-holds element-copy-out-if1 returns add-k loop-less loop-again
+    (tie.spec Inv-loop μ-loop (λ c. search needs) loop-holds mul-if1 element-copy-out-if1 returns add-k loop-less loop-again
     returns-2)

@@ -9,8 +9,9 @@ use Rattle.model_rules.proofs.counts_fault.Tie as tie
 
 returns : tie.Need-returns
 unfolding countsFault
-returns c = rw (c .or-else .ensures, c .before .before .before .unless .ensures, c .before .unless2 .ensures)
-    (unless-both-then (leb 1 (c .before .before .before .before .before .before .args .m .n)) _ 2 _ (λ z. omega arith))
+returns c =
+    rw (c .or-else .ensures, c .before .before .unless .ensures, c .before .starts-fault .ensures)
+    (unless-both-then (leb 1 (c .before .before .before .before .before .args .m .n)) (leb 1 (c .before .before .before .before .before .args .m .t)) 2 _ (λ z. omega arith))
 
 pub counts-fault-spec : {M : Type 1} → statement M
 counts-fault-spec = tie.close (tie.spec (λ c κs. search needs) (λ c κs. search needs) (λ c κs. search needs) returns)

@@ -1,35 +1,18 @@
--- `model_rules::model_fault` meets its contract: the head, the segments, the counts, the targets.
-use mathlib.Core.Path.{sym, _∙_}
+-- `model_rules::model_fault` meets its contract: all but 18, then 18.
+use mathlib.Core.Path.{refl, sym, _∙_}
 use borrow.Author.Needs.{needs}
-use Rattle.model.specs.Rules.{modelFault}
-use Rattle.model_rules.proofs.FaultLaws.{fault-here, fault-later, segmentsFault-asked}
+use Rattle.model_rules.proofs.FaultLaws.{fault-here, fault-later}
+use Rattle.model_rules.proofs.RuleLaws.{modelFault-parts, parts-linked}
 use Rattle.model_rules.proofs.model_fault.Statement.{statement}
 use Rattle.model_rules.proofs.model_fault.Tie as tie
 
 returns : tie.Need-returns
-unfolding modelFault
-returns c = fault-here _ _ _ (c .before .head-fault .ensures) (c .if1 .taken)
+returns c = fault-here _ _ _ (c .before .parts-fault .ensures) (c .if1 .taken) ∙ sym (modelFault-parts _)
 
 returns-2 : tie.Need-returns-2
-unfolding modelFault
-returns-2 c = fault-later _ _ _ (sym (c .before .before .before .head-fault .ensures) ∙ c .before .before .if1 .left)
-    (fault-here _ _ _ (c .before .first-fault .ensures ∙ segmentsFault-asked _) (c .if2 .taken))
-
-returns-3 : tie.Need-returns-3
-unfolding modelFault
-returns-3 c = fault-later _ _ _ (sym (c .before .before .before .before .before .head-fault .ensures) ∙ c .before .before .before .before .if1 .left)
-    (fault-later _ _ _ (sym (c .before .before .before .first-fault .ensures ∙ segmentsFault-asked _) ∙ c .before .before .if2 .left)
-    (fault-here _ _ _ (c .before .counts-fault .ensures) (c .if3 .taken)))
-
-returns-4 : tie.Need-returns-4
-unfolding modelFault
-returns-4 c = fault-later _ _ _ (sym (c .before .before .before .before .before .before .head-fault .ensures) ∙ c .before .before .before .before .before .if1 .left)
-    (fault-later _ _ _ (sym (c .before .before .before .before .first-fault .ensures ∙ segmentsFault-asked _) ∙ c .before .before .before .if2 .left)
-    (fault-later _ _ _ (sym (c .before .before .counts-fault .ensures) ∙ c .before .if3 .left)
-    (c .targets-fault .ensures)))
+returns-2 c =
+    let none = sym (c .before .before .before .before .parts-fault .ensures) ∙ c .before .before .before .if1 .left in
+    fault-later _ _ _ none (c .lack-in .ensures _ refl refl (parts-linked _ none (c .before .before .lacks .ensures))) ∙ sym (modelFault-parts _)
 
 pub model-fault-spec : {M : Type 1} → statement M
-model-fault-spec =
-    tie.close
-    (tie.spec (λ c κs. search needs) returns (λ c κs. search needs) returns-2 (λ c κs. search needs) returns-3
-    (λ c κs. search needs) returns-4)
+model-fault-spec = tie.close (tie.spec (λ c κs. search needs) returns (λ c κs. search needs) (λ c κs. search needs) returns-2)

@@ -13,9 +13,10 @@ returns c = rw (
   c .or-else .ensures,
   c .before .before .before .unless .ensures,
   c .before .unless2 .ensures,
-  unless-both-then (c .before .before .before .before .before .before .before .args .short) _ 5 _ (λ z. omega arith),
-  unless-both (c .before .before .before .before .before .before .before .args .named) _ 7 (λ z. omega arith),
+  c .before .before .is-name .ensures,
+  unless-both-then _ _ 5 _ (λ z. omega arith),
+  unless-both _ _ 7 (λ z. omega arith),
 )
 
 pub next-fault-spec : {M : Type 1} → statement M
-next-fault-spec = tie.close (tie.spec (λ c κs. search needs) (λ c κs. search needs) (λ c κs. search needs) returns)
+next-fault-spec = tie.close (tie.spec (λ c κs. search needs) (λ c κs. search needs) (λ c κs. search needs) (λ c κs. search needs) returns)

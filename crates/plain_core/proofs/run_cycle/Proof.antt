@@ -9,16 +9,16 @@ use Rattle.plain_core.proofs.run_cycle.Statement.{statement}
 use Rattle.plain_core.proofs.run_cycle.Tie as tie
 
 abbrev Inv-loop : tie.InvT-loop
-Inv-loop code budget ran v₀ state₀ segments₀ told₀ ranges₀ key from to n₀ turn₀ v state segments told ranges n turn = (from ≤ turn) × ((turn ≤ to) × (locals v state segments told ranges n ≡ turnsTo code key budget turn (locals v₀ state₀ segments₀ told₀ ranges₀ n₀)))
+Inv-loop code budget ran v₀ state₀ rows₀ told₀ ranges₀ key from to n₀ turn₀ v state rows told ranges n turn = (from ≤ turn) × ((turn ≤ to) × (locals v state rows told ranges n ≡ turnsTo (λ _. code) key budget turn (locals v₀ state₀ rows₀ told₀ ranges₀ n₀)))
 
 abbrev μ-loop : tie.MeasureT-loop
-μ-loop code budget ran v₀ state₀ segments₀ told₀ ranges₀ key from to n₀ turn₀ v state segments told ranges n turn = to - turn
+μ-loop code budget ran v₀ state₀ rows₀ told₀ ranges₀ key from to n₀ turn₀ v state rows told ranges n turn = to - turn
 
 loop-holds : tie.Need-loop-holds Inv-loop μ-loop
-loop-holds c = (omega arith, (omega (arith, c .pre .0), turnsTo-idle (c .args .code .now) (c .args .due .key) (c .args .budget) _ (c .args .due .from) (c .pre .1 .1 .1)))
+loop-holds c = (omega arith, (omega (arith, c .pre .0), turnsTo-idle (λ _. c .args .code .now) (c .args .due .key) (c .args .budget) _ (c .args .due .from) (c .pre .1 .1 .1)))
 
 look-at-requires : tie.Need-look-at-requires Inv-loop μ-loop
-look-at-requires c κs = (omega arith, c .before .before .before .before .before .before .before .pre .1 .1 .0)
+look-at-requires c κs = let pre = c .before .before .before .before .before .before .before .pre in (omega arith, pre .1 .1 .0)
 
 loop-again : tie.Need-loop-again Inv-loop μ-loop
 loop-again c = (omega arith, (omega arith, turnsTo-next _ _ _ _ _ _ _ (c .before .before .before .before .before .before .before .loop .inv .1 .1) (c .look-at .ensures)))

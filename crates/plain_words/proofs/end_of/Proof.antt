@@ -7,7 +7,7 @@ use Rattle.plain_words.proofs.end_of.Statement.{statement}
 use Rattle.plain_words.proofs.end_of.Tie as tie
 
 returns : tie.Need-returns
-returns c = ap (λ (i : ℕ). getD (c .before .before .args .code .now) (34 * (i % 64)) 0) (c .before .wide .ensures .0)
+returns c = ap (λ (i : ℕ). getD (c .before .before .args .code .now) (34 * (i % 128)) 0) (c .before .wide .ensures .0)
 
 pub end-of-spec : {M : Type 1} → statement M
 end-of-spec =

@@ -1,16 +1,16 @@
 -- `plain_words::execute` meets its contract. The invariant: the first j statements are executed.
-use Prim.Native.Nat.{_+_, _*_, _%_, _≤_, _-_}
+use Prim.Native.Nat.{_+_, _*_, _%_, _≤_, _<_, _-_}
 use mathlib.Core.Path.{_≡_}
 use native.Mathlib.Omega.{arith}
 use lib.ListN.{getD}
 use borrow.Author.Needs.{needs}
 use Rattle.plain_words.specs.Shared.{shared, executeTo}
-use Rattle.plain_words.proofs.ExitLaws.{sizeBy-≤, executeTo-none, executeTo-next, executeBy-as}
+use Rattle.plain_words.proofs.ExitLaws.{sizeBy-<, executeTo-none, executeTo-next, executeBy-as}
 use Rattle.plain_words.proofs.execute.Statement.{statement}
 use Rattle.plain_words.proofs.execute.Tie as tie
 
 abbrev Inv-loop : tie.InvT-loop
-Inv-loop code s v₀ told₀ ranges₀ i base n j₀ v told ranges j = (j ≤ n) × ((n ≤ 32) × (shared v told ranges ≡ executeTo code (34 * (i % 64) + 2) j (shared v₀ told₀ ranges₀)))
+Inv-loop code s v₀ told₀ ranges₀ i base n j₀ v told ranges j = (j ≤ n) × ((n < 64) × (shared v told ranges ≡ executeTo code (34 * (i % 128) + 2) j (shared v₀ told₀ ranges₀)))
 
 abbrev μ-loop : tie.MeasureT-loop
 μ-loop code s v₀ told₀ ranges₀ i base n j₀ v told ranges j = n - j
@@ -18,7 +18,7 @@ abbrev μ-loop : tie.MeasureT-loop
 loop-holds : tie.Need-loop-holds Inv-loop μ-loop
 loop-holds c = let a = c .before .before .before .args in
     let i = c .before .before .wide .result in
-    (omega arith, (omega (arith, c .size-of .ensures, sizeBy-≤ (getD (a .code .now) (34 * (i % 64)) 0)), executeTo-none (a .code .now) (shared (a .v .now) (a .told .now) (a .ranges .now)) (34 * (i % 64) + 2)))
+    (omega arith, (omega (arith, c .size-of .ensures, sizeBy-< (getD (a .code .now) (34 * (i % 128)) 0)), executeTo-none (a .code .now) (shared (a .v .now) (a .told .now) (a .ranges .now)) (34 * (i % 128) + 2)))
 
 loop-again : tie.Need-loop-again Inv-loop μ-loop
 loop-again c = let here = c .before .before .before .before .before .before in

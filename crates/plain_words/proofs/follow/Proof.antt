@@ -17,7 +17,7 @@ returns-2 : tie.Need-returns-2
 returns-2 c = let start = c .before .before .before .before in
     let a = start .before .args in
     c .next-segment .ensures ∙
-    (ap (λ (i : ℕ). nextBy (getD (a .code .now) (34 * (i % 64) + 1) 0) (a .v .now)) (start .wide .ensures .0) ∙
+    (ap (λ (i : ℕ). nextBy (getD (a .code .now) (34 * (i % 128) + 1) 0) (a .v .now)) (start .wide .ensures .0) ∙
     followBy-on (a .code .now) (a .s) (a .v .now) (rw (start .wide .ensures .0) at (c .before .before .if1 .left)))
 
 pub follow-spec : {M : Type 1} → statement M

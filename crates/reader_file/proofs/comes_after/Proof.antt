@@ -1,5 +1,5 @@
 -- `reader_file::comes_after` meets its contract, by the kind that came last.
-use borrow.Author.Tests.{eq-eqb, ne-eqb}
+use borrow.Author.Tests.{ne-eqb}
 use Rattle.reader.specs.Record.{follows}
 use Rattle.reader_file.proofs.comes_after.Statement.{statement}
 use Rattle.reader_file.proofs.comes_after.Tie as tie
@@ -14,23 +14,19 @@ returns-2 c = rw (c .match .keys2)
 
 returns-3 : tie.Need-returns-3
 unfolding follows
-returns-3 c = rw (c .before .match .keys3, eq-eqb _ 2 (c .if1 .taken))
+returns-3 c = rw (c .match .keys3)
 
 returns-4 : tie.Need-returns-4
 unfolding follows
-returns-4 c = rw (c .before .match .keys3, ne-eqb _ 2 (c .if1 .left))
+returns-4 c = rw (c .match .keys4)
 
 returns-5 : tie.Need-returns-5
 unfolding follows
-returns-5 c = rw (c .before .match .keys4, eq-eqb _ 3 (c .if2 .taken))
+returns-5 c = rw (c .match .keys5)
 
 returns-6 : tie.Need-returns-6
 unfolding follows
-returns-6 c = rw (c .before .match .keys4, ne-eqb _ 3 (c .if2 .left))
-
-returns-7 : tie.Need-returns-7
-unfolding follows
-returns-7 c = simp (ne-eqb _ 0 (c .match .rest .0 .0 .0 .1), ne-eqb _ 1 (c .match .rest .0 .0 .1), ne-eqb _ 2 (c .match .rest .0 .1), ne-eqb _ 3 (c .match .rest .1))
+returns-6 c = simp (ne-eqb _ 0 (c .match .rest .0 .0 .0 .0 .1), ne-eqb _ 1 (c .match .rest .0 .0 .0 .1), ne-eqb _ 2 (c .match .rest .0 .0 .1), ne-eqb _ 3 (c .match .rest .0 .1), ne-eqb _ 5 (c .match .rest .1))
 
 pub comes-after-spec : {M : Type 1} → statement M
-comes-after-spec = tie.close (tie.spec returns returns-2 returns-3 returns-4 returns-5 returns-6 returns-7)
+comes-after-spec = tie.close (tie.spec returns returns-2 returns-3 returns-4 returns-5 returns-6)

@@ -1,6 +1,5 @@
 -- `reader_file::framing_fault` meets its contract: 1, then 2, then 3.
 use mathlib.Core.Path.{_∙_, sym}
-use native.Mathlib.Omega.{arith}
 use borrow.Author.Needs.{needs}
 use borrow.Author.Tests.{not-true, not-false}
 use Rattle.reader_file.proofs.RecordLaws.{framingFault-short, framingFault-kind, framingFault-length, framingFault-none}

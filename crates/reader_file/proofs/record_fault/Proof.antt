@@ -1,10 +1,10 @@
--- `reader_file::record_fault` meets its contract: 1 to 3, then 4, then a segment's 5 to 7.
+-- `reader_file::record_fault` meets its contract: 1 to 3, then 4, then a segment's 5 to 7 or the 17 of a thread's ports.
 use mathlib.Core.Path.{sym, _∙_}
 use native.Mathlib.Omega.{arith}
 use borrow.Author.Needs.{needs}
 use denote.Ref.{now}
-use Rattle.reader_file.proofs.RecordLaws.{Opened, opened-length, opened-head}
-use Rattle.reader_file.proofs.BodyLaws.{recordFault-framing, recordFault-count, recordFault-other, recordFault-segment}
+use Rattle.reader_file.proofs.RecordLaws.{Opened, opened-length, opened-head, opened-fits, opened-ports}
+use Rattle.reader_file.proofs.BodyLaws.{recordFault-framing, recordFault-count, recordFault-own}
 use Rattle.reader_file.proofs.record_fault.Statement.{statement}
 use Rattle.reader_file.proofs.record_fault.Tie as tie
 
@@ -27,14 +27,14 @@ count-fault-requires c κs = λ e. omega (arith, opened-head (opened c) e)
 returns-2 : tie.Need-returns-2
 returns-2 c = recordFault-count (opened (c .before .before)) _ _ (c .before .count-fault .ensures) (c .if2 .taken)
 
-returns-3 : tie.Need-returns-3
-returns-3 c = recordFault-other (opened (c .before .before .before)) _ _ (c .before .before .count-fault .ensures) (c .before .if2 .left) (c .if3 .taken)
+own-fault-requires : tie.Need-own-fault-requires
+own-fault-requires c κs = let o = opened (c .before .before) in (opened-fits o, λ e. omega (arith, opened-ports o e))
 
-returns-4 : tie.Need-returns-4
-returns-4 c = recordFault-segment (opened (c .before .before .before .before)) _ _ (c .before .before .before .count-fault .ensures) _ (c .before .before .if2 .left) (c .before .if3 .left) (c .segment-fault .ensures)
+returns-3 : tie.Need-returns-3
+returns-3 c = recordFault-own (opened (c .before .before .before)) _ _ (c .before .before .count-fault .ensures) _ (c .before .if2 .left) (c .own-fault .ensures)
 
 pub record-fault-spec : {M : Type 1} → statement M
 record-fault-spec =
     tie.close
     (tie.spec (λ c κs. search needs) returns (λ c κs. search needs) (λ c κs. search needs) (λ c κs. search needs)
-    slice-aggregate-r count-fault-requires returns-2 returns-3 (λ c κs. search needs) returns-4)
+    slice-aggregate-r count-fault-requires returns-2 own-fault-requires returns-3)

@@ -36,7 +36,7 @@ loop-again c =
     let f : ℕ → List ℕ = λ k. startBytes (startAt x k) in (
       omega arith,
       ⊎-elim
-          (λ w. rw (w .5, w .6) (puts-joined f (l .k) (l .inv .1) (w .2 .ensures)
+          (λ w. rw (w .6, w .7) (puts-joined f (l .k) (l .inv .1) (w .3 .ensures)
           (startBytes-read x (l .k) _ (omega (arith, size, w .0 .taken)))))
           (λ w. rw (w .5, w .6) (puts-joined f (l .k) (l .inv .1) (w .2 .ensures)
           (startBytes-past x (l .k) (omega (arith, size, w .0 .left)))))
@@ -53,5 +53,5 @@ pub put-starts-spec : {M : Type 1} → statement M
 put-starts-spec =
     tie.close
     (tie.spec Inv-loop μ-loop (λ c κs. search needs) (λ c κs. search needs) loop-holds (λ c. omega arith)
-    (λ c κs. search needs) (λ c κs. search needs) (λ c. omega arith) (λ c. omega arith) loop-again (λ c. search needs)
-    returns)
+    (λ c. omega arith) (λ c κs. search needs) (λ c κs. search needs) (λ c. omega arith) (λ c. omega arith) loop-again
+    (λ c. search needs) returns)

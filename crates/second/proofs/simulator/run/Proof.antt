@@ -4,10 +4,10 @@ use Rattle.second.proofs.simulator.run.Statement.{statement}
 use Rattle.second.proofs.simulator.run.Tie as tie
 
 abbrev Inv-loop : tie.InvT-loop
-Inv-loop file s now desk₀ closer i₀ left₀ desk i left = Unit {0}
+Inv-loop file s ports now desk₀ closer i₀ left₀ desk i left = Unit {0}
 
 abbrev μ-loop : tie.MeasureT-loop
-μ-loop file s now desk₀ closer i₀ left₀ desk i left = left
+μ-loop file s ports now desk₀ closer i₀ left₀ desk i left = left
 
 returns : tie.Need-returns Inv-loop μ-loop
 returns c = tt

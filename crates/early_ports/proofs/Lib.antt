@@ -1,0 +1,5 @@
+pub mod NameLaws
+pub mod MapLaws
+pub mod CrossLaws
+pub mod Computed
+pub mod Edges

@@ -1,0 +1,2 @@
+pub mod Lacks
+pub mod Store

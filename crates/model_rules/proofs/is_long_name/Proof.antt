@@ -1,0 +1,13 @@
+-- `model_rules::is_long_name` meets its contract.
+use borrow.Author.Needs.{needs}
+use Rattle.model.specs.Port.{isPort}
+use Rattle.model.specs.Rules.{isName}
+use Rattle.model_rules.proofs.is_long_name.Statement.{statement}
+use Rattle.model_rules.proofs.is_long_name.Tie as tie
+
+returns : tie.Need-returns
+unfolding isName isPort
+returns c = search needs
+
+pub is-long-name-spec : {M : Type 1} → statement M
+is-long-name-spec = tie.close (tie.spec returns)
