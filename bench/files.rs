@@ -58,10 +58,10 @@ fn main() {
         let (a, c) = both(200, 5, &mut || unsafe { teaselauger_load(p, len, w.as_mut_ptr(), 4096) }, &mut || unsafe { native_load(p, len, x.as_mut_ptr(), 4096) });
         assert_eq!(w, x);
         println!("| {name} | {len} | load | {a:.0} | {c:.0} | {:.2} |", a / c);
-        let (mut xs, mut y, mut z, mut l, mut o) = (vec![0u32; 6693], vec![0u8; 13550], vec![0u8; 13550], 0u64, 0u64);
+        let (mut xs, mut y, mut z, mut l, mut o) = (vec![0u32; 6949], vec![0u8; 13934], vec![0u8; 13934], 0u64, 0u64);
         assert_eq!(unsafe { teaselauger_model(p, len, xs.as_mut_ptr(), xs.len()) }, 0);
         let q = xs.as_ptr();
-        let (a, c) = both(200, 20, &mut || unsafe { teaselauger_write(black_box(q), 6693, y.as_mut_ptr(), 13550, &mut l, 1) }, &mut || unsafe { native_write(black_box(q), 6693, z.as_mut_ptr(), 13550, &mut o, 1) });
+        let (a, c) = both(200, 20, &mut || unsafe { teaselauger_write(black_box(q), 6949, y.as_mut_ptr(), 13934, &mut l, 1) }, &mut || unsafe { native_write(black_box(q), 6949, z.as_mut_ptr(), 13934, &mut o, 1) });
         assert!(y == z && y[..len] == b[..] && l == len as u64 && o == l);
         println!("| {name} | {len} | write | {a:.0} | {c:.0} | {:.2} |", a / c);
     }

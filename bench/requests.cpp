@@ -10,13 +10,35 @@ static const uint64_t ONES = ~0ull, FAR = 1000000001ull << 10;
 static B plus(B x, B d) { return x == NEVER || d == NEVER ? NEVER : d < 65536 ? x + d : (x >> 16 << 16) + d; }
 static B at(uint64_t t, uint32_t d) { return t << 16 | d; }
 
+// What a segment names, a bit each: variables named directly, and ports.
+struct Names {
+  uint64_t variables;
+  uint8_t ports;
+
+  void add(uint32_t x) {
+    if (is_port(x)) ports |= 1u << (x - PORT);
+    else variables |= 1ull << x;
+  }
+
+  // The variables that they are in a thread with these ports; an unused port names nothing.
+  uint64_t mapped(const uint8_t *port) const {
+    uint64_t out = variables;
+    for (uint32_t left = ports; left; left &= left - 1) {
+      uint8_t v = port[__builtin_ctz(left)];
+      if (v != UNUSED) out |= 1ull << v;
+    }
+    return out;
+  }
+};
+
 struct Rec { uint8_t seg, st, ev; uint64_t t; uint32_t d; };
 struct Pair { uint8_t e; uint64_t t; uint32_t d; };
 
 struct Kit {
   Model m;
+  Code code;
   B dist[64][64];
-  bool mark[64][64];
+  uint64_t uses[32][64], writes[32][64];  // of each thread in each segment, after mapping
   uint32_t tells[64];
   uint32_t v[64];
   Rec r[32];
@@ -25,6 +47,7 @@ struct Kit {
 
   void tables() {
     int n = m.n;
+    code.map(m);
     static uint64_t w[64 * 64];
     for (int i = 0; i < n; i++) {
       const Segment &g = m.segment[i];
@@ -42,23 +65,26 @@ struct Kit {
       }
     for (int i = 0; i < n; i++)
       for (int j = 0; j < n; j++) dist[i][j] = w[i * n + j] >= FAR ? NEVER : at(w[i * n + j] >> 10, w[i * n + j] & 1023);
-    uint64_t uses[64], writes[64];
     for (int i = 0; i < n; i++) {
       const Segment &g = m.segment[i];
-      uses[i] = g.kind && g.test != 255 ? 1ull << g.test : 0;
-      writes[i] = 0;
+      Names used{}, written{};
+      if (g.kind && g.test != NO_TEST) used.add(g.test);
       tells[i] = 0;
       for (int j = 0; j < g.n; j++) {
         const Statement &s = g.body[j];
         if (s.op == NOTIFY) { tells[i] |= 1u << s.a; continue; }
-        writes[i] |= 1ull << s.a;
-        if (s.op >= 3) uses[i] |= 1ull << s.b;
+        written.add(s.a);
+        if (s.op >= 3) used.add(s.b);
       }
-      uses[i] |= writes[i];
+      for (int k = 0; k < m.t; k++) {
+        writes[k][i] = written.mapped(m.port[k]);
+        uses[k][i] = used.mapped(m.port[k]) | writes[k][i];
+      }
     }
-    for (int i = 0; i < n; i++)
-      for (int j = 0; j < n; j++) mark[i][j] = uses[i] & uses[j] & (writes[i] | writes[j]);
   }
+
+  // Whether thread i in segment r conflicts with thread j in segment s.
+  bool conflict(int i, int r, int j, int s) { return uses[i][r] & uses[j][s] & (writes[i][r] | writes[j][s]); }
 
   void fresh() {
     memset(v, 0, sizeof v);
@@ -114,7 +140,7 @@ struct Kit {
     for (int j = 0; j < m.t; j++)
       if (j != i && live(j))
         for (int s = 0; s < m.n; s++)
-          if (mark[r[i].seg][s]) {
+          if (conflict(i, r[i].seg, j, s)) {
             B b = plus(x[j], dist[r[j].seg][s]);
             if (b < c || (b == c && j < i)) return true;
           }
@@ -133,7 +159,7 @@ struct Kit {
     if (r[k].st != READY) return 12;
     if (r[k].t > m.horizon) return 13;
     if (hazard(k)) return 14;
-    const Segment &g = m.segment[r[k].seg];
+    const Segment &g = code.of[k][r[k].seg];
     uint64_t t = r[k].t;
     uint32_t d = r[k].d;
     int full = count;

@@ -16,12 +16,14 @@ static const uint64_t NEVER = ~0ull;
 
 struct Engine {
   const Model &m;
+  Code code;
   uint32_t variable[64] = {}, waiting[32] = {};  // waiting: for each event a bit for each thread
   uint64_t ready[32], since[32] = {}, n = 0;     // ready: its cycle, or never
   uint8_t segment[32] = {}, event[32] = {};
   State state[32] = {};
 
   explicit Engine(const Model &model) : m(model) {
+    code.map(m);
     std::fill(ready, ready + 32, NEVER);
     for (int k = 0; k < m.t; k++) ready[k] = 0, segment[k] = m.first[k], state[k] = READY;
   }
@@ -35,7 +37,7 @@ struct Engine {
 
   // Runs the segment of thread k; the events that it notifies are added to the bits of told.
   void run(int k, uint64_t now, uint32_t &told) {
-    const Segment &s = m.segment[segment[k]];
+    const Segment &s = code.of[k][segment[k]];
     execute(s, variable, [&](uint8_t e) { told |= 1u << e; });
     n++;
     if (s.kind == 0) return rest(k, ENDED, now);

@@ -17,6 +17,7 @@
 using namespace sc_core;
 
 static Model m;
+static Code code;
 static Run run;
 static uint64_t budget = 1000000;
 
@@ -83,7 +84,7 @@ struct Site : sc_module {
   // One segment and its wait. Whether the thread goes on.
   bool step(int k) {
     if (!may_run(k)) return false;
-    const Segment &s = m.segment[run.thread[k].segment];
+    const Segment &s = code.of[k][run.thread[k].segment];
     if (!run_segment(k, s)) return false;
     if (s.kind == 2) wait(event[s.event]);
     else wait(s.delay ? units(s.delay) : SC_ZERO_TIME);
@@ -97,7 +98,7 @@ struct Site : sc_module {
   // Called once for each segment; a method that asks for no trigger does not run again.
   void method(int k) {
     if (!may_run(k)) return;
-    const Segment &s = m.segment[run.thread[k].segment];
+    const Segment &s = code.of[k][run.thread[k].segment];
     if (!run_segment(k, s)) return;
     if (s.kind == 2) next_trigger(event[s.event]);
     else next_trigger(s.delay ? units(s.delay) : SC_ZERO_TIME);
@@ -142,6 +143,7 @@ int sc_main(int argc, char **argv) {
     else return 2;
   }
   if (!accepted(m)) return 0;
+  code.map(m);
   sc_report_handler::set_actions(SC_INFO, SC_DO_NOTHING);
   Site site("site", style);
   auto start = std::chrono::steady_clock::now();

@@ -1,9 +1,9 @@
 /* Teaselauger for C: a model file's number, tables and sheet, requests one at a time or as a list, and models as numbers, to be drawn,
  * changed and saved.
  *
- * Every call answers for every argument. A number of refusal is 1 to 16 (docs/REFUSALS.md lists them, docs/RULES.md says exactly
+ * Every call answers for every argument. A number of refusal is 1 to 18 (docs/REFUSALS.md lists them, docs/RULES.md says exactly
  * when each applies); 0 says that there is none. Of several that apply the first is answered, in one order in all calls: the reader's
- * number of the file (1 to 9); 11 for a buffer of the state, of the answer or of the answers that is too short, or for numbers that are
+ * number of the file (1 to 9, 17, 18); 11 for a buffer of the state, of the answer or of the answers that is too short, or for numbers that are
  * none of a state; 16 for too few words of a table that is to be made; then a request's own numbers, 11, 10, 12, 13, 14, 15. Beside
  * each call stands after the word ORDER which of these it has. On a refusal every buffer holds what it held.
  *
@@ -21,7 +21,7 @@
  * buffers that a call is given overlap. Words past those that a call speaks of are neither read nor written.
  *
  * The library holds no state, uses no heap, and reads and writes nothing but the buffers: several threads may call it at once,
- * each with its own buffers. A call needs at most 179 KB of stack (bench/stack.sh measures it).
+ * each with its own buffers. A call needs at most 186 KB of stack (bench/stack.sh measures it).
  *
  * Link target/staticlib/libexports.a (`rt staticlib exports` makes it), x86-64.
  */
@@ -49,18 +49,23 @@ extern "C" {
 /* Bytes that are enough for every sheet. */
 #define TEASELAUGER_SHEET 8192
 /* A model as numbers of 32 bits: H, V, E, N, T; then 104 for each segment: the closer's kind (0 end, 1 wait for time, 2 wait for event),
- * event, delay, A, B, test, limit, then n, then 32 places of 3 numbers for statements: operation, a, b; then the first segment of each
- * thread. Places past n are not looked at. A model of n segments and t threads has so many; the largest has 6,693. */
-#define TEASELAUGER_NUMBERS(n, t) (5 + 104 * (n) + (t))
-#define TEASELAUGER_MODEL 6693
+ * event, delay, A, B, test, limit, then n, then 32 places of 3 numbers for statements: operation, a, b; then 9 for each thread: its first
+ * segment, and the variables of its ports 0 to 7. Places past n are not looked at. A model of n segments and t threads has so many; the
+ * largest has 6,949. */
+#define TEASELAUGER_NUMBERS(n, t) (5 + 104 * (n) + 9 * (t))
+#define TEASELAUGER_MODEL 6949
+/* The number by which a statement or a test names port p, 0 to 7, in place of a variable; and the variable of a port that a thread leaves
+ * unused. */
+#define TEASELAUGER_PORT(p) (128 + (p))
+#define TEASELAUGER_UNUSED 255
 /* Bytes that are enough for every model file. */
-#define TEASELAUGER_FILE 13550
+#define TEASELAUGER_FILE 13934
 
 /* States of a thread record. The segment of a record is the next to run; of an ended thread, the last that ran. The cycle is that
  * at which it is ready, ended or overrun, or in which its wait began. */
 enum { TEASELAUGER_ENDED, TEASELAUGER_OVERRUN, TEASELAUGER_READY, TEASELAUGER_WAITING };
 
-/* The reader's number of a model file: 0, or 1 to 9.
+/* The reader's number of a model file: 0, or 1 to 9, 17 or 18.
  * ORDER: as docs/RULES.md, 7, has it for a file. */
 uint8_t teaselauger_read(const uint8_t *file, size_t file_count);
 
@@ -82,7 +87,8 @@ uint8_t teaselauger_fresh(const uint8_t *file, size_t file_count, uint32_t *vari
  * time and delta (3 words), and the buffers the state after it.
  * ORDER: the reader's number; 11 for a buffer that is too short, for a count of the log above 128, or for a number that no state has in
  * the record of a thread or in a place below the count (a state above 3, an event beside a state that does not wait, a segment or
- * event above 255, a delta above 4,294,967,295); the request's own 11 (fewer than N x N words among them), 10, 12, 13, 14, 15. */
+ * event above 255, a delta above 4,294,967,295); the request's own 11 (fewer than N x N words among them, and a record from
+ * whose segment its thread could reach a port that it leaves unused), 10, 12, 13, 14, 15. */
 uint8_t teaselauger_request(const uint8_t *file, size_t file_count, const uint64_t *words, size_t words_count, uint32_t *variables,
                             size_t variables_count, uint64_t *log, size_t log_count, uint64_t *records, size_t records_count,
                             uint8_t thread, uint64_t *answer, size_t answer_count);
@@ -96,15 +102,16 @@ uint8_t teaselauger_replay(const uint8_t *file, size_t file_count, uint64_t *wor
                            size_t threads_count, uint64_t *answers, size_t answers_count, uint32_t *variables,
                            size_t variables_count, uint64_t *log, size_t log_count, uint64_t *records, size_t records_count);
 
-/* The model of a file as numbers, TEASELAUGER_NUMBERS(N, T) of them, zero past each n: 0 where they are there.
+/* The model of a file as numbers, TEASELAUGER_NUMBERS(N, T) of them, zero past each n, with TEASELAUGER_UNUSED for each unused port: 0
+ * where they are there.
  * ORDER: the reader's number; 16 for fewer numbers than the model has. */
 uint8_t teaselauger_model(const uint8_t *file, size_t file_count, uint32_t *numbers, size_t numbers_count);
 
 /* The model file of a model held as numbers: 0 where it is written, and then length has how many bytes it takes (1 word); bytes of out
  * past them stay. The model is judged as the reader would judge that file, numbers above 255 in a field of one byte included: they are
- * no variable, event, segment, kind or operation.
- * ORDER: 11 for no place for the length, or for fewer numbers than N and T ask for; 2 to 8, in file order; 16 for an output that is
- * too short. */
+ * no variable, port, event, segment, kind or operation. A thread whose eight ports are all TEASELAUGER_UNUSED has no record of ports.
+ * ORDER: 11 for no place for the length, or for fewer numbers than N and T ask for; 2 to 7 and 17, in file order, then 8, then 18; 16 for
+ * an output that is too short. */
 uint8_t teaselauger_write(const uint32_t *numbers, size_t numbers_count, uint8_t *out, size_t out_count, uint64_t *length,
                           size_t length_count);
 

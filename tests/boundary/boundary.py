@@ -129,7 +129,7 @@ def damaged(r, file):
     if kind == 1:
         return bytes(b) + bytes(r.randrange(256) for _ in range(r.randrange(1, 9)))
     for _ in range(r.randrange(1, 4)):
-        b[r.randrange(len(b))] = r.randrange(256) if kind == 2 else r.choice([0, 1, 31, 32, 63, 64, 255])
+        b[r.randrange(len(b))] = r.randrange(256) if kind == 2 else r.choice([0, 1, 31, 32, 63, 64, 128, 135, 136, 255])
     return bytes(b)
 
 
@@ -138,6 +138,26 @@ def segments(file):
     while file[at + 2] == 2:
         at, n = at + file[at] + 256 * file[at + 1], n + 1
     return n
+
+
+def lacking(file):
+    """Of an accepted file: the pairs of a thread and a segment from which it could reach a port that it leaves unused."""
+    ways, needs, ports, at = [], [], [], 10
+    while file[at + 2] != 4:
+        r = file[at:at + file[at] + 256 * file[at + 1]]
+        if r[2] == 2:
+            statements = [r[i:i + 6] for i in range(17, len(r), 6) if r[i] != 6]
+            names = {s[1] for s in statements} | {s[2] for s in statements if s[0] > 2} | {r[12]}
+            needs.append({x - 128 for x in names if 128 <= x < 136})
+            ways.append(r[10:12] if r[4] else b"")
+        elif r[2] == 3:
+            ports.append(b"\xff" * 8)
+        else:
+            ports[-1] = r[4:]
+        at += len(r)
+    for _ in ways:
+        needs = [x.union(*[needs[s] for s in way]) for x, way in zip(needs, ways)]
+    return [(k, s) for k, eight in enumerate(ports) for s, x in enumerate(needs) if any(eight[p] == 255 for p in x)]
 
 
 def state_lines(v, t, variables, log, records):
@@ -258,7 +278,8 @@ def no_states(r, t, state):
 
 
 def edges(r, file, n, t, state):
-    """The least numbers that do not fit the model (docs/RULES.md, 7): in a record below T, in the log below its count, in the words."""
+    """The least numbers that do not fit the model (docs/RULES.md, 7): in a record below T, in the log below its count, in the words. The
+    ports are tried apart."""
     k, count = r.randrange(t), state["log"][0]
     yield from [("records", 5 * k, n), ("records", 5 * k + 3, 2 * 10**9 + 1), ("records", 5 * k + 4, 1024)]
     if state["records"][5 * k + 1] == 3:
@@ -291,16 +312,18 @@ def changed(given, p, at, value):
 
 def check_out_of_range(c, r, file, t, given):
     """What is refused with 11 whatever the thread; just below it a number is used as given. How many calls."""
-    least = [*edges(r, file, segments(file), t, given)]
+    least, unused = [*edges(r, file, segments(file), t, given)], [("records", 5 * k, s) for k, s in lacking(file)]
     wrong = [*no_states(r, t, given), *least, ("log", 0, 255), ("words", r.randrange(segments(file) ** 2), NEVER - 1)]
+    wrong += r.sample(unused, min(len(unused), 9))
     for p, at, value in wrong:
         for k in [given["thread"], 255]:
             c.refused("request", 11, {**changed(given, p, at, value), "thread": k}, "%s %d is %d" % (p, at, value))
-    for p, at, value in least:
+    fits = [x for x in least if (x[0], x[1], x[2] - 1) not in unused]
+    for p, at, value in fits:
         number, _ = c.call("request", changed(given, p, at, value - 1))
         assert number != 11, "request, %s %d is %d: 11" % (p, at, value - 1)
         c.refused("request", 10, {**changed(given, p, at, value - 1), "thread": t}, "%s %d is %d, thread T" % (p, at, value - 1))
-    return 2 * len(wrong) + 2 * len(least)
+    return 2 * len(wrong) + 2 * len(fits)
 
 
 def check_unjudged(c, r, file, t, given):

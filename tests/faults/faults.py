@@ -3,7 +3,7 @@
 
     faults.py [WORD]      only the faults whose name has WORD
 
-Nothing is proved: the tests are run by `rt try`, `versus` on its first 60 generated models, `test_files` on all its files and runs. First both
+Nothing is proved: the tests are run by `rt try`, `versus` on its first 100 generated models, `test_files` on all its files and runs. First both
 run without a fault. A fault is caught by `versus` if it writes a line `difference:`, by `test_files` if it writes anything else than its file `stdout`.
 A text that is not in its file exactly once is gone: the table below is then to be brought up to date. The exit status is 0 if every fault was
 planted and caught by each test named beside it.
@@ -17,7 +17,7 @@ import tempfile
 
 ROOT = pathlib.Path(__file__).resolve().parents[2]
 MAIN = "versus/src/main.rt"
-MODELS = (MAIN, "const MODELS: u64 = 2400;", "const MODELS: u64 = 60;")
+MODELS = (MAIN, "const MODELS: u64 = 2400;", "const MODELS: u64 = 100;")
 DRAWN_FIRST = (MAIN, "    all_stored();\n    all_drawn();\n", "    all_drawn();\n    all_stored();\n")
 SEED = 24000
 PLAIN, EARLY = ["versus"], ["versus", "test_files"]
@@ -30,13 +30,17 @@ FAULTS = [
     (PLAIN, "overrun at 1,024", "plain_core/src/lib.rt", "if key % 1024 < 1023 {", "if key % 1024 < 1024 {"),
     (PLAIN, "one segment over the budget", "plain_core/src/lib.rt", "if budget <= n {", "if budget < n {"),
     (PLAIN, "the limit counted in", "plain_words/src/lib.rt", "if x < next / 16777216 {", "if x <= next / 16777216 {"),
-    (EARLY, "a hazard of the segments that threads are in now alone", "early_ahead/src/lib.rt", "        if row[s] {", "        if row[s] && s == q {"),
+    (PLAIN, "the ports of thread 0", "plain_words/src/lib.rt", "code[2176 + 8 * turn + p] % 256", "code[2176 + p] % 256"),
+    (PLAIN, "a row keeps the first segment with a port", "plain_words/src/lib.rt", "if held[turn] == s {", "if held[turn] < 64 {"),
+    (EARLY, "a hazard of the segments that threads are in now alone", "early_ahead/src/lib.rt", "        if conflicts_at(row, own, names, ports, s) {", "        if conflicts_at(row, own, names, ports, s) && s == q {"),
     (EARLY, "the first notification logged, not the least", "early_log/src/lib.rt", "best = clock::least_of(Bound::At(c), best);", "best = Bound::At(c);"),
     (EARLY, "a notification in the cycle of the wait is lost", "early_log/src/lib.rt", "return !clock::is_before(c, since);", "return clock::is_before(since, c);"),
     (EARLY, "a forecast equal to the logged cycle", "early_deliver/src/lib.rt", "xs, t, e) < early_ahead::limit_of(c) {", "xs, t, e) <= early_ahead::limit_of(c) {"),
     (EARLY, "96 counted in", "early_request/src/lib.rt", "    if n <= 96 {", "    if n < 96 {"),
     (EARLY, "notifications at the floor dropped", "early_log/src/lib.rt", "    clock::is_before(c, f)\n", "    !clock::is_before(f, c)\n"),
     (EARLY, "equal cycles are no hazard", "early_ahead/src/lib.rt", "        return j < i;\n", "        return false;\n"),
+    (EARLY, "a conflict through a port only if both use one", "early_ports/src/lib.rt", "(a.ported | b.ported)", "(a.ported & b.ported)"),
+    (EARLY, "a granted segment with ports not mapped", "early_request/src/lib.rt", "run_grant(reach, t, own, ", "run_grant(reach, t, g, "),
 ]
 
 

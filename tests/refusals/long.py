@@ -3,7 +3,7 @@
 
     rt check plainrun replayrun && python3 tests/refusals/long.py
 
-No legal file is longer than 13,550 bytes, so a file reaches the cut only after its end record (9), or by one long record. Such a record has
+No legal file is longer than 13,934 bytes, so a file reaches the cut only after its end record (9), or by one long record. Such a record has
 a length that is not its kind's (3) if it ends at byte 65,536 or before, and goes past the end of what is read (1) if it ends later.
 """
 import pathlib
@@ -38,6 +38,8 @@ FILES = [
     ("an end in the wrong place whose last byte is past the cut", 1, HEAD + record(4, READ - 9) + THREAD),
     ("a thread that ends at the cut", 3, HEAD + SEGMENT + record(3, READ - 27) + END),
     ("a thread whose last byte is past the cut", 1, HEAD + SEGMENT + record(3, READ - 26) + END),
+    ("ports that end at the cut", 3, HEAD + SEGMENT + THREAD + record(5, READ - 32) + END),
+    ("ports whose last byte is past the cut", 1, HEAD + SEGMENT + THREAD + record(5, READ - 31) + END),
     ("segments past the cut", 4, HEAD + SEGMENT * 5000 + THREAD + END),
     ("threads past the cut", 4, HEAD + SEGMENT + THREAD * 15000 + END),
 ]

@@ -16,7 +16,8 @@ sys.path.insert(0, os.path.join(HERE, "../boundary"))
 import boundary
 
 ROOT = boundary.ROOT
-SEGMENT = 104
+SEGMENT, START, LARGEST = 104, 9, 13934
+UNUSED = [255] * 8
 boundary.PARAMETERS.update(model=["file", "numbers"], write=["numbers", "out", "length"])
 boundary.ONLY_READ["write"] = ["numbers"]
 boundary.ELEMENTS["numbers"] = "I"
@@ -43,10 +44,12 @@ def decoded(file):
             kind, event, delay, a, b, test, limit = struct.unpack("<BBIBBBI", r[4:17])
             body = [x for i in range(17, size, 6) for x in struct.unpack("<BBI", r[i:i + 6])]
             segments += [kind, event, delay, a, b, test, limit, len(body) // 3] + body + [0] * (96 - len(body))
+        elif r[2] == 3:
+            threads += [r[4], *UNUSED]
         else:
-            threads.append(r[4])
+            threads[-8:] = r[4:]
         at += size
-    return [*head, len(segments) // SEGMENT, len(threads), *segments, *threads]
+    return [*head, len(segments) // SEGMENT, len(threads) // START, *segments, *threads]
 
 
 def encoded(xs):
@@ -59,7 +62,10 @@ def encoded(xs):
             if g[7] > 32: return None
             out += struct.pack("<HHBBIBBBI", 17 + 6 * g[7], 2, *g[:7])
             for j in range(g[7]): out += struct.pack("<BBI", *g[8 + 3 * j:11 + 3 * j])
-        for first in xs[5 + SEGMENT * n:][:t]: out += struct.pack("<HHB", 5, 3, first)
+        for k in range(t):
+            first, *ports = xs[5 + SEGMENT * n + START * k:][:START]
+            out += struct.pack("<HHB", 5, 3, first)
+            if ports != UNUSED: out += struct.pack("<HH8B", 12, 5, *ports)
     except struct.error:
         return None
     return out + struct.pack("<HH", 4, 4)
@@ -67,7 +73,7 @@ def encoded(xs):
 
 def spoilt(r, xs):
     """The numbers with one changed, a count never to more than there is."""
-    xs = list(xs)
+    xs, n = list(xs), xs[3]
     places = [0, 1, 2] + [3, 4] * (r.randrange(8) == 0)
     for i in range(xs[3]):
         p = 5 + SEGMENT * i
@@ -77,8 +83,8 @@ def spoilt(r, xs):
     at = r.choice(places)
     if at in (3, 4):
         xs[at] = 0
-        return xs[:5] + ([] if at == 3 else xs[5:5 + SEGMENT * xs[3]]) + (xs[5 + SEGMENT * (len(xs) // SEGMENT):] if at == 3 else [])
-    xs[at] = r.choice([0, 1, 2, 3, 5, 6, 7, 31, 32, 63, 64, 65, 254, 255, 256, 257, 10**9, 10**9 + 1, 2**32 - 1, xs[at] ^ 1])
+        return xs[:5] + (xs[5 + SEGMENT * n:] if at == 3 else xs[5:5 + SEGMENT * n])
+    xs[at] = r.choice([0, 1, 2, 3, 5, 6, 7, 31, 32, 63, 64, 65, 127, 128, 135, 136, 254, 255, 256, 257, 384, 511, 10**9, 10**9 + 1, 2**32 - 1, xs[at] ^ 1])
     return xs
 
 
@@ -120,7 +126,7 @@ class Writer:
 
     def check_spoilt(self, xs):
         """One number changed: what the reader says of the file that holds the numbers. Whether there is such a file."""
-        file, (number, written) = encoded(xs), self.write(xs, 13550)
+        file, (number, written) = encoded(xs), self.write(xs, LARGEST)
         if file is None:
             assert number != 0, "write: numbers that no file holds"
             return False
@@ -133,21 +139,39 @@ class Writer:
         """By hand, from document 02 and the order of document 01."""
         end, wait = [0] * 8 + [0] * 96, [1, 0, 5, 0, 0, 255, 0, 0] + [0] * 96
         def segment(closer, n, *statements): return list(closer) + [n] + [x for s in statements for x in s] + [0] * (96 - 3 * len(statements))
+        def start(first=0, *ports): return [first, *ports, *UNUSED[len(ports):]]
         two = segment([0] * 7, 2, (1, 1, 1), (5, 0, 1))
-        for number, xs in [
-                (2, [10, 0, 0, 0, 1, 0]), (2, [10, 0, 0, 1, 0] + end), (4, [0, 0, 0, 0, 1, 0]),
-                (3, [10, 0, 0, 1, 1] + segment([3] + [0] * 6, 33) + [0]), (5, [10, 0, 0, 1, 1] + segment([3] + [0] * 6, 32) + [0]),
-                (5, [10, 0, 0, 65, 1] + end * 2 + segment([3] + [0] * 6, 0) + end * 62 + [0]), (4, [10, 0, 0, 65, 1] + end * 65 + [0]),
-                (3, [10, 0, 0, 65, 1] + end * 64 + segment([0] * 7, 33) + [0]), (4, [10, 0, 0, 1, 33] + end + [0] * 33),
-                (5, [10, 0, 0, 1, 1] + segment([257] + [0] * 6, 0) + [0]), (7, [10, 0, 1, 1, 1] + segment([2, 256, 0, 0, 0, 255, 0], 0) + [0]),
-                (7, [10, 1, 0, 1, 1] + segment([1, 0, 1, 0, 0, 511, 0], 0) + [0]), (6, [10, 1, 0, 1, 1] + segment([0] * 7, 1, (257, 0, 0)) + [0]),
-                (7, [10, 1, 0, 1, 1] + segment([0] * 7, 1, (1, 256, 0)) + [0]), (8, [10, 0, 0, 1, 1] + end + [256]),
-                (8, [10, 0, 0, 1, 1] + segment([1, 0, 1, 256, 256, 255, 0], 0) + [0]), (4, [10, 256, 0, 1, 1] + end + [0]), (0, [10, 2, 0, 1, 1] + two + [0]),
-                (0, [10, 0, 0, 1, 1] + wait + [0])]:
-            for room in (13550, 0):
+        named, ways = segment([0] * 7, 1, (1, 128, 1)), segment([1, 0, 1, 0, 1, 0, 0], 0)
+        loops = [10, 2, 0, 2, 2] + segment([1, 0, 3, 0, 1, 128, 2], 1, (2, 128, 1)) + end + start(0, 0) + start(0, 1)
+        edges = [
+            (2, [10, 0, 0, 0, 1] + start()), (2, [10, 0, 0, 1, 0] + end), (4, [0, 0, 0, 0, 1] + start()),
+            (3, [10, 0, 0, 1, 1] + segment([3] + [0] * 6, 33) + start()), (5, [10, 0, 0, 1, 1] + segment([3] + [0] * 6, 32) + start()),
+            (5, [10, 0, 0, 65, 1] + end * 2 + segment([3] + [0] * 6, 0) + end * 62 + start()), (4, [10, 0, 0, 65, 1] + end * 65 + start()),
+            (3, [10, 0, 0, 65, 1] + end * 64 + segment([0] * 7, 33) + start()), (4, [10, 0, 0, 1, 33] + end + start() * 33),
+            (5, [10, 0, 0, 1, 1] + segment([257] + [0] * 6, 0) + start()), (7, [10, 0, 1, 1, 1] + segment([2, 256, 0, 0, 0, 255, 0], 0) + start()),
+            (7, [10, 1, 0, 1, 1] + segment([1, 0, 1, 0, 0, 511, 0], 0) + start()), (6, [10, 1, 0, 1, 1] + segment([0] * 7, 1, (257, 0, 0)) + start()),
+            (7, [10, 1, 0, 1, 1] + segment([0] * 7, 1, (1, 256, 0)) + start()), (8, [10, 0, 0, 1, 1] + end + start(256)),
+            (8, [10, 0, 0, 1, 1] + segment([1, 0, 1, 256, 256, 255, 0], 0) + start()), (4, [10, 256, 0, 1, 1] + end + start()), (0, [10, 2, 0, 1, 1] + two + start()),
+            (0, [10, 0, 0, 1, 1] + wait + start())]
+        # 17: neither 255 nor below V, in file order; all eight unused is no fault
+        edges += [(17, [10, 1, 0, 1, 1] + end + start(0, *UNUSED[:p], x)) for p in range(8) for x in (1, 128, 254, 256, 511, 2**32 - 1)]
+        edges += [
+            (17, [10, 0, 0, 1, 1] + end + start(0, 0)), (0, [10, 1, 0, 1, 1] + end + start(0, *UNUSED[:7], 0)), (0, [10, 1, 0, 1, 1] + end + start()),
+            (17, [10, 1, 0, 1, 1] + end + start(9, 1)), (17, [10, 1, 0, 1, 2] + end + start(9) + start(0, 1)), (2, [10, 1, 0, 0, 1] + start(0, 1)),
+            (17, [10, 1, 0, 1, 33] + end + start(0, 1) + start() * 32), (4, [10, 1, 0, 1, 33] + end + start() * 32 + start(0, 1)), (17, [10, 1, 0, 1, 1] + named + start(0, 1))]
+        # 7: a number that is no port; 18 after 8, by the graph
+        edges += [(7, [10, 1, 0, 1, 1] + segment([0] * 7, 1, s) + start(0, 0)) for x in (127, 136, 384, 391) for s in ((1, x, 0), (3, 0, x))]
+        edges += [(7, [10, 1, 0, 1, 1] + segment([1, 0, 1, 0, 0, x, 0], 0) + start(0, 0)) for x in (127, 136, 384)] + [(7, [10, 1, 1, 1, 1] + segment([0] * 7, 1, (6, 128, 0)) + start(0, 0))]
+        edges += [
+            (18, [10, 1, 0, 1, 1] + named + start()), (18, [10, 1, 0, 1, 1] + named + start(0, 255, 0)), (0, [10, 1, 0, 1, 1] + named + start(0, 0)), (18, [10, 0, 0, 1, 1] + named + start()),
+            (18, [10, 1, 0, 2, 1] + ways + named + start()), (0, [10, 1, 0, 2, 1] + end + named + start()), (8, [10, 1, 0, 1, 2] + named + start() + start(1)),
+            (18, [10, 1, 0, 2, 2] + ways + named + start(0, 0) + start(1)), (0, loops)]
+        for number, xs in edges:
+            for room in (LARGEST, 0):
                 expected = number or (0 if room else 16)
                 assert self.write(xs, room)[0] == expected, "edge of %d, %d bytes: %d" % (number, room, self.write(xs, room)[0])
-        assert len(self.write([10, 2, 0, 1, 1] + two + [0], 48)[1]) == 48 and self.write([10, 2, 0, 1, 1] + two + [0], 47)[0] == 16
+        for size, xs in [(48, [10, 2, 0, 1, 1] + two + start()), (88, loops), (36, [10, 1, 0, 1, 1] + end + start()), (48, [10, 1, 0, 1, 1] + end + start(0, 0))]:
+            assert len(self.write(xs, size)[1]) == size and self.write(xs, size - 1)[0] == 16, "a file of %d bytes" % size
 
 
 def main(count, seed):

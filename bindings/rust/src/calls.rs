@@ -7,8 +7,8 @@ pub const LOG: usize = 385;
 pub const RECORDS: usize = 160;
 pub const ANSWER: usize = 3;
 pub const SHEET: usize = 8192;
-pub const MODEL: usize = 6693;
-pub const FILE: usize = 13550;
+pub const MODEL: usize = 6949;
+pub const FILE: usize = 13934;
 
 /// The distance table of the largest model has as many words.
 pub type Words = [u64; WORDS];
@@ -69,14 +69,7 @@ pub fn model(file: &[u8], numbers: &mut [u32]) -> u8 {
 pub fn write(numbers: &[u32], out: &mut [u8]) -> (u8, u64) {
     let mut length = [0; 1];
     let number = unsafe {
-        c::teaselauger_write(
-            numbers.as_ptr(),
-            numbers.len(),
-            out.as_mut_ptr(),
-            out.len(),
-            length.as_mut_ptr(),
-            length.len(),
-        )
+        c::teaselauger_write(numbers.as_ptr(), numbers.len(), out.as_mut_ptr(), out.len(), length.as_mut_ptr(), length.len())
     };
     (number, length[0])
 }

@@ -25,7 +25,7 @@ mod tests;
 use calls::{Kept, Words, ANSWER, FILE, LOG, MODEL, RECORDS, SHEET, VARIABLES};
 use std::{error, fmt, sync::Arc};
 
-/// A number of refusal, 1 to 16.
+/// A number of refusal, 1 to 18.
 ///
 /// ```
 /// assert_eq!(teaselauger::Refused(14).to_string(), "refused 14");
@@ -127,8 +127,28 @@ pub fn sheet(file: &[u8], budget: u64) -> String {
     out[..n].iter().map(|&byte| char::from(byte)).collect()
 }
 
+/// The number by which a statement or a test names port `p`, 0 to 7, in place of a variable: 128 to 135.
+///
+/// ```
+/// assert_eq!((teaselauger::port(0), teaselauger::port(7)), (128, 135));
+/// ```
+pub const fn port(p: u32) -> u32 {
+    assert!(p < 8, "a thread has ports 0 to 7");
+    128 + p
+}
+
+/// The variable of a port that a thread leaves unused.
+///
+/// ```
+/// let drawing = teaselauger::Drawing::open(&std::fs::read("../../models/m.model")?)?;
+/// assert_eq!(drawing.ports(0), [teaselauger::UNUSED; 8]);
+/// # Ok::<(), Box<dyn std::error::Error>>(())
+/// ```
+pub const UNUSED: u32 = 255;
+
 /// A model as numbers, to be drawn, changed and saved: H, V, E, N, T; then 104 numbers for each segment (the closer's kind, event, delay,
-/// A, B, test and limit, n, and 32 places of operation, a, b); then each thread's first segment. `docs/MODEL-FILE.md` has the layout.
+/// A, B, test and limit, n, and 32 places of operation, a, b); then nine for each thread, its first segment and the variables of its ports
+/// 0 to 7. `docs/MODEL-FILE.md` has the layout.
 ///
 /// ```
 /// let file = std::fs::read("../../models/m.model")?;
@@ -137,6 +157,17 @@ pub fn sheet(file: &[u8], budget: u64) -> String {
 /// assert_eq!(drawing.save()?, file);
 /// drawing.numbers[0] = 0;
 /// assert_eq!(drawing.save(), Err(teaselauger::Refused(4)));
+/// # Ok::<(), Box<dyn std::error::Error>>(())
+/// ```
+///
+/// A third loop, on the code that two loops run already, with a counter of its own:
+///
+/// ```
+/// use teaselauger::{sheet, Drawing, UNUSED};
+/// let mut loops = Drawing::open(&std::fs::read("../../models/loops.model")?)?;
+/// loops.numbers[1] += 1;
+/// loops.add_thread(0, [2, UNUSED, UNUSED, UNUSED, UNUSED, UNUSED, UNUSED, UNUSED]);
+/// assert!(sheet(&loops.save()?, 1_000_000).starts_with("v 0 2\nv 1 2\nv 2 2\n"));
 /// # Ok::<(), Box<dyn std::error::Error>>(())
 /// ```
 #[derive(Clone, Debug, PartialEq, Eq)]
@@ -150,17 +181,65 @@ impl Drawing {
     pub fn open(file: &[u8]) -> Result<Drawing, Refused> {
         let mut numbers = vec![0; MODEL];
         checked(calls::model(file, &mut numbers))?;
-        numbers.truncate(5 + 104 * numbers[3] as usize + numbers[4] as usize);
-        Ok(Drawing { numbers })
+        let mut drawing = Drawing { numbers };
+        drawing.numbers.truncate(drawing.thread(drawing.numbers[4]));
+        Ok(drawing)
     }
 
-    /// The model file, or the number of the first fault: 11 for fewer numbers than N and T ask for, then 2 to 8 in file order.
+    /// The model file, or the number of the first fault: 11 for fewer numbers than N and T ask for, then 2 to 7 and 17 in file order, then
+    /// 8, then 18.
     pub fn save(&self) -> Result<Vec<u8>, Refused> {
         let mut out = vec![0; FILE];
         let (number, length) = calls::write(&self.numbers, &mut out);
         checked(number)?;
         out.truncate(length as usize);
         Ok(out)
+    }
+
+    // Where thread k stands.
+    fn thread(&self, k: u32) -> usize {
+        5 + 104 * self.numbers[3] as usize + 9 * k as usize
+    }
+
+    /// The variables of a thread's ports 0 to 7, [`UNUSED`] for an unused one. Panics where the numbers have no such thread.
+    ///
+    /// ```
+    /// let loops = teaselauger::Drawing::open(&std::fs::read("../../models/loops.model")?)?;
+    /// assert_eq!((loops.ports(0)[0], loops.ports(1)[0]), (0, 1));
+    /// # Ok::<(), Box<dyn std::error::Error>>(())
+    /// ```
+    pub fn ports(&self, thread: u32) -> [u32; 8] {
+        let p = self.thread(thread) + 1;
+        self.numbers[p..p + 8].try_into().expect("eight ports")
+    }
+
+    /// Other variables for a thread's ports. Panics where the numbers have no such thread.
+    ///
+    /// ```
+    /// let file = std::fs::read("../../models/loops.model")?;
+    /// let mut loops = teaselauger::Drawing::open(&file)?;
+    /// loops.set_ports(1, [teaselauger::UNUSED; 8]);
+    /// assert_eq!(loops.save(), Err(teaselauger::Refused(18)));
+    /// # Ok::<(), Box<dyn std::error::Error>>(())
+    /// ```
+    pub fn set_ports(&mut self, thread: u32, ports: [u32; 8]) {
+        let p = self.thread(thread) + 1;
+        self.numbers[p..p + 8].copy_from_slice(&ports);
+    }
+
+    /// One thread more, after the others: its first segment and the variables of its ports. What stands past the last thread goes.
+    ///
+    /// ```
+    /// let mut loops = teaselauger::Drawing::open(&std::fs::read("../../models/loops.model")?)?;
+    /// loops.add_thread(1, [teaselauger::UNUSED; 8]);
+    /// assert!(teaselauger::sheet(&loops.save()?, 1_000_000).contains("t 2 1 ended 0 0\n"));
+    /// # Ok::<(), Box<dyn std::error::Error>>(())
+    /// ```
+    pub fn add_thread(&mut self, first: u32, ports: [u32; 8]) {
+        self.numbers.truncate(self.thread(self.numbers[4]));
+        self.numbers.push(first);
+        self.numbers.extend(ports);
+        self.numbers[4] += 1;
     }
 }
 

@@ -134,7 +134,50 @@ fn sites_of_equal_bytes_are_the_same() {
     assert_eq!(issue(&one, &mut state), issue(&again, &mut again.replay(&[0, 1, 1, 0]).1));
 }
 
-/// 64 segments of 32 statements, 32 threads, 64 variables, 32 events: the largest model.
+#[test]
+fn a_drawing_has_the_ports_of_its_threads() {
+    let bytes = file("loops");
+    let loops = Drawing::open(&bytes).expect("an accepted file");
+    assert_eq!(loops.numbers.len(), 5 + 2 * 104 + 2 * 9);
+    assert_eq!(loops.numbers[loops.numbers.len() - 18..][..3], [0, 0, UNUSED]);
+    assert_eq!((loops.ports(0)[0], loops.ports(1)[0]), (0, 1));
+    assert_eq!(loops.ports(0)[1..], [UNUSED; 7]);
+    assert_eq!((loops.numbers[10], loops.numbers[14]), (port(0), port(0)));
+    assert_eq!(loops.save(), Ok(bytes));
+
+    let changed = |p: usize, variable: u32| {
+        let (mut drawing, mut ports) = (loops.clone(), loops.ports(1));
+        ports[p] = variable;
+        drawing.set_ports(1, ports);
+        drawing.save()
+    };
+    for (p, variable, number) in [(0, 2, 17), (0, 128, 17), (7, 256, 17), (7, u32::MAX, 17), (0, UNUSED, 18)] {
+        assert_eq!(changed(p, variable), Err(Refused(number)));
+    }
+    // Port 7, which nobody names, is written and read again.
+    let again = changed(7, 1).expect("a variable of the model");
+    assert_eq!(Drawing::open(&again).map(|drawing| drawing.ports(1)[7]), Ok(1));
+    // A thread without a used port has no record of ports: 5 bytes more, not 17.
+    let mut more = loops.clone();
+    more.add_thread(1, [UNUSED; 8]);
+    assert_eq!(more.save().map(|file| file.len()), Ok(file("loops").len() + 5));
+    assert_eq!(more.save().and_then(|file| Drawing::open(&file)), Ok(more));
+}
+
+#[test]
+fn threads_conflict_through_ports() {
+    let own = site("loops");
+    assert_eq!(own.replay(&[1, 1, 1]).0, [(0, 0), (0, 3), (1, 6)].map(|(segment, time)| Ok(Grant { segment, time, delta: 0 })));
+    // With one counter for both, thread 1 has to wait for thread 0.
+    let mut drawing = Drawing::open(&file("loops")).expect("an accepted file");
+    drawing.set_ports(1, drawing.ports(0));
+    let one = Site::new(&drawing.save().expect("a file")).expect("an accepted file");
+    let (answers, state) = one.replay(&[1, 0, 1]);
+    assert_eq!(answers.into_iter().map(Result::err).collect::<Vec<_>>(), [Some(Refused(14)), None, None]);
+    assert_eq!(state.variables()[..2], [2, 0]);
+}
+
+/// 64 segments of 32 statements, 32 threads with ports, 64 variables, 32 events: the largest model.
 fn largest() -> Vec<u8> {
     let mut bytes = vec![10, 0, 1, 0];
     bytes.extend(1_000_000_000u32.to_le_bytes());
@@ -149,6 +192,7 @@ fn largest() -> Vec<u8> {
     }
     for k in 0..32 {
         bytes.extend([5, 0, 3, 0, 2 * k + 1]);
+        bytes.extend([12, 0, 5, 0, k, k, k, k, k, k, k, 63 - k]);
     }
     bytes.extend([4, 0, 4, 0]);
     bytes
@@ -157,7 +201,10 @@ fn largest() -> Vec<u8> {
 #[test]
 fn no_buffer_is_too_short() {
     let bytes = largest();
-    assert_eq!(bytes.len(), 13_550);
+    assert_eq!(bytes.len(), 13_934);
+    let drawing = Drawing::open(&bytes).expect("16 is for too few numbers");
+    assert_eq!(drawing.numbers.len(), 6_949);
+    assert_eq!(drawing.save(), Ok(bytes.clone()));
     let site = Site::new(&bytes).expect("16 is for a short table");
     let mut state = site.fresh();
     for k in 0..32 {
