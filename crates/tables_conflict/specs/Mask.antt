@@ -1,11 +1,12 @@
 -- How the code makes the marks: the variables of a segment as bits of two words. Only private contracts cite this; `proofs/MaskLaws.antt` says that the marks are those of `marksOf`.
-use Prim.Native.Nat.{ℕ, zero, suc, _^_}
-use mathlib.Core.Bool.{Bool, false, not, cond}
+use Prim.Native.Nat.{ℕ, zero, suc}
+use mathlib.Core.Bool.{Bool, false, not}
 use mathlib.Core.List.{List}
 use lib.Bits.{bitAnd, bitOr}
-use lib.Dec.{ltb, eqb}
+use lib.Dec.{eqb}
 use lib.ListN.{getD, replicate}
 use Rattle.base.specs.Index.{storeTo}
+use Rattle.masks.specs.Mask.{bitOf}
 use Rattle.model.specs.declared.Op.{Op}
 use Rattle.model.specs.declared.Op.the-variants.{Set, Add, Copy, AddVariable, SubVariable, Notify}
 use Rattle.model.specs.declared.Statement.{Statement}
@@ -20,11 +21,7 @@ use Rattle.tables.specs.Conflict.{noMarks}
 abbrev pub masks : ℕ → ℕ → Masks
 masks w u = record { writes = w; uses = u }
 
--- variable x, if it is below 64; a port is none by itself, and 255 is none
-unfoldable pub bitOf : ℕ → ℕ
-bitOf x = cond (ltb x 64) (2 ^ x) 0
-
--- what an operation writes, and what it writes or reads
+-- what an operation writes, and what it writes or reads: variable x is bit x, if it is below 64; a port is none by itself, and 255 is none
 unfoldable pub opMasks : Op → Masks
 opMasks (Set a b) = masks (bitOf a) (bitOf a)
 opMasks (Add a b) = masks (bitOf a) (bitOf a)

@@ -9,7 +9,8 @@ ghost use lib.Bits.{bitOr};
 ghost use lib.ListN.{length};
 ghost use Rattle.model.specs.Values.{segmentAt};
 ghost use Rattle.tables.specs.Outcome.{ifHeld, conflictNumber, conflictMarks};
-ghost use Rattle.tables_conflict.specs.Mask.{masks, bitOf, opMasks, testMask, joinMasks, masksOf, clash, masksFor, rowTo, rowsTo};
+ghost use Rattle.masks.specs.Mask.{bitOf};
+ghost use Rattle.tables_conflict.specs.Mask.{masks, opMasks, testMask, joinMasks, masksOf, clash, masksFor, rowTo, rowsTo};
 
 // The variables that a segment writes, and those that it writes, reads or tests: variable v is bit v.
 struct Masks {
