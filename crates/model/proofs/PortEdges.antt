@@ -157,6 +157,27 @@ reach :
 unfolding computed
 reach = (refl, refl, refl, refl, refl, refl, refl, refl)
 
+-- by the graph, whatever the way takes: two waits of 1,000,000,000 units, together never as a distance, lead to a segment that sets port 0
+abbrev far : Model
+far =
+    record {
+      horizon = record { 0 = 9 };
+      v = 1;
+      e = 0;
+      n = 3;
+      t = 1;
+      segments =
+          segment (Time (record { 0 = 1000000000 }) (always 1)) []
+          ∷ segment (Time (record { 0 = 1000000000 }) (always 2)) []
+          ∷ segment End (Set 128 7 ∷ [])
+          ∷ [];
+      starts = start 0 noPorts ∷ [];
+    }
+
+reach-far : (reaches far 0 2 ≡ true) × (reaches far 1 2 ≡ true) × (reaches far 2 0 ≡ false) × (lackFault far ≡ 18)
+unfolding computed
+reach-far = (refl, refl, refl, refl)
+
 -- what a thread names after mapping, and by which port
 naming :
     (namesPort three 0 0 ≡ false) ×
