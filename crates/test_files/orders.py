@@ -149,14 +149,15 @@ class State:
         return [c for e, c in self.log if e == event and c >= since]
 
     def earliest(self):
-        """Of each thread. Chains begin at a ready thread or a logged notification: links are followed until no bound falls."""
+        """Of each thread. Chains begin at a ready thread or a logged notification: links are followed until no bound falls. Each is
+        raised to the delta after the wait began."""
         out = [NEVER] * len(self.records)
         for k in self.live():
             out[k] = self.records[k][2] if self.records[k][1] == READY else min([plus(c, (0, 1)) for c in self.heard_from(k)], default=NEVER)
         while True:
             less = list(out)
             for k in self.live():
-                if self.records[k][1] == WAIT: less[k] = min(out[k], plus(self.forecast(self.records[k][3], out), (0, 1)))
+                if self.records[k][1] == WAIT: less[k] = min(out[k], plus(max(self.forecast(self.records[k][3], out), self.records[k][2]), (0, 1)))
             if less == out: return out
             out = less
 
@@ -424,6 +425,40 @@ def ports():
     assert run("Number 18", m, [0]) == ["refused 18"]
 
 
+def waits():
+    """Document 02, slip 5: a waiting thread's bounds are raised to the delta after its wait began, at every link of a chain."""
+    # Thread 0 waits on event 0 since (5, 0) and then sets the variable. Thread 1 notifies event 0 every unit. Thread 2 sets the variable at (4, 0), (5, 0) or (5, 1).
+    def sounder(asker, threads): return model(10, 1, 1, [
+        wait(5, always(1)), wait_for(0, always(2)), end((SET, 0, 1)), wait(1, always(3), (NOTIFY, 0, 0))] + asker, threads)
+    def at(t): return [wait(t, always(5)), end((SET, 0, 2))]
+    next_delta = [wait(5, always(5)), wait(0, always(6)), end((SET, 0, 2))]
+    late = [0, 0, 2, 2]
+    here, left = case("A slow sounder", sounder(at(4), [0, 3, 4]), late)
+    assert here[3] == "r 2 granted 5 4 0" and bound(sounder(at(4), [0, 3, 4]), [0, 0], 0, 2) == (5, 1) and "v 0 1" in left
+    here, _ = case("A slow sounder, asked at its wait", sounder(at(5), [0, 3, 4]), late)
+    assert here[3] == "r 2 granted 5 5 0"
+    here, _ = case("A slow sounder, asked a delta after its wait", sounder(next_delta, [0, 3, 4]), late + [2])
+    assert here[3:5] == ["r 2 granted 5 5 0", "r 2 refused 14"]
+    here, _ = case("A slow sounder, asked by a lower thread", sounder(next_delta, [4, 3, 0]), [2, 2, 0, 0, 0])
+    assert here[3:5] == ["r 0 granted 5 5 0", "r 0 granted 6 5 1"]
+    # "along chains too": thread 0 waits on event 0 since (5, 0) and then notifies event 1, on which thread 1 waits since (2, 0) and then sets the variable
+    m = model(10, 1, 2, [
+        wait(5, always(1)), wait_for(0, always(2)), end((NOTIFY, 1, 0)), wait(2, always(4)), wait_for(1, always(5)), end((SET, 0, 1)),
+        wait(1, always(6), (NOTIFY, 0, 0)), wait(4, always(8)), end((SET, 0, 2))], [0, 3, 6, 7])
+    here, left = case("A chain of slow sounders", m, [0, 0, 1, 1, 3, 3])
+    assert here[5] == "r 3 granted 8 4 0" and bound(m, [0, 0, 1, 1], 1, 5) == (5, 2) and "v 0 1" in left
+    # "deliveries follow": event 0 is logged at (2, 0); thread 1, which waits since (3, 0), could notify it at (3, 1)
+    m = model(10, 0, 2, [
+        wait_for(0, always(1)), end(), wait(3, always(3)), wait_for(1, always(4)), end((NOTIFY, 0, 0)),
+        wait(2, always(6)), end((NOTIFY, 0, 0)), wait(1, always(7), (NOTIFY, 1, 0))], [0, 2, 5, 7])
+    here, _ = case("A delivery before a raised bound", m, [0, 1, 1, 2, 2])
+    assert "t 0 1 ready 2 1" in here and bound(m, [0, 1, 1, 2], 1, 4) == (3, 1)
+    # never stays never
+    m = model(10, 1, 1, [wait(5, always(1)), wait_for(0, always(2)), end((SET, 0, 1)), wait(9, always(4)), end((SET, 0, 2))], [0, 3])
+    here, _ = case("A wait on what nobody notifies", m, [0, 0, 1, 1])
+    assert here[3] == "r 1 granted 4 9 0"
+
+
 def runs():
     cases()
     orders_of_m()
@@ -431,4 +466,5 @@ def runs():
     sentences()
     end_time()
     ports()
+    waits()
     return RUNS

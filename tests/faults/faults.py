@@ -40,6 +40,7 @@ FAULTS = [
     (EARLY, "notifications at the floor dropped", "early_log/src/lib.rt", "    clock::is_before(c, f)\n", "    !clock::is_before(f, c)\n"),
     (EARLY, "equal cycles are no hazard", "early_ahead/src/lib.rt", "        return j < i;\n", "        return false;\n"),
     (EARLY, "a conflict through a port only if both use one", "early_ports/src/lib.rt", "(a.ported | b.ported)", "(a.ported & b.ported)"),
+    (EARLY, "a wait raises no bound", "early_ahead/src/lib.rt", "raised_limit(since, forecast(", "raised_limit(0, forecast("),
     (EARLY, "a granted segment with ports not mapped", "early_request/src/lib.rt", "run_grant(reach, t, own, ", "run_grant(reach, t, g, "),
 ]
 

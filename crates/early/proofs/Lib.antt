@@ -3,3 +3,4 @@ pub mod EdgeModels
 pub mod Edges
 pub mod RequestEdges
 pub mod PortEdges
+pub mod RaisedEdges

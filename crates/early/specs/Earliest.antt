@@ -5,9 +5,10 @@ use mathlib.Core.Bool.{Bool, cond}
 use mathlib.Core.List.{List}
 use lib.ListN.{getD}
 use Rattle.base.specs.Index.{tabulate}
+use Rattle.clock.specs.declared.Cycle.{Cycle}
 use Rattle.clock.specs.declared.Bound.{Bound}
-use Rattle.clock.specs.declared.Bound.the-variants.{Never}
-use Rattle.clock.specs.Advance.{least, leastBelow, _⊕_, oneDelta}
+use Rattle.clock.specs.declared.Bound.the-variants.{Never, At}
+use Rattle.clock.specs.Advance.{isBoundBefore, least, leastBelow, _⊕_, oneDelta}
 use Rattle.clock.specs.Order.{_≼_}
 use Rattle.model.specs.declared.Model.{Model}
 use Rattle.model.specs.declared.State.{State}
@@ -33,10 +34,15 @@ soonestNotify m ws ts k x e =
     let t = threadAt ts k in
     cond (isLive (t .state)) (leastBelow (m .n) (λ s. cond (notifiesIn m k s e) (x ⊕ distanceIn m ws (t .segment) s) Never)) Never
 
--- "one delta after that thread's earliest plus the distance": from thread j, no sooner than x, to thread k
+-- Document 02, slip 5: a bound, or the cycle in which a wait began where that is later; never stays never
+unfoldable pub raised : Cycle → Bound → Bound
+raised since x = cond (isBoundBefore x (At since)) (At since) x
+
+-- "one delta after that thread's earliest plus the distance": from thread j, no sooner than x, to thread k; and slip 5: "A waiting thread
+-- cannot wake before the delta after its wait began"
 unfoldable pub afterNotify : Model → List ℕ → List Thread → ℕ → Bound → Awaited → Bound
 afterNotify m ws ts j x nothing = Never
-afterNotify m ws ts j x (awaits e since) = soonestNotify m ws ts j x e ⊕ oneDelta
+afterNotify m ws ts j x (awaits e since) = raised since (soonestNotify m ws ts j x e) ⊕ oneDelta
 
 unfoldable pub linkTo : Model → List ℕ → List Thread → ℕ → ℕ → Bound → Bound
 linkTo m ws ts j k x = afterNotify m ws ts j x (awaitedBy (threadAt ts k .state))

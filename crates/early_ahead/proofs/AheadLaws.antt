@@ -24,8 +24,9 @@ use Rattle.tables.specs.Word.{allOnes}
 use Rattle.early_ports.specs.declared.Footprint.{Footprint}
 use Rattle.early_ports.specs.Cross.{footprintOf, crosses, portsIn, conflictsOn}
 use Rattle.early_ports.proofs.CrossLaws.{crosses-none, conflictsOn-past}
-use Rattle.early_limits.specs.Limit.{limitOfCycle, limitOfWord, lesser, lesserBelow, sumOf, isSoonerLimit, atMost}
-use Rattle.early_limits.specs.Ahead.{forecastAt, relaxedAt, relaxedLimits, afterRounds, earliestLimits, threatensLimit, hazardAt}
+use Rattle.early_limits.specs.declared.Crew.{Crew}
+use Rattle.early_limits.specs.Limit.{limitOfCycle, limitOfWord, lesser, lesserBelow, sumOf, raisedLimit, isSoonerLimit, atMost}
+use Rattle.early_limits.specs.Ahead.{forecastAt, relaxedBy, relaxedAt, relaxedLimits, afterRounds, earliestLimits, threatensLimit, hazardAt}
 use Rattle.early_ahead.specs.Store.{conflictsBy, threatAt}
 use Rattle.early_ahead.proofs.LimitLaws.{atMost-below, atMost-≤, sumOf-more, isSoonerLimit-kept}
 
@@ -48,30 +49,32 @@ module _ (reach segments xs : List ℕ) (e : ℕ) where
   unfolding forecastTo forecastAt
   forecastTo-all t j w h d = rw h at d
 
-module _ (reach segments events xs : List ℕ) (t : ℕ) where
-  pub relaxedAt-ready : (k : ℕ) → k < length xs → k < length events → 32 ≤ getD events k 0 → getD xs k 0 ≡ relaxedAt reach segments events xs t k
-  unfolding relaxedAt
-  relaxedAt-ready k h l f = rw (getD-any xs k 0 allOnes h, le-ltb (getD events k 255) 32 (omega (arith, getD-any events k 0 255 l))) refl
+module _ (reach segments xs : List ℕ) (t x e since : ℕ) where
+  pub relaxedBy-ready : 32 ≤ e → x ≡ relaxedBy reach segments xs t x e since
+  unfolding relaxedBy
+  relaxedBy-ready h = rw (le-ltb e 32 h) refl
 
-  pub relaxedAt-waiting :
-      (k e x y z : ℕ) → k < length xs → k < length events → e ≡ getD events k 0 → e < 32 → x ≡ forecastAt reach segments xs t e → y ≡ sumOf x 1 → z ≡ lesser (getD xs k 0) y →
-      z ≡ relaxedAt reach segments events xs t k
+  pub relaxedBy-waiting : (f r y z : ℕ) → e < 32 → f ≡ forecastAt reach segments xs t e → r ≡ raisedLimit since f → y ≡ sumOf r 1 → z ≡ lesser x y → z ≡ relaxedBy reach segments xs t x e since
+  unfolding relaxedBy
+  relaxedBy-waiting f r y z h a b c d = rw (lt-ltb e 32 h, ← a, ← b, ← c) d
+
+module _ (reach : List ℕ) (crew : Crew) (xs : List ℕ) (t : ℕ) where
+  -- thread k, by what the code reads of it
+  pub relaxedAt-read : (k w : ℕ) → k < length xs → k < length (crew .events) → w ≡ relaxedBy reach (crew .segments) xs t (getD xs k 0) (getD (crew .events) k 0) (getD (crew .since) k 0)
+      → w ≡ relaxedAt reach crew xs t k
   unfolding relaxedAt
-  relaxedAt-waiting k e x y z h l d f a b c =
-      let any = getD-any xs k 0 allOnes h in
-      let same = d ∙ getD-any events k 0 255 l in
-      rw (← same, lt-ltb e 32 f, ← a, ← b, ← any) c
+  relaxedAt-read k w h l e = rw (← getD-any xs k 0 allOnes h, ← getD-any (crew .events) k 0 255 l) e
 
   -- the first k limits of the next round, the others as they were
   pub record RelaxedTo (k : ℕ) (ys : List ℕ) : Type 0 where
     pub size : length ys ≡ 32
-    pub done : (i : ℕ) → i < k → getD ys i 0 ≡ relaxedAt reach segments events xs t i
+    pub done : (i : ℕ) → i < k → getD ys i 0 ≡ relaxedAt reach crew xs t i
     pub left : (i : ℕ) → k ≤ i → getD ys i 0 ≡ getD xs i 0
 
   pub relaxedTo-none : length xs ≡ 32 → RelaxedTo 0 xs
   relaxedTo-none h = record { size = h; done = λ i l. absurd (omega arith); left = λ i l. refl }
 
-  pub relaxedTo-more : (k w : ℕ) (ys : List ℕ) → RelaxedTo k ys → k < 32 → w ≡ relaxedAt reach segments events xs t k → RelaxedTo (k + 1) (set ys k w)
+  pub relaxedTo-more : (k w : ℕ) (ys : List ℕ) → RelaxedTo k ys → k < 32 → w ≡ relaxedAt reach crew xs t k → RelaxedTo (k + 1) (set ys k w)
   relaxedTo-more k w ys r h e =
       record {
         size = length-set ys k w ∙ r .size;
@@ -79,47 +82,47 @@ module _ (reach segments events xs : List ℕ) (t : ℕ) where
         left = λ i l. getD-set-other ys k i w 0 (λ z. omega arith) ∙ r .left i (omega arith);
       }
     where
-      go : (i : ℕ) → i < k + 1 → Dec (i ≡ k) → getD (set ys k w) i 0 ≡ relaxedAt reach segments events xs t i
+      go : (i : ℕ) → i < k + 1 → Dec (i ≡ k) → getD (set ys k w) i 0 ≡ relaxedAt reach crew xs t i
       go i l (yes z) = rw z (getD-set-same ys k w 0 (omega (arith, r .size)) ∙ e)
       go i l (no z) = getD-set-other ys k i w 0 z ∙ r .done i (omega arith)
 
-  pub relaxedTo-all : (k : ℕ) (ys : List ℕ) → RelaxedTo k ys → k ≡ atMost 32 t → length xs ≡ 32 → ys ≡ relaxedLimits reach segments events t xs
+  pub relaxedTo-all : (k : ℕ) (ys : List ℕ) → RelaxedTo k ys → k ≡ atMost 32 t → length xs ≡ 32 → ys ≡ relaxedLimits reach crew t xs
   unfolding relaxedLimits
   relaxedTo-all k ys r e size =
       ext-getD 0 ys (tabulate 32 0 f) (r .size ∙ sym (tabulate-length 32 0 f))
       (λ i l. let l′ : i < 32 = omega (arith, r .size) in go i l′ (decLt i t) ∙ sym (tabulate-at 32 0 i f 0 l′ ∙ ap f (zero-add i)))
     where
       f : ℕ → ℕ
-      f i = cond (ltb i t) (relaxedAt reach segments events xs t i) (getD xs i allOnes)
+      f i = cond (ltb i t) (relaxedAt reach crew xs t i) (getD xs i allOnes)
 
       go : (i : ℕ) → i < 32 → Dec (i < t) → getD ys i 0 ≡ f i
       go i l (yes h) = rw (lt-ltb i t h) (r .done i (omega (arith, atMost-below 32 t i l h)))
       go i l (no h) = rw (le-ltb i t (omega arith)) (r .left i (omega (arith, atMost-≤ 32 t .1)) ∙ getD-any xs i 0 allOnes (omega arith))
 
-  pub afterRounds-none : xs ≡ afterRounds reach segments events t 0 xs
+  pub afterRounds-none : xs ≡ afterRounds reach crew t 0 xs
   unfolding afterRounds
   afterRounds-none = refl
 
-  pub afterRounds-more : (n : ℕ) (ys zs : List ℕ) → ys ≡ afterRounds reach segments events t n xs → zs ≡ relaxedLimits reach segments events t ys → zs ≡ afterRounds reach segments events t (n + 1) xs
+  pub afterRounds-more : (n : ℕ) (ys zs : List ℕ) → ys ≡ afterRounds reach crew t n xs → zs ≡ relaxedLimits reach crew t ys → zs ≡ afterRounds reach crew t (n + 1) xs
   unfolding afterRounds
   afterRounds-more n ys zs e f = rw (add-one n, ← e) f
 
   -- a round that changes nothing is the last that could
-  afterRounds-done : (n m : ℕ) (ys : List ℕ) → n ≤ m → ys ≡ afterRounds reach segments events t n xs → ys ≡ relaxedLimits reach segments events t ys → ys ≡ afterRounds reach segments events t m xs
+  afterRounds-done : (n m : ℕ) (ys : List ℕ) → n ≤ m → ys ≡ afterRounds reach crew t n xs → ys ≡ relaxedLimits reach crew t ys → ys ≡ afterRounds reach crew t m xs
   unfolding afterRounds
   afterRounds-done n zero ys h e f = let z : n ≡ 0 = omega arith in rw z at e
   afterRounds-done n (suc m) ys h e f = go (λ l. afterRounds-done n m ys l e f) (ℕ-discrete n (suc m))
     where
-      go : (n ≤ m → ys ≡ afterRounds reach segments events t m xs) → Dec (n ≡ suc m) → ys ≡ afterRounds reach segments events t (suc m) xs
+      go : (n ≤ m → ys ≡ afterRounds reach crew t m xs) → Dec (n ≡ suc m) → ys ≡ afterRounds reach crew t (suc m) xs
       go ih (yes z) = rw z at e
-      go ih (no z) = let same = ih (omega arith) in f ∙ ap (relaxedLimits reach segments events t) same
+      go ih (no z) = let same = ih (omega arith) in f ∙ ap (relaxedLimits reach crew t) same
 
   pub earliestLimits-done :
-      (n : ℕ) (ys zs : List ℕ) → n ≤ t → ys ≡ afterRounds reach segments events t n xs → zs ≡ relaxedLimits reach segments events t ys → ys ≡ zs → zs ≡ earliestLimits reach segments events t xs
+      (n : ℕ) (ys zs : List ℕ) → n ≤ t → ys ≡ afterRounds reach crew t n xs → zs ≡ relaxedLimits reach crew t ys → ys ≡ zs → zs ≡ earliestLimits reach crew t xs
   unfolding earliestLimits
   earliestLimits-done n ys zs h e f g = sym g ∙ afterRounds-done n t ys h e (g ∙ f)
 
-  pub earliestLimits-all : (n : ℕ) (ys : List ℕ) → n ≡ t → ys ≡ afterRounds reach segments events t n xs → ys ≡ earliestLimits reach segments events t xs
+  pub earliestLimits-all : (n : ℕ) (ys : List ℕ) → n ≡ t → ys ≡ afterRounds reach crew t n xs → ys ≡ earliestLimits reach crew t xs
   unfolding earliestLimits
   earliestLimits-all n ys h e = rw h at e
 

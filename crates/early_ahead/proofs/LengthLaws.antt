@@ -15,8 +15,5 @@ use Rattle.early_limits.proofs.Crew.Laws as crew′
 pub limits-length : (xs : Limits) (vs : List Val) → Is limits.the-row xs vs → length (xs .at) ≡ 32
 limits-length xs vs g = sym (length-map (xs .at) _) ∙ LL.owed limits.the-type limits′.the-laws xs vs g .0 .1 .0 .1
 
-pub segments-length : (x : Crew) (vs : List Val) → Is crew.the-row x vs → length (x .segments) ≡ 32
-segments-length x vs g = sym (length-map (x .segments) _) ∙ LL.owed crew.the-type crew′.the-laws x vs g .0 .1 .0 .1
-
 pub events-length : (x : Crew) (vs : List Val) → Is crew.the-row x vs → length (x .events) ≡ 32
 events-length x vs g = sym (length-map (x .events) _) ∙ LL.owed crew.the-type crew′.the-laws x vs g .1 .0 .1 .0 .1

@@ -14,7 +14,7 @@ use Rattle.base.proofs.BoolLaws.{cond-case}
 use Rattle.clock.specs.declared.Cycle.{Cycle}
 use Rattle.model.specs.Limits.{cutTime}
 use Rattle.tables.specs.Word.{allOnes}
-use Rattle.early_limits.specs.Limit.{limitOfCycle, limitOfWord, lesser, lesserBelow, sumOf, isSoonerLimit, atMost, top, unit}
+use Rattle.early_limits.specs.Limit.{limitOfCycle, limitOfWord, lesser, lesserBelow, sumOf, raisedLimit, isSoonerLimit, atMost, top, unit}
 
 module _ (k x : ℕ) where
   pub atMost-less : x < k → x ≡ atMost k x
@@ -36,6 +36,15 @@ module _ (k x : ℕ) where
   pub atMost-below : (i : ℕ) → i < k → i < x → i < atMost k x
   unfolding atMost
   atMost-below i h l = cond-case (λ (z : ℕ). i < z) (ltb x k) (λ t. l) (λ t. h)
+
+module _ (since x : ℕ) where
+  pub raisedLimit-since : x < since → since ≡ raisedLimit since x
+  unfolding raisedLimit
+  raisedLimit-since h = rw (lt-ltb x since h) refl
+
+  pub raisedLimit-kept : since ≤ x → x ≡ raisedLimit since x
+  unfolding raisedLimit
+  raisedLimit-kept h = rw (le-ltb x since h) refl
 
 module _ (c : Cycle) where
   pub limitOfCycle-never : 70368744177664 ≤ c .time .0 → allOnes ≡ limitOfCycle c

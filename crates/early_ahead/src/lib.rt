@@ -17,8 +17,8 @@ ghost use Rattle.base.specs.Index.{anyBelow};
 ghost use Rattle.model.specs.Values.{bodyOf};
 ghost use Rattle.model.specs.Statement.{notifiedBy};
 ghost use Rattle.tables.specs.Word.{allOnes};
-ghost use Rattle.early_limits.specs.Limit.{limitOfCycle, limitOfWord, lesser, sumOf, isSoonerLimit, atMost};
-ghost use Rattle.early_limits.specs.Ahead.{reachIn, forecastAt, relaxedAt, relaxedLimits, earliestLimits, threatensLimit, hazardAt};
+ghost use Rattle.early_limits.specs.Limit.{limitOfCycle, limitOfWord, lesser, sumOf, raisedLimit, isSoonerLimit, atMost};
+ghost use Rattle.early_limits.specs.Ahead.{reachIn, forecastAt, relaxedBy, relaxedLimits, earliestLimits, threatensLimit, hazardAt};
 ghost use Rattle.early_ports.specs.Cross.{conflictsOn};
 ghost use Rattle.early_ahead.specs.Store.{Places, cleared, columnLowered, lowered, eventOf, conflictsBy, threatAt};
 
@@ -92,6 +92,16 @@ fn sum_of(a: u64, d: u64) -> u64
         return a + d;
     }
     a / UNIT * UNIT + d
+}
+
+// Document 02, slip 5: a limit, or that of the cycle in which a wait began where that is later. Never is later than all.
+fn raised_limit(since: u64, x: u64) -> u64
+    ensures { λ r. ⌜ r ≡ raisedLimit since x ⌝ }
+{
+    if x < since {
+        return since;
+    }
+    x
 }
 
 // Thread j at limit b, at a smaller stamp than thread i at c.
@@ -201,43 +211,54 @@ fn reach_at(reach: &[u64], segment: u8, e: u8) -> u64
 }
 
 // Term: forecast of event e.
-pub fn forecast(reach: &[u64], crew: Crew, xs: Limits, t: u8, e: u8) -> u64
-    ensures { λ r. ⌜ r ≡ forecastAt (now (reach .entry)) (crew .segments) (xs .at) t e ⌝ }
+pub fn forecast(reach: &[u64], segments: [u8; 32], xs: Limits, t: u8, e: u8) -> u64
+    ensures { λ r. ⌜ r ≡ forecastAt (now (reach .entry)) segments (xs .at) t e ⌝ }
 {
     let n = at_most(32, t);
     let mut least = NEVER;
     let mut j = 0;
     while j < n {
         let x = xs.at[j];
-        let segment = crew.segments[j];
+        let segment = segments[j];
         least = lesser_of(least, sum_of(x, reach_at(reach, segment, e)));
         j += 1;
     }
     least
 }
 
-// Thread k's limit after one more round: a waiting thread is woken one delta after its event.
-fn relaxed_at(reach: &[u64], crew: Crew, xs: Limits, t: u8, k: usize) -> u64
-    requires { ⌜ k < 32 ⌝ }
-    ensures { λ r. ⌜ r ≡ relaxedAt (now (reach .entry)) (crew .segments) (crew .events) (xs .at) t k ⌝ }
+// The limit x of a thread after one more round: one that waits on event e is woken one delta after it, and not before the delta after its
+// wait began.
+fn relaxed_by(
+    reach: &[u64],
+    segments: [u8; 32],
+    xs: Limits,
+    t: u8,
+    x: u64,
+    e: u8,
+    since: u64,
+) -> u64
+    ensures { λ r. ⌜ r ≡ relaxedBy (now (reach .entry)) segments (xs .at) t x e since ⌝ }
 {
-    let x = xs.at[k];
-    let e = crew.events[k];
     if e >= 32 {
         return x;
     }
-    lesser_of(x, sum_of(forecast(reach, crew, xs, t, e), 1))
+    let notified = raised_limit(since, forecast(reach, segments, xs, t, e));
+    lesser_of(x, sum_of(notified, 1))
 }
 
 // One more round, from the limits of the last.
 fn relaxed_limits(reach: &[u64], crew: Crew, xs: Limits, t: u8) -> Limits
-    ensures { λ r. ⌜ r .at ≡ relaxedLimits (now (reach .entry)) (crew .segments) (crew .events) t (xs .at) ⌝ }
+    ensures { λ r. ⌜ r .at ≡ relaxedLimits (now (reach .entry)) crew t (xs .at) ⌝ }
 {
     let n = at_most(32, t);
+    let segments = crew.segments;
     let mut out = xs;
     let mut k = 0;
     while k < n {
-        out.at[k] = relaxed_at(reach, crew, xs, t, k);
+        let x = xs.at[k];
+        let e = crew.events[k];
+        let since = crew.since[k];
+        out.at[k] = relaxed_by(reach, segments, xs, t, x, e, since);
         k += 1;
     }
     out
@@ -259,7 +280,7 @@ fn is_same(a: Limits, b: Limits) -> bool
 
 // Term: earliest, of every thread. Once a round changes nothing, no later one does.
 pub fn earliest(reach: &[u64], crew: Crew, xs: Limits, t: u8) -> Limits
-    ensures { λ r. ⌜ r .at ≡ earliestLimits (now (reach .entry)) (crew .segments) (crew .events) t (xs .at) ⌝ }
+    ensures { λ r. ⌜ r .at ≡ earliestLimits (now (reach .entry)) crew t (xs .at) ⌝ }
 {
     let mut x = xs;
     let mut n = 0;
@@ -332,18 +353,18 @@ fn any_threatens(
     words: &[u64],
     n: u8,
     t: u8,
-    crew: Crew,
+    segments: [u8; 32],
     xs: Limits,
     i: usize,
     c: u64,
 ) -> bool
-    ensures { λ r. ⌜ r ≡ anyBelow (atMost 32 t) (threatAt row own (now (names .entry)) starts (now (words .entry)) n (crew .segments) (xs .at) i c) ⌝ }
+    ensures { λ r. ⌜ r ≡ anyBelow (atMost 32 t) (threatAt row own (now (names .entry)) starts (now (words .entry)) n segments (xs .at) i c) ⌝ }
 {
     let k = at_most(32, t);
     let mut j = 0;
     while j < k {
         if j != i {
-            let segment = crew.segments[j];
+            let segment = segments[j];
             let b = xs.at[j];
             let ports = early_ports::ports_of(starts, j);
             if threatens(row, own, names, ports, words, n, segment, b, j, c, i) {
@@ -355,12 +376,12 @@ fn any_threatens(
     false
 }
 
-// The segment of thread k; 0 past the crew.
-fn segment_of(crew: Crew, k: usize) -> usize
-    ensures { λ r. ⌜ r ≡ getD (crew .segments) k 0 ⌝ }
+// The segment of thread k; 0 past the threads.
+fn segment_of(segments: [u8; 32], k: usize) -> usize
+    ensures { λ r. ⌜ r ≡ getD segments k 0 ⌝ }
 {
     if k < 32 {
-        return buffers::wide(crew.segments[k]);
+        return buffers::wide(segments[k]);
     }
     0
 }
@@ -373,14 +394,14 @@ pub fn hazard(
     words: &[u64],
     n: u8,
     t: u8,
-    crew: Crew,
+    segments: [u8; 32],
     xs: Limits,
     at: Stamp,
 ) -> bool
-    ensures { λ r. ⌜ r ≡ hazardAt (conflictsOn marks (now (names .entry)) starts) (now (words .entry)) n t (crew .segments) (xs .at) at ⌝ }
+    ensures { λ r. ⌜ r ≡ hazardAt (conflictsOn marks (now (names .entry)) starts) (now (words .entry)) n t segments (xs .at) at ⌝ }
 {
     let i = buffers::wide(at.thread.0);
-    let r = segment_of(crew, i);
+    let r = segment_of(segments, i);
     if r >= 64 {
         return false;
     }
@@ -396,7 +417,7 @@ pub fn hazard(
         words,
         n,
         t,
-        crew,
+        segments,
         xs,
         i,
         limit_of(cycle),

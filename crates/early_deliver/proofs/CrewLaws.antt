@@ -14,26 +14,40 @@ use Rattle.tables.specs.Word.{allOnes}
 use Rattle.plain.specs.Wake.{floorBelow}
 use Rattle.early.specs.declared.Notification.{Notification}
 use Rattle.early_limits.specs.Limit.{top, sumOf}
-use Rattle.early_limits.specs.Ahead.{eventAwaited, segmentsOf, eventsOf}
-use Rattle.early_deliver.specs.Awake.{crewOf, firstLimit, firstLimits}
+use Rattle.early_limits.specs.Ahead.{eventAwaited, sinceAwaited, segmentsOf, eventsOf, sinceOf, crewOf}
+use Rattle.early_deliver.specs.Awake.{firstLimit, firstLimits}
 use Rattle.early_deliver.proofs.FillLaws.{fill-none, fill-more}
 
 module _ (ts : List Thread) where
-  pub crew-none : (replicate 32 0 ≡ segmentsOf 0 ts) × (replicate 32 255 ≡ eventsOf 0 ts)
-  unfolding segmentsOf eventsOf
-  crew-none = (fill-none (λ k. threadAt ts k .segment) 0, fill-none (λ k. eventAwaited (awaitedBy (threadAt ts k .state))) 255)
+  -- the first k places of each array are filled
+  pub record CrewTo (segments events since : List ℕ) (k : ℕ) : Type 0 where
+    pub segment : segments ≡ segmentsOf k ts
+    pub event : events ≡ eventsOf k ts
+    pub began : since ≡ sinceOf k ts
 
-  pub segments-more : (xs : List ℕ) (k : ℕ) → k < 32 → xs ≡ segmentsOf k ts → set xs k (getD ts k noThread .segment) ≡ segmentsOf (k + 1) ts
-  unfolding segmentsOf threadAt
-  segments-more xs k h e = rw e (fill-more (λ i. threadAt ts i .segment) 0 k h)
+  pub crew-none : CrewTo (replicate 32 0) (replicate 32 255) (replicate 32 0) 0
+  unfolding segmentsOf eventsOf sinceOf
+  crew-none =
+      record {
+        segment = fill-none (λ k. threadAt ts k .segment) 0;
+        event = fill-none (λ k. eventAwaited (awaitedBy (threadAt ts k .state))) 255;
+        began = fill-none (λ k. sinceAwaited (awaitedBy (threadAt ts k .state))) 0;
+      }
 
-  pub events-more : (xs : List ℕ) (k x : ℕ) → k < 32 → xs ≡ eventsOf k ts → x ≡ eventAwaited (awaitedBy (getD ts k noThread .state)) → set xs k x ≡ eventsOf (k + 1) ts
-  unfolding eventsOf threadAt
-  events-more xs k x h e f = rw (e, f) (fill-more (λ i. eventAwaited (awaitedBy (threadAt ts i .state))) 255 k h)
+  pub crew-more : (segments events since : List ℕ) (k e c : ℕ) → k < 32 → CrewTo segments events since k
+      → e ≡ eventAwaited (awaitedBy (getD ts k noThread .state)) → c ≡ sinceAwaited (awaitedBy (getD ts k noThread .state))
+      → CrewTo (set segments k (getD ts k noThread .segment)) (set events k e) (set since k c) (k + 1)
+  unfolding segmentsOf eventsOf sinceOf threadAt
+  crew-more segments events since k e c h to f g =
+      record {
+        segment = rw (to .segment) (fill-more (λ i. threadAt ts i .segment) 0 k h);
+        event = rw (to .event, f) (fill-more (λ i. eventAwaited (awaitedBy (threadAt ts i .state))) 255 k h);
+        began = rw (to .began, g) (fill-more (λ i. sinceAwaited (awaitedBy (threadAt ts i .state))) 0 k h);
+      }
 
-  pub crew-all : (xs es : List ℕ) (k t : ℕ) → k ≡ t → xs ≡ segmentsOf k ts → es ≡ eventsOf k ts → record { segments = xs; events = es } ≡ crewOf t ts
+  pub crew-all : (segments events since : List ℕ) (k t : ℕ) → k ≡ t → CrewTo segments events since k → record { segments = segments; events = events; since = since } ≡ crewOf t ts
   unfolding crewOf
-  crew-all xs es k t h p q = rw (p, q, h) refl
+  crew-all segments events since k t h to = rw (to .segment, to .event, to .began, h) refl
 
   pub limits-none : (l : List Notification) → replicate 32 18446744073709551615 ≡ firstLimits 0 l ts
   unfolding firstLimits

@@ -27,7 +27,7 @@ use Rattle.early_laws.proofs.LinkLaws.{sourceOf-ready, sourceOf-waiting, source
 use Rattle.early_laws.proofs.SettleLaws.{settledBy-same}
 use Rattle.early_laws.proofs.FitLaws.{isFitThread→}
 use Rattle.early_limits.specs.Limit.{limitOf}
-use Rattle.early_limits.specs.Ahead.{reachOf, earliestLimits, segmentsOf, eventsOf, sourceLimits}
+use Rattle.early_limits.specs.Ahead.{reachOf, earliestLimits, crewOf, sourceLimits}
 use Rattle.early_limits.proofs.LimitLaws.{Limited, limitOf-oneDelta, limitOfCycle-is}
 use Rattle.early_limits.proofs.StateLaws.{FitState, fit-threads, ready-fit, leastHeard-range}
 use Rattle.early_limits.proofs.RoundLaws.{limitsOf}
@@ -72,7 +72,7 @@ module _ (m : Model) (ws : List ℕ) (l : List Notification) where
 
     pub aheadOf-is : aheadOf (reachOf m ws) (m .t) l ts ≡ limitsOf m ws l ts
     unfolding aheadOf
-    aheadOf-is = ap (earliestLimits (reachOf m ws) (segmentsOf (m .t) ts) (eventsOf (m .t) ts) (m .t)) firstLimits-is
+    aheadOf-is = ap (earliestLimits (reachOf m ws) (crewOf (m .t) ts) (m .t)) firstLimits-is
 
     -- "if the forecast of the event is not smaller"
     soonerOn-is : (e : ℕ) (since : Cycle) → e < m .e → soonerOn (reachOf m ws) (m .t) l ts e (leastHeard l e since) ≡ forecastSooner m ws l ts e (leastHeard l e since)

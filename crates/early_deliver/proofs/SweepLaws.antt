@@ -28,9 +28,9 @@ use Rattle.early_laws.proofs.SettleLaws.{sweptBy-more, sweepsBy-next, sweepsBy-
 use Rattle.early_limits.specs.declared.Crew.{Crew}
 use Rattle.early_limits.specs.declared.Limits.{Limits}
 use Rattle.early_limits.specs.Limit.{limitOfCycle}
-use Rattle.early_limits.specs.Ahead.{forecastAt, earliestLimits, segmentsOf, eventsOf}
+use Rattle.early_limits.specs.Ahead.{forecastAt, earliestLimits, segmentsOf, crewOf}
 use Rattle.early_deliver.specs.declared.Outlook.{Outlook}
-use Rattle.early_deliver.specs.Awake.{crewOf, firstLimits, aheadOf, soonerAt, soonerOn, outlookOf}
+use Rattle.early_deliver.specs.Awake.{firstLimits, aheadOf, soonerAt, soonerOn, outlookOf}
 
 true-not-false : true ≡ false → ⊥
 true-not-false e = let z : _≡_ {A = ℕ} 0 1 = cc in omega arith
@@ -60,21 +60,21 @@ module _ (reach : List ℕ) (t : ℕ) (l : List Notification) where
 
   -- what the code holds of records
   pub outlook-made : (ts : Threads) (crew : Crew) (first limits : Limits) (heard : Bool) → crew ≡ crewOf t (ts .at) → first .at ≡ firstLimits t l (ts .at)
-      → limits .at ≡ earliestLimits reach (crew .segments) (crew .events) t (first .at)
-      → record { threads = ts; crew = crew; limits = limits; heard = heard } ≡ outlookOf reach t l (ts .at) heard
+      → limits .at ≡ earliestLimits reach crew t (first .at)
+      → record { threads = ts; segments = crew .segments; limits = limits; heard = heard } ≡ outlookOf reach t l (ts .at) heard
   unfolding outlookOf aheadOf crewOf
   outlook-made ts crew first limits heard p q r =
-      let e : limits ≡ record { at = earliestLimits reach (segmentsOf t (ts .at)) (eventsOf t (ts .at)) t (firstLimits t l (ts .at)) } =
+      let e : limits ≡ record { at = earliestLimits reach (crewOf t (ts .at)) t (firstLimits t l (ts .at)) } =
       ap (λ (xs : List ℕ). record { at = xs }) (r ∙ rw (p, q) refl) in
       rw (p, e) refl
 
   -- one look, by what is heard on the limits that are held
   module _ (o : Outlook) (kept : o ≡ outlookOf reach t l (o .threads .at) (o .heard)) (k : ℕ) (b : Bound)
-      (hears : b ≡ heardBy (soonerAt reach t (o .crew .segments) (o .limits .at)) l (awaitedBy (getD (o .threads .at) k noThread .state)))
+      (hears : b ≡ heardBy (soonerAt reach t (o .segments) (o .limits .at)) l (awaitedBy (getD (o .threads .at) k noThread .state)))
     where
-      held-sooner : soonerAt reach t (o .crew .segments) (o .limits .at) ≡ soonerOn reach t l (o .threads .at)
-      unfolding outlookOf crewOf soonerOn
-      held-sooner = ap (λ (p : Outlook). soonerAt reach t (p .crew .segments) (p .limits .at)) kept
+      held-sooner : soonerAt reach t (o .segments) (o .limits .at) ≡ soonerOn reach t l (o .threads .at)
+      unfolding outlookOf soonerOn
+      held-sooner = ap (λ (p : Outlook). soonerAt reach t (p .segments) (p .limits .at)) kept
 
       heard-now : heardBy (soonerOn reach t l (o .threads .at)) l (awaitedBy (threadAt (o .threads .at) k .state)) ≡ b
       unfolding threadAt
@@ -104,10 +104,10 @@ module _ (reach : List ℕ) (t : ℕ) (l : List Notification) where
 
   -- nothing heard so far
   pub outlook-begun : (o : Outlook) → o ≡ outlookOf reach t l (o .threads .at) (o .heard)
-      → record { threads = o .threads; crew = o .crew; limits = o .limits; heard = false } ≡ outlookOf reach t l (o .threads .at) false
+      → record { threads = o .threads; segments = o .segments; limits = o .limits; heard = false } ≡ outlookOf reach t l (o .threads .at) false
   unfolding outlookOf
   outlook-begun o e =
-      let p : o .crew ≡ crewOf t (o .threads .at) = ap (λ (q : Outlook). q .crew) e in
+      let p : o .segments ≡ segmentsOf t (o .threads .at) = ap (λ (q : Outlook). q .segments) e in
       let q : o .limits ≡ record { at = aheadOf reach t l (o .threads .at) } = ap (λ (r : Outlook). r .limits) e in
       rw (p, q) refl
 

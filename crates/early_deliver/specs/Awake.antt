@@ -14,13 +14,9 @@ use Rattle.tables.specs.Word.{allOnes}
 use Rattle.early.specs.declared.Notification.{Notification}
 use Rattle.early.specs.Log.{leastHeard}
 use Rattle.early.specs.Deliver.{Sooner}
-use Rattle.early_limits.specs.declared.Crew.{Crew}
 use Rattle.early_deliver.specs.declared.Outlook.{Outlook}
 use Rattle.early_limits.specs.Limit.{limitOfCycle, sumOf}
-use Rattle.early_limits.specs.Ahead.{forecastAt, earliestLimits, segmentsOf, eventsOf}
-
-unfoldable pub crewOf : ℕ → List Thread → Crew
-crewOf t ts = record { segments = segmentsOf t ts; events = eventsOf t ts }
+use Rattle.early_limits.specs.Ahead.{forecastAt, earliestLimits, segmentsOf, crewOf}
 
 -- a bound as a limit
 abbrev pub boundLimit : Bound → ℕ
@@ -41,7 +37,7 @@ firstLimits t l ts = tabulate 32 0 (λ k. cond (ltb k t) (firstLimit l (threadAt
 
 -- earliest of every thread
 unfoldable pub aheadOf : List ℕ → ℕ → List Notification → List Thread → List ℕ
-aheadOf reach t l ts = earliestLimits reach (segmentsOf t ts) (eventsOf t ts) t (firstLimits t l ts)
+aheadOf reach t l ts = earliestLimits reach (crewOf t ts) t (firstLimits t l ts)
 
 -- whether the forecast of event e, on the limits xs, is smaller than a bound
 unfoldable pub soonerAt : List ℕ → ℕ → List ℕ → List ℕ → ℕ → Bound → Bool
@@ -53,4 +49,4 @@ soonerOn reach t l ts = soonerAt reach t (segmentsOf t ts) (aheadOf reach t l ts
 
 -- what the code holds of the records ts
 unfoldable pub outlookOf : List ℕ → ℕ → List Notification → List Thread → Bool → Outlook
-outlookOf reach t l ts heard = record { threads = record { at = ts }; crew = crewOf t ts; limits = record { at = aheadOf reach t l ts }; heard = heard }
+outlookOf reach t l ts heard = record { threads = record { at = ts }; segments = segmentsOf t ts; limits = record { at = aheadOf reach t l ts }; heard = heard }

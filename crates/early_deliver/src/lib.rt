@@ -18,18 +18,18 @@ ghost use Rattle.plain.specs.Wake.{floorBelow};
 ghost use Rattle.early.specs.Log.{logOf};
 ghost use Rattle.early.specs.Deliver.{heardBy, lookedBy, sweptBy, settledBy};
 ghost use Rattle.early_limits.specs.Limit.{sumOf, atMost};
-ghost use Rattle.early_limits.specs.Ahead.{eventAwaited};
-ghost use Rattle.early_deliver.specs.Awake.{crewOf, boundLimit, firstLimit, firstLimits, soonerAt, soonerOn, outlookOf};
+ghost use Rattle.early_limits.specs.Ahead.{eventAwaited, sinceAwaited, crewOf};
+ghost use Rattle.early_deliver.specs.Awake.{boundLimit, firstLimit, firstLimits, soonerAt, soonerOn, outlookOf};
 
 // A limit that stands for never, and the least that does so in a sum.
 const NEVER: u64 = 18446744073709551615;
 
 const TOP: u64 = 4611686018427387904;
 
-// The records with what is known of them: the crew, the earliest limits, and whether a thread has heard.
+// The records with what is known of them: the segments, the earliest limits, and whether a thread has heard.
 pub struct Outlook {
     pub threads: Threads,
-    pub crew: Crew,
+    pub segments: [u8; 32],
     pub limits: Limits,
     pub heard: bool,
 }
@@ -54,6 +54,16 @@ fn event_awaited(s: State) -> u8
     e
 }
 
+// The limit of the cycle in which a thread's wait began, or 0.
+fn since_awaited(s: State) -> u64
+    ensures { λ r. ⌜ r ≡ sinceAwaited (awaitedBy s) ⌝ }
+{
+    let State::Waiting(_, since) = s else {
+        return 0;
+    };
+    early_ahead::limit_of(since)
+}
+
 fn crew_of(threads: Threads, t: u8) -> Crew
     requires { ⌜ t ≤ 32 ⌝ }
     ensures { λ r. ⌜ r ≡ crewOf t (threads .at) ⌝ }
@@ -61,15 +71,21 @@ fn crew_of(threads: Threads, t: u8) -> Crew
     let n = buffers::wide(t);
     let mut segments = [0u8; 32];
     let mut events = [255u8; 32];
+    let mut since = [0u64; 32];
     let mut k = 0;
     while k < n {
         let x = threads.at[k];
         let s = x.state;
         segments[k] = x.segment;
         events[k] = event_awaited(s);
+        since[k] = since_awaited(s);
         k += 1;
     }
-    Crew { segments, events }
+    Crew {
+        segments,
+        events,
+        since,
+    }
 }
 
 // One delta later.
@@ -126,17 +142,18 @@ fn outlook_with(reach: &[u64], site: Site, threads: Threads, t: u8, heard: bool)
     let crew = crew_of(threads, t);
     let first = first_limits(site, threads, t);
     let limits = early_ahead::earliest(reach, crew, first, t);
+    let segments = crew.segments;
     Outlook {
         threads,
-        crew,
+        segments,
         limits,
         heard,
     }
 }
 
 // Document 01: "A delivery is looked for only if the thread waits".
-fn heard_by(reach: &[u64], site: Site, crew: Crew, xs: Limits, t: u8, s: State) -> Bound
-    ensures { λ r. ⌜ r ≡ heardBy (soonerAt (now (reach .entry)) t (crew .segments) (xs .at)) (logOf site) (awaitedBy s) ⌝ }
+fn heard_by(reach: &[u64], site: Site, segments: [u8; 32], xs: Limits, t: u8, s: State) -> Bound
+    ensures { λ r. ⌜ r ≡ heardBy (soonerAt (now (reach .entry)) t segments (xs .at)) (logOf site) (awaitedBy s) ⌝ }
 {
     let State::Waiting(e, since) = s else {
         return Bound::Never;
@@ -144,7 +161,7 @@ fn heard_by(reach: &[u64], site: Site, crew: Crew, xs: Limits, t: u8, s: State) 
     let Bound::At(c) = early_log::least_heard(site, e, since) else {
         return Bound::Never;
     };
-    if early_ahead::forecast(reach, crew, xs, t, e) < early_ahead::limit_of(c) {
+    if early_ahead::forecast(reach, segments, xs, t, e) < early_ahead::limit_of(c) {
         return Bound::Never;
     }
     Bound::At(c)
@@ -169,11 +186,11 @@ fn look(reach: &[u64], site: Site, o: Outlook, t: u8, k: usize) -> Outlook
     ensures still { λ r. ⌜ (r .heard ≡ false → (o .heard ≡ false) × (r .threads .at ≡ o .threads .at)) ⌝ }
 {
     let mut threads = o.threads;
-    let crew = o.crew;
+    let segments = o.segments;
     let limits = o.limits;
     let x = threads.at[k];
     let s = x.state;
-    let Bound::At(c) = heard_by(reach, site, crew, limits, t, s) else {
+    let Bound::At(c) = heard_by(reach, site, segments, limits, t, s) else {
         return o;
     };
     let state = woken_at(c);
@@ -193,11 +210,11 @@ fn sweep(reach: &[u64], site: Site, o: Outlook, t: u8) -> Outlook
 {
     let n = buffers::wide(t);
     let threads = o.threads;
-    let crew = o.crew;
+    let segments = o.segments;
     let limits = o.limits;
     let mut w = Outlook {
         threads,
-        crew,
+        segments,
         limits,
         heard: false,
     };
@@ -243,7 +260,7 @@ pub fn floor_of(threads: Threads, t: u8) -> Bound
     least
 }
 
-// The records with their crew and their earliest limits; nobody has heard.
+// The records with their segments and their earliest limits; nobody has heard.
 pub fn outlook_of(reach: &[u64], site: Site, threads: Threads, t: u8) -> Outlook
     ensures { λ r. ⌜ r ≡ outlookOf (now (reach .entry)) (atMost 32 t) (logOf site) (threads .at) false ⌝ }
 {

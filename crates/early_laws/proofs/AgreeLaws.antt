@@ -27,7 +27,7 @@ use Rattle.plain.specs.Wake.{floorBelow, floorOf}
 use Rattle.early.specs.declared.Notification.{Notification}
 use Rattle.early.specs.declared.Site.{Site}
 use Rattle.early.specs.Log.{leastHeard}
-use Rattle.early.specs.Earliest.{sourceOf, soonestNotify, afterNotify, linkTo, sources, relaxed, withLinks, earliestOf}
+use Rattle.early.specs.Earliest.{sourceOf, soonestNotify, raised, afterNotify, linkTo, sources, relaxed, withLinks, earliestOf}
 use Rattle.early.specs.Forecast.{forecastOf}
 use Rattle.early.specs.Hazard.{threadsConflict, isSooner, threatens, hazard}
 use Rattle.early.specs.Deliver.{forecastSooner, heardBy, heardNow}
@@ -74,7 +74,7 @@ module _ (m : Model) (ts us : List Thread) (agree : Agree m ts us) where
       where
         go : (a : Awaited) → afterNotify m ws ts j x a ≡ afterNotify m ys us j x a
         go nothing = refl
-        go (awaits e since) = ap (λ (b : Bound). b ⊕ oneDelta) (soonestNotify-same j x e p)
+        go (awaits e since) = ap (λ (b : Bound). raised since b ⊕ oneDelta) (soonestNotify-same j x e p)
 
     module _ (l : List Notification) where
       sources-same : sources m l ts ≡ sources m l us

@@ -30,8 +30,9 @@ use Rattle.tables.specs.Word.{distanceIn}
 use Rattle.plain_laws.proofs.RecordLaws.{not-live→idle}
 use Rattle.early.specs.declared.Notification.{Notification}
 use Rattle.early.specs.Log.{pairOf, leastHeard}
-use Rattle.early.specs.Earliest.{sourceOf, soonestNotify, linkTo, Chain, source, link, IsEarliest, sources, relaxed, withLinks, earliestOf}
+use Rattle.early.specs.Earliest.{sourceOf, soonestNotify, raised, linkTo, Chain, source, link, IsEarliest, sources, relaxed, withLinks, earliestOf}
 use Rattle.early_laws.proofs.LogLaws.{In, leastHeard-≼, leastHeard-at}
+use Rattle.early_laws.proofs.RaiseLaws.{raised-lub}
 use Rattle.early_laws.proofs.LinkLaws.{oneDelta-from, sourceOf-ready, sourceOf-waiting, sourceOf-idle, soonestNotify-≼, linkTo-waiting, linkTo-other, linkTo-inflate, linkTo-mono, linkTo-from, linkTo-later}
 
 abbrev pub earliestAt : Model → List ℕ → List Notification → List Thread → ℕ → Bound
@@ -165,44 +166,34 @@ module _ (m : Model) (ws : List ℕ) (l : List Notification) (ts : List Thread) 
       (earliest-≼ (source h)))
       (⊕-mono (leastHeard l e since) (At (x .cycle)) oneDelta oneDelta (leastHeard-≼ l e since x i p q) (≼-refl oneDelta))
 
-  -- "one delta after that thread's earliest plus the distance to a segment notifying the event"
-  pub earliest-link : (k e : ℕ) (since : Cycle) (j s : ℕ) → k < m .t → viewOf (threadAt ts k .state) ≡ view.waits e since → j < m .t → T (isLive (threadAt ts j .state)) → s < m .n → T (notifiesIn m j s e)
-      → earliestAt m ws l ts k ≼ earliestAt m ws l ts j ⊕ distanceIn m ws (threadAt ts j .segment) s ⊕ oneDelta
-  earliest-link k e since j s h w p live q t = go (earliestAt m ws l ts j) refl
-    where
-      d : Bound
-      d = distanceIn m ws (threadAt ts j .segment) s
-
-      go : (x : Bound) → earliestAt m ws l ts j ≡ x → earliestAt m ws l ts k ≼ x ⊕ d ⊕ oneDelta
-      go Never f = rw (Never-⊕ d, Never-⊕ oneDelta) tt
-      go (At b) f =
-          ≼-trans
-          (earliestAt m ws l ts k)
-          (soonestNotify m ws ts j (At b) e ⊕ oneDelta)
-          (At b ⊕ d ⊕ oneDelta)
-          (subst
-          (λ (y : Bound). earliestAt m ws l ts k ≼ y)
-          (linkTo-waiting m ws ts j k e since (At b) w)
-          (earliest-≼ (link h (earliest-chain j b p f))))
-          (⊕-mono
-          (soonestNotify m ws ts j (At b) e)
-          (At b ⊕ d)
-          oneDelta
-          oneDelta
-          (soonestNotify-≼ m ws ts j (At b) e s live q t)
-          (≼-refl oneDelta))
-
-  -- the same for a cycle that is not before that sum
-  pub earliest-linked : (k e : ℕ) (since : Cycle) (j s : ℕ) (x : Cycle) → k < m .t → viewOf (threadAt ts k .state) ≡ view.waits e since → j < m .t → T (isLive (threadAt ts j .state)) → s < m .n → T (notifiesIn m j s e) → since ⊑ x
-      → earliestAt m ws l ts j ⊕ distanceIn m ws (threadAt ts j .segment) s ≼ At x → earliestAt m ws l ts k ≼ At x ⊕ oneDelta
-  earliest-linked k e since j s x h w p live q t r b =
-      let sum = earliestAt m ws l ts j ⊕ distanceIn m ws (threadAt ts j .segment) s in
+  -- "one delta after that thread's earliest plus the distance to a segment notifying the event": of a bound that is not before that sum, nor
+  -- before the wait
+  pub earliest-link : (k e : ℕ) (since : Cycle) (j s : ℕ) (y : Bound) → k < m .t → viewOf (threadAt ts k .state) ≡ view.waits e since → j < m .t → T (isLive (threadAt ts j .state)) → s < m .n → T (notifiesIn m j s e)
+      → At since ≼ y → earliestAt m ws l ts j ⊕ distanceIn m ws (threadAt ts j .segment) s ≼ y → earliestAt m ws l ts k ≼ y ⊕ oneDelta
+  earliest-link k e since j s y h w p live q t begun sum =
       ≼-trans
       (earliestAt m ws l ts k)
-      (sum ⊕ oneDelta)
-      (At x ⊕ oneDelta)
-      (earliest-link k e since j s h w p live q t)
-      (⊕-mono sum (At x) oneDelta oneDelta b (≼-refl oneDelta))
+      (raised since x ⊕ oneDelta)
+      (y ⊕ oneDelta)
+      (subst
+      (λ (z : Bound). earliestAt m ws l ts k ≼ z)
+      (linkTo-waiting m ws ts j k e since (earliestAt m ws l ts j) w)
+      (earliest-relaxed j k p h))
+      (⊕-mono
+      (raised since x)
+      y
+      oneDelta
+      oneDelta
+      (raised-lub
+      since
+      x
+      y
+      begun
+      (≼-trans x (earliestAt m ws l ts j ⊕ distanceIn m ws (threadAt ts j .segment) s) y (soonestNotify-≼ m ws ts j (earliestAt m ws l ts j) e s live q t) sum))
+      (≼-refl oneDelta))
+    where
+      x : Bound
+      x = soonestNotify m ws ts j (earliestAt m ws l ts j) e
 
   -- thread j is ready at a cycle that is not after b, and before it where thread k waits
   abbrev pub FromReady : ℕ → Cycle → Type 0

@@ -1,5 +1,5 @@
 -- Forecast is the least of earliest plus distance over live threads and segments notifying the event. And a waiting thread's earliest is
--- the delta after the lesser of what it can hear from the log and the forecast of its event: deliveries turn on this.
+-- the delta after the lesser of what it can hear from the log and the forecast of its event, raised to its wait: deliveries turn on this.
 use Prim.Native.Nat.{ℕ, _<_}
 use mathlib.Core.Path.{_≡_, refl, ap, sym, _∙_, subst}
 use mathlib.Core.Logic.{_⊎_, inl, inr}
@@ -22,8 +22,9 @@ use Rattle.model.specs.Footprint.{notifiesIn}
 use Rattle.tables.specs.Word.{distanceIn}
 use Rattle.early.specs.declared.Notification.{Notification}
 use Rattle.early.specs.Log.{leastHeard}
-use Rattle.early.specs.Earliest.{sourceOf, soonestNotify, Chain, source, link}
+use Rattle.early.specs.Earliest.{sourceOf, soonestNotify, raised, Chain, source, link}
 use Rattle.early.specs.Forecast.{forecastOf}
+use Rattle.early_laws.proofs.RaiseLaws.{raised-since, raised-inflate, raised-Never, raised-mono}
 use Rattle.early_laws.proofs.LinkLaws.{sourceOf-waiting, soonestNotify-≼, soonestNotify-one, soonestNotify-glb, soonestNotify-mono, linkTo-waiting}
 use Rattle.early_laws.proofs.EarliestLaws.{earliestAt, chain-below, earliest-≼, earliest-glb, earliest-link}
 
@@ -80,58 +81,66 @@ module _ (m : Model) (ws : List ℕ) (l : List Notification) (ts : List Thread) 
 
   -- A thread that waits: its source is the delta after what is logged, its links are the delta after what others may notify.
   module _ (k e : ℕ) (since : Cycle) (h : k < m .t) (w : viewOf (threadAt ts k .state) ≡ view.waits e since) where
-    -- the lesser of the two
+    -- what others may notify, and the lesser of that and what is logged
+    foretold : Bound
+    foretold = raised since (forecastOf m ws l ts e)
+
     soonest : Bound
-    soonest = least (leastHeard l e since) (forecastOf m ws l ts e)
+    soonest = least (leastHeard l e since) foretold
 
     chain-waiting : {i : ℕ} {x : Bound} → Chain m ws l ts i x → i ≡ k → soonest ⊕ oneDelta ≼ x
-    unfolding soonest
+    unfolding soonest foretold
     chain-waiting (source {k = i} p) f =
         rw
         (f, sourceOf-waiting l (threadAt ts k .state) e since w)
-        (⊕-mono soonest (leastHeard l e since) oneDelta oneDelta (least-left (leastHeard l e since) (forecastOf m ws l ts e)) (≼-refl oneDelta))
+        (⊕-mono soonest (leastHeard l e since) oneDelta oneDelta (least-left (leastHeard l e since) foretold) (≼-refl oneDelta))
     chain-waiting (link {j = j} {k = i} {x = x} p c) f =
         rw
         (f, linkTo-waiting m ws ts j k e since x w)
         (⊕-mono
         soonest
-        (soonestNotify m ws ts j x e)
+        (raised since (soonestNotify m ws ts j x e))
         oneDelta
         oneDelta
         (≼-trans
         soonest
+        foretold
+        (raised since (soonestNotify m ws ts j x e))
+        (least-right (leastHeard l e since) foretold)
+        (raised-mono
+        since
         (forecastOf m ws l ts e)
         (soonestNotify m ws ts j x e)
-        (least-right (leastHeard l e since) (forecastOf m ws l ts e))
         (≼-trans
         (forecastOf m ws l ts e)
         (soonestNotify m ws ts j (earliestAt m ws l ts j) e)
         (soonestNotify m ws ts j x e)
         (forecast-by e j (chain-below m ws l ts c))
-        (soonestNotify-mono m ws ts j (earliestAt m ws l ts j) x e (earliest-≼ m ws l ts c))))
+        (soonestNotify-mono m ws ts j (earliestAt m ws l ts j) x e (earliest-≼ m ws l ts c)))))
         (≼-refl oneDelta))
 
-    after-forecast : earliestAt m ws l ts k ≼ forecastOf m ws l ts e ⊕ oneDelta
+    after-forecast : earliestAt m ws l ts k ≼ foretold ⊕ oneDelta
+    unfolding foretold
     after-forecast = go (forecastOf m ws l ts e) refl
       where
-        go : (x : Bound) → forecastOf m ws l ts e ≡ x → earliestAt m ws l ts k ≼ x ⊕ oneDelta
-        go Never f = rw (Never-⊕ oneDelta) tt
+        go : (x : Bound) → forecastOf m ws l ts e ≡ x → earliestAt m ws l ts k ≼ raised since x ⊕ oneDelta
+        go Never f = rw (raised-Never since, Never-⊕ oneDelta) tt
         go (At b) f =
             let (j, s, p, live, q, t, g) = forecast-attained e b f in
-            subst (λ (x : Bound). earliestAt m ws l ts k ≼ x ⊕ oneDelta) g (earliest-link m ws l ts k e since j s h w p live q t)
+            earliest-link m ws l ts k e since j s (raised since (At b)) h w p live q t (raised-since since (At b)) (rw g (raised-inflate since (At b)))
 
-    pub earliest-waiting : earliestAt m ws l ts k ≡ least (leastHeard l e since) (forecastOf m ws l ts e) ⊕ oneDelta
-    unfolding soonest
+    pub earliest-waiting : earliestAt m ws l ts k ≡ least (leastHeard l e since) (raised since (forecastOf m ws l ts e)) ⊕ oneDelta
+    unfolding soonest foretold
     earliest-waiting =
         ≼-antisym
         (earliestAt m ws l ts k)
         (soonest ⊕ oneDelta)
         (rw
-        (least-⊕ (leastHeard l e since) (forecastOf m ws l ts e) oneDelta)
+        (least-⊕ (leastHeard l e since) foretold oneDelta)
         (least-glb
         (earliestAt m ws l ts k)
         (leastHeard l e since ⊕ oneDelta)
-        (forecastOf m ws l ts e ⊕ oneDelta)
+        (foretold ⊕ oneDelta)
         (subst (λ (x : Bound). earliestAt m ws l ts k ≼ x) (sourceOf-waiting l (threadAt ts k .state) e since w) (earliest-≼ m ws l ts (source h)))
         after-forecast))
         (earliest-glb m ws l ts k (soonest ⊕ oneDelta) h (λ x c. chain-waiting c refl))

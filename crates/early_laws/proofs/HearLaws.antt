@@ -23,9 +23,10 @@ use Rattle.model.specs.Record.{threadAt, nothing, awaitedBy, stateAfter, awaite
 use Rattle.tables.specs.Word.{distanceIn}
 use Rattle.early.specs.declared.Notification.{Notification}
 use Rattle.early.specs.Log.{leastHeard}
-use Rattle.early.specs.Earliest.{sourceOf, linkTo, Chain, source, link}
+use Rattle.early.specs.Earliest.{sourceOf, raised, linkTo, Chain, source, link}
 use Rattle.early.specs.Forecast.{forecastOf}
 use Rattle.early.specs.Deliver.{heardNow, lookedAt}
+use Rattle.early_laws.proofs.RaiseLaws.{raised-inflate}
 use Rattle.early_laws.proofs.LinkLaws.{sourceOf-ready, sourceOf-idle, linkTo-other, linkTo-mono, linkTo-rises}
 use Rattle.early_laws.proofs.EarliestLaws.{earliestAt, chain-below, earliest-≼, earliest-glb, earliest-relaxed}
 use Rattle.early_laws.proofs.ForecastLaws.{forecast-below, forecast-glb, earliest-waiting}
@@ -40,14 +41,20 @@ module _ (m : Model) (ws : List ℕ) (l : List Notification) (ts : List Thread) 
   heard-earliest x p =
       let (e, since, w, q) = heardAt-waits m ws l ts k x p in
       let (f, b) = heardNow-at m ws l ts e since x q in
+      let foretold = raised since (forecastOf m ws l ts e) in
       earliest-waiting m ws l ts k e since h w
       ∙ ap
       (λ (y : Bound). y ⊕ oneDelta)
       (≼-antisym
-      (least (leastHeard l e since) (forecastOf m ws l ts e))
+      (least (leastHeard l e since) foretold)
       (At x)
-      (subst (λ (y : Bound). least (leastHeard l e since) (forecastOf m ws l ts e) ≼ y) f (least-left (leastHeard l e since) (forecastOf m ws l ts e)))
-      (least-glb (At x) (leastHeard l e since) (forecastOf m ws l ts e) (subst (λ (y : Bound). At x ≼ y) (sym f) (≼-refl (At x))) b))
+      (subst (λ (y : Bound). least (leastHeard l e since) foretold ≼ y) f (least-left (leastHeard l e since) foretold))
+      (least-glb
+      (At x)
+      (leastHeard l e since)
+      foretold
+      (subst (λ (y : Bound). At x ≼ y) (sym f) (≼-refl (At x)))
+      (≼-trans (At x) (forecastOf m ws l ts e) foretold b (raised-inflate since (forecastOf m ws l ts e)))))
 
   -- it is ready there, or overrun and begins no chain
   heard-source : (x : Cycle) → heardAt m ws l ts k ≡ At x → earliestAt m ws l ts k ≼ sourceOf l (stateAfter (waitEnds wait.Event x))

@@ -1,6 +1,7 @@
 pub mod LogLaws
 pub mod OnceLaws
 pub mod RoomLaws
+pub mod RaiseLaws
 pub mod LinkLaws
 pub mod EarliestLaws
 pub mod ForecastLaws

@@ -27,7 +27,8 @@ use Rattle.tables.specs.Word.{distanceIn}
 use Rattle.plain_laws.proofs.RecordLaws.{not-live→idle}
 use Rattle.early.specs.declared.Notification.{Notification}
 use Rattle.early.specs.Log.{leastHeard}
-use Rattle.early.specs.Earliest.{afterHeard, sourceOf, soonestNotify, afterNotify, linkTo}
+use Rattle.early.specs.Earliest.{afterHeard, sourceOf, soonestNotify, raised, afterNotify, linkTo}
+use Rattle.early_laws.proofs.RaiseLaws.{raised-inflate, raised-mono}
 
 -- one delta after
 
@@ -140,7 +141,7 @@ module _ (m : Model) (ws : List ℕ) (ts : List Thread) (k : ℕ) where
 
 -- a link from thread j to thread k
 module _ (m : Model) (ws : List ℕ) (ts : List Thread) (j k : ℕ) where
-  pub linkTo-waiting : (e : ℕ) (since : Cycle) (x : Bound) → viewOf (threadAt ts k .state) ≡ view.waits e since → linkTo m ws ts j k x ≡ soonestNotify m ws ts j x e ⊕ oneDelta
+  pub linkTo-waiting : (e : ℕ) (since : Cycle) (x : Bound) → viewOf (threadAt ts k .state) ≡ view.waits e since → linkTo m ws ts j k x ≡ raised since (soonestNotify m ws ts j x e) ⊕ oneDelta
   unfolding linkTo afterNotify
   linkTo-waiting e since x p = rw p refl
 
@@ -149,36 +150,39 @@ module _ (m : Model) (ws : List ℕ) (ts : List Thread) (j k : ℕ) where
   unfolding linkTo afterNotify
   linkTo-other x p = rw p refl
 
-  pub linkTo-case : (Q : (Bound → Bound) → Type 0) → Q (λ x. Never) → ((e : ℕ) → Q (λ x. soonestNotify m ws ts j x e ⊕ oneDelta)) → Q (linkTo m ws ts j k)
+  pub linkTo-case : (Q : (Bound → Bound) → Type 0) → Q (λ x. Never)
+      → ((e : ℕ) (since : Cycle) → awaitedBy (threadAt ts k .state) ≡ awaits e since → Q (λ x. raised since (soonestNotify m ws ts j x e) ⊕ oneDelta)) → Q (linkTo m ws ts j k)
   unfolding linkTo afterNotify
-  linkTo-case Q none some = go (awaitedBy (threadAt ts k .state))
+  linkTo-case Q none some = go (awaitedBy (threadAt ts k .state)) refl
     where
-      go : (a : Awaited) → Q (λ x. afterNotify m ws ts j x a)
-      go nothing = none
-      go (awaits e since) = some e
+      go : (a : Awaited) → awaitedBy (threadAt ts k .state) ≡ a → Q (λ x. afterNotify m ws ts j x a)
+      go nothing p = none
+      go (awaits e since) p = some e since p
+
+  -- what another thread may notify, raised, is no sooner than that thread
+  notified-inflate : (since : Cycle) (x : Bound) (e : ℕ) → x ≼ raised since (soonestNotify m ws ts j x e)
+  notified-inflate since x e =
+      let y = soonestNotify m ws ts j x e in
+      ≼-trans x y (raised since y) (soonestNotify-inflate m ws ts j x e) (raised-inflate since y)
 
   pub linkTo-inflate : (x : Bound) → x ≼ linkTo m ws ts j k x
   linkTo-inflate =
       linkTo-case
       (λ (f : Bound → Bound). (x : Bound) → x ≼ f x)
       (λ x. tt)
-      (λ e x.
-      let y = soonestNotify m ws ts j x e in
-      ≼-trans x y (y ⊕ oneDelta) (soonestNotify-inflate m ws ts j x e) (⊕-inflate y oneDelta))
+      (λ e since p x.
+      let y = raised since (soonestNotify m ws ts j x e) in
+      ≼-trans x y (y ⊕ oneDelta) (notified-inflate since x e) (⊕-inflate y oneDelta))
 
   pub linkTo-mono : (x y : Bound) → x ≼ y → linkTo m ws ts j k x ≼ linkTo m ws ts j k y
   linkTo-mono =
       linkTo-case
       (λ (f : Bound → Bound). (x y : Bound) → x ≼ y → f x ≼ f y)
       (λ x y h. tt)
-      (λ e x y h.
-      ⊕-mono
-      (soonestNotify m ws ts j x e)
-      (soonestNotify m ws ts j y e)
-      oneDelta
-      oneDelta
-      (soonestNotify-mono m ws ts j x y e h)
-      (≼-refl oneDelta))
+      (λ e since p x y h.
+      let a = soonestNotify m ws ts j x e in
+      let b = soonestNotify m ws ts j y e in
+      ⊕-mono (raised since a) (raised since b) oneDelta oneDelta (raised-mono since a b (soonestNotify-mono m ws ts j x y e h)) (≼-refl oneDelta))
 
   -- a link that comes to a cycle comes from one before it
   pub linkTo-from : (x : Bound) (b : Cycle) → linkTo m ws ts j k x ≡ At b → (d : Cycle) × (x ≡ At d) × Before d b
@@ -186,14 +190,14 @@ module _ (m : Model) (ws : List ℕ) (ts : List Thread) (j k : ℕ) where
       linkTo-case
       (λ (f : Bound → Bound). f x ≡ At b → (d : Cycle) × (x ≡ At d) × Before d b)
       (λ p. let z : _≡_ {A = ℕ} 0 1 = cc in absurd (omega arith))
-      (λ e p. go e (oneDelta-from (soonestNotify m ws ts j x e) b p))
+      (λ e since w p. go e since (oneDelta-from (raised since (soonestNotify m ws ts j x e)) b p))
     where
       low : (x : Bound) (c : Cycle) → x ≼ At c → Before c b → (d : Cycle) × (x ≡ At d) × Before d b
       low Never c h l = absurd h
       low (At d) c h l = (d, refl, ⊑-Before-trans h l)
 
-      go : (e : ℕ) → (c : Cycle) × (soonestNotify m ws ts j x e ≡ At c) × Before c b → (d : Cycle) × (x ≡ At d) × Before d b
-      go e (c, p, l) = low x c (subst (λ (y : Bound). x ≼ y) p (soonestNotify-inflate m ws ts j x e)) l
+      go : (e : ℕ) (since : Cycle) → (c : Cycle) × (raised since (soonestNotify m ws ts j x e) ≡ At c) × Before c b → (d : Cycle) × (x ≡ At d) × Before d b
+      go e since (c, p, l) = low x c (subst (λ (y : Bound). x ≼ y) p (notified-inflate since x e)) l
 
   pub linkTo-later : (x : Bound) → (linkTo m ws ts j k x ≡ Never → ⊥) → Sooner x (linkTo m ws ts j k x)
   linkTo-later x finite = go (linkTo m ws ts j k x) refl
@@ -232,4 +236,6 @@ linkTo-rises m ws ts us j k x segment live waits = rw waits (go (awaitedBy (thre
     go : (a : Awaited) → afterNotify m ws ts j x a ≼ afterNotify m ws us j x a
     go nothing = tt
     go (awaits e since) =
-        ⊕-mono (soonestNotify m ws ts j x e) (soonestNotify m ws us j x e) oneDelta oneDelta (notify e) (≼-refl oneDelta)
+        let a = soonestNotify m ws ts j x e in
+        let b = soonestNotify m ws us j x e in
+        ⊕-mono (raised since a) (raised since b) oneDelta oneDelta (raised-mono since a b (notify e)) (≼-refl oneDelta)

@@ -38,7 +38,7 @@ use Rattle.tables.specs.Word.{distanceIn}
 use Rattle.early.specs.declared.Site.{Site}
 use Rattle.early.specs.declared.Notification.{Notification}
 use Rattle.early.specs.Log.{logOf, siteOf}
-use Rattle.early.specs.Earliest.{sources, soonestNotify, afterNotify, linkTo, relaxed, withLinks, earliestOf}
+use Rattle.early.specs.Earliest.{sources, soonestNotify, raised, afterNotify, linkTo, relaxed, withLinks, earliestOf}
 use Rattle.early.specs.Forecast.{forecastOf}
 use Rattle.early.specs.Hazard.{threadsConflict, isSooner, threatens, hazard}
 use Rattle.early.specs.Deliver.{forecastSooner}
@@ -155,7 +155,7 @@ module _ (m : Model) (gs : List Segment) (ss : List Start)
       where
         go : (a : Awaited) → afterNotify o ws ts j x a ≡ afterNotify m ws ts j x a
         go nothing = refl
-        go (awaits e since) = ap (λ (b : Bound). b ⊕ oneDelta) (soonestNotify-same ts j x e)
+        go (awaits e since) = ap (λ (b : Bound). raised since b ⊕ oneDelta) (soonestNotify-same ts j x e)
 
     relaxed-same : (ts : List Thread) (xs : List Bound) → relaxed o ws ts xs ≡ relaxed m ws ts xs
     unfolding o relaxed

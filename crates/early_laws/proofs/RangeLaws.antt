@@ -21,15 +21,16 @@ use Rattle.model.specs.declared.State.{State}
 use Rattle.model.specs.declared.Thread.{Thread}
 use Rattle.model.specs.Limits.{cutTime, recordTime}
 use Rattle.model.specs.Record as view
-use Rattle.model.specs.Record.{threadAt, cycleOf, View, viewOf}
+use Rattle.model.specs.Record.{threadAt, cycleOf, View, viewOf, awaits, awaitedBy}
 use Rattle.tables.specs.Word.{allOnes, boundOf, distanceIn}
 use Rattle.tables_laws.proofs.WordLaws.{place-below}
-use Rattle.plain_laws.proofs.RecordLaws.{ready-cycle}
+use Rattle.plain_laws.proofs.RecordLaws.{ready-cycle, waits-cycle, awaits→waits}
 use Rattle.early.specs.declared.Notification.{Notification}
 use Rattle.early.specs.Log.{pairOf, leastHeard}
-use Rattle.early.specs.Earliest.{sourceOf, soonestNotify, linkTo, earliestOf}
+use Rattle.early.specs.Earliest.{sourceOf, soonestNotify, raised, linkTo, earliestOf}
 use Rattle.early.specs.Fit.{isFitThread, isFitWord}
 use Rattle.early_laws.proofs.LogLaws.{In, leastHeard-at}
+use Rattle.early_laws.proofs.RaiseLaws.{raised-case}
 use Rattle.early_laws.proofs.LinkLaws.{sourceOf-ready, sourceOf-waiting, sourceOf-idle, soonestNotify-one, linkTo-case}
 use Rattle.early_laws.proofs.EarliestLaws.{earliestAt, linkedAt, withLinks-none, withLinks-more}
 use Rattle.early_laws.proofs.FitLaws.{FitCycle, isFitThread→, FitPair, isFitWord→, FitWord}
@@ -116,6 +117,12 @@ module _ (m : Model) (ws : List ℕ) (l : List Notification) (ts : List Thread)
             let fits = fit-log (pairOf e c) (leastHeard-at l e since c f .0) in
             (fits .cycle .time, fits .cycle .delta)
 
+    -- a wait began at the cycle that its record holds
+    pub began-fit : (k e : ℕ) (since : Cycle) → k < m .t → awaitedBy (threadAt ts k .state) ≡ awaits e since → FitCycle recordTime since
+    began-fit k e since h a =
+        let s = threadAt ts k .state in
+        subst (FitCycle recordTime) (waits-cycle s e since (awaits→waits (viewOf s) e since a)) (isFitThread→ m k (threadAt ts k) (fit-threads k h) .cycle)
+
     within-source : (k : ℕ) → k < m .t → Within recordTime 1024 (sourceOf l (threadAt ts k .state))
     within-source k h = go (viewOf s) refl
       where
@@ -163,8 +170,14 @@ module _ (m : Model) (ws : List ℕ) (l : List Notification) (ts : List Thread)
             let (live, (s, p, u, g)) = soonestNotify-one m ws ts k x e b f in
             subst (Within (t + cutTime) (d + lastDelta)) g (within-sum t d x k s h p w)
 
-    pub within-link : (t d : ℕ) (x : Bound) (j k : ℕ) → j < m .t → Within t d x → Within (t + cutTime) (d + 1024) (linkTo m ws ts j k x)
-    within-link t d x j k h w =
+    -- raised to a wait of a fit record, where the bound that links began from is at least as large
+    pub within-raised : (t d : ℕ) (k e : ℕ) (since : Cycle) (x : Bound) → recordTime ≤ t → lastDelta ≤ d → k < m .t → awaitedBy (threadAt ts k .state) ≡ awaits e since → Within t d x → Within t d (raised since x)
+    within-raised t d k e since x p q h a w =
+        let fits = began-fit k e since h a in
+        raised-case since (Within t d) x (omega (arith, fits .time), omega (arith, fits .delta)) w
+
+    pub within-link : (t d : ℕ) (x : Bound) (j k : ℕ) → recordTime ≤ t → j < m .t → k < m .t → Within t d x → Within (t + cutTime) (d + 1024) (linkTo m ws ts j k x)
+    within-link t d x j k large h waits w =
         linkTo-case
         m
         ws
@@ -173,16 +186,21 @@ module _ (m : Model) (ws : List ℕ) (l : List Notification) (ts : List Thread)
         k
         (λ (f : Bound → Bound). Within (t + cutTime) (d + 1024) (f x))
         tt
-        (λ e.
+        (λ e since a.
+        let y = soonestNotify m ws ts j x e in
         within-more
         (t + cutTime)
         (d + lastDelta + 1)
         (t + cutTime)
         (d + 1024)
-        (soonestNotify m ws ts j x e ⊕ oneDelta)
+        (raised since y ⊕ oneDelta)
         (omega arith)
         (omega arith)
-        (within-oneDelta (t + cutTime) (d + lastDelta) (soonestNotify m ws ts j x e) (within-notify t d x j e h w)))
+        (within-oneDelta
+        (t + cutTime)
+        (d + lastDelta)
+        (raised since y)
+        (within-raised (t + cutTime) (d + lastDelta) k e since y (omega arith) (omega arith) waits a (within-notify t d x j e h w))))
 
     -- after i rounds
     pub within-links : (i k : ℕ) → k < m .t → Within (recordTime + i * cutTime) (1024 + i * 1024) (linkedAt m ws l ts i k)
@@ -213,7 +231,7 @@ module _ (m : Model) (ws : List ℕ) (l : List Notification) (ts : List Thread)
         (linkTo m ws ts j k (linkedAt m ws l ts i j))
         (omega arith)
         (omega arith)
-        (within-link (recordTime + i * cutTime) (1024 + i * 1024) (linkedAt m ws l ts i j) j k p (within-links i j p)))))
+        (within-link (recordTime + i * cutTime) (1024 + i * 1024) (linkedAt m ws l ts i j) j k (omega arith) p h (within-links i j p)))))
       where
         grown : (b : Bound) → Within (recordTime + i * cutTime) (1024 + i * 1024) b → Within (recordTime + suc i * cutTime) (1024 + suc i * 1024) b
         grown b w = within-more (recordTime + i * cutTime) (1024 + i * 1024) (recordTime + suc i * cutTime) (1024 + suc i * 1024) b (omega arith) (omega arith) w

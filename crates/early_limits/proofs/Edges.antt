@@ -11,8 +11,9 @@ use Rattle.model.specs.Record.{nothing, awaits}
 use Rattle.tables.specs.Conflict.{markAt}
 use Rattle.tables.specs.Word.{allOnes}
 use Rattle.early.proofs.EdgeModels.{boundAt, note, readyIn, waitingIn, endedIn, segmentOf, withStarts, sayers, farWords, oneMark}
-use Rattle.early_limits.specs.Limit.{top, limitOf, limitOfCycle, limitOfWord, lesser, lesserBelow, sumOf, isSoonerLimit, atMost}
-use Rattle.early_limits.specs.Ahead.{nearest, reachOf, reachIn, forecastAt, relaxedAt, relaxedLimits, afterRounds, earliestLimits, threatensLimit, hazardAt, eventAwaited, segmentsOf, eventsOf, sourceLimits}
+use Rattle.early_limits.specs.declared.Crew.{Crew}
+use Rattle.early_limits.specs.Limit.{top, limitOf, limitOfCycle, limitOfWord, lesser, lesserBelow, sumOf, raisedLimit, isSoonerLimit, atMost}
+use Rattle.early_limits.specs.Ahead.{nearest, reachOf, reachIn, forecastAt, relaxedAt, relaxedLimits, afterRounds, earliestLimits, threatensLimit, hazardAt, eventAwaited, sinceAwaited, segmentsOf, eventsOf, sinceOf, sourceLimits}
 use Rattle.early_limits.proofs.Computed.{computed}
 
 -- never; "(0, 1,025) is a bound less than (1, 0)"; the last delta of a time, and the time after it
@@ -79,6 +80,11 @@ pub sumOf-never :
 unfolding computed
 sumOf-never = (refl, refl, refl, refl, refl, refl, refl)
 
+-- raised to 5: below it, at it, above it, never
+pub raisedLimit-edges : (raisedLimit 5 4 ≡ 5) × (raisedLimit 5 5 ≡ 5) × (raisedLimit 5 6 ≡ 6) × (raisedLimit 5 allOnes ≡ allOnes)
+unfolding computed
+raisedLimit-edges = (refl, refl, refl, refl)
+
 -- "at a smaller stamp": sooner, later; tied, as a lower thread, the same and a higher one
 pub isSoonerLimit-edges :
     (isSoonerLimit 4 2 5 1 ≡ true) ×
@@ -137,35 +143,56 @@ pub forecastAt-edges :
 unfolding computed
 forecastAt-edges = (refl, refl, refl, refl, refl, refl, refl)
 
+-- segments, events and beginnings of waits
+abbrev crew : List ℕ → List ℕ → List ℕ → Crew
+crew segments events since = record { segments = segments; events = events; since = since }
+
 -- "one delta after": thread 0 waits on event 31, on 32, on none; it keeps what it has, where that is less
 pub relaxedAt-edges :
-    (relaxedAt (replicate 31 allOnes ++ (4 ∷ 4 ∷ [])) [] (31 ∷ []) (allOnes ∷ 10 ∷ []) 2 0 ≡ 15) ×
-    (relaxedAt (replicate 31 allOnes ++ (4 ∷ 4 ∷ [])) [] (32 ∷ []) (allOnes ∷ 10 ∷ []) 2 0 ≡ allOnes) ×
-    (relaxedAt (replicate 256 4) [] [] (allOnes ∷ 10 ∷ []) 2 0 ≡ allOnes) ×
-    (relaxedAt (4 ∷ []) [] (0 ∷ []) (14 ∷ 10 ∷ []) 2 0 ≡ 14) ×
-    (relaxedAt (4 ∷ []) [] (0 ∷ []) (16 ∷ 10 ∷ []) 2 0 ≡ 15)
+    (relaxedAt (replicate 31 allOnes ++ (4 ∷ 4 ∷ [])) (crew [] (31 ∷ []) []) (allOnes ∷ 10 ∷ []) 2 0 ≡ 15) ×
+    (relaxedAt (replicate 31 allOnes ++ (4 ∷ 4 ∷ [])) (crew [] (32 ∷ []) []) (allOnes ∷ 10 ∷ []) 2 0 ≡ allOnes) ×
+    (relaxedAt (replicate 256 4) (crew [] [] []) (allOnes ∷ 10 ∷ []) 2 0 ≡ allOnes) ×
+    (relaxedAt (4 ∷ []) (crew [] (0 ∷ []) []) (14 ∷ 10 ∷ []) 2 0 ≡ 14) ×
+    (relaxedAt (4 ∷ []) (crew [] (0 ∷ []) []) (16 ∷ 10 ∷ []) 2 0 ≡ 15)
 unfolding computed
 relaxedAt-edges = (refl, refl, refl, refl, refl)
 
+-- "the delta after its wait began": event 0 may be notified at 14, and the wait began before, at it and after; never stays never
+pub relaxedAt-raised :
+    (relaxedAt (4 ∷ []) (crew [] (0 ∷ []) (13 ∷ 99 ∷ [])) (allOnes ∷ 10 ∷ []) 2 0 ≡ 15) ×
+    (relaxedAt (4 ∷ []) (crew [] (0 ∷ []) (14 ∷ 99 ∷ [])) (allOnes ∷ 10 ∷ []) 2 0 ≡ 15) ×
+    (relaxedAt (4 ∷ []) (crew [] (0 ∷ []) (15 ∷ 99 ∷ [])) (allOnes ∷ 10 ∷ []) 2 0 ≡ 16) ×
+    (relaxedAt (4 ∷ []) (crew [] (0 ∷ []) (15 ∷ 99 ∷ [])) (15 ∷ 10 ∷ []) 2 0 ≡ 15) ×
+    (relaxedAt (4 ∷ []) (crew [] (0 ∷ []) (15 ∷ 99 ∷ [])) (allOnes ∷ allOnes ∷ []) 2 0 ≡ allOnes)
+unfolding computed
+relaxedAt-raised = (refl, refl, refl, refl, refl)
+
 -- threads below T: the last of them, and T itself; 32 places
 pub relaxedLimits-edges :
-    (getD (relaxedLimits (4 ∷ []) [] (255 ∷ 0 ∷ 0 ∷ []) 2 (10 ∷ allOnes ∷ allOnes ∷ [])) 0 7 ≡ 10) ×
-    (getD (relaxedLimits (4 ∷ []) [] (255 ∷ 0 ∷ 0 ∷ []) 2 (10 ∷ allOnes ∷ allOnes ∷ [])) 1 7 ≡ 15) ×
-    (getD (relaxedLimits (4 ∷ []) [] (255 ∷ 0 ∷ 0 ∷ []) 2 (10 ∷ allOnes ∷ allOnes ∷ [])) 2 7 ≡ allOnes) ×
-    (getD (relaxedLimits (4 ∷ []) [] (255 ∷ 0 ∷ 0 ∷ []) 2 (10 ∷ allOnes ∷ allOnes ∷ [])) 31 7 ≡ allOnes) ×
-    (getD (relaxedLimits (4 ∷ []) [] (255 ∷ 0 ∷ 0 ∷ []) 2 (10 ∷ allOnes ∷ allOnes ∷ [])) 32 7 ≡ 7)
+    (getD (relaxedLimits (4 ∷ []) (crew [] (255 ∷ 0 ∷ 0 ∷ []) []) 2 (10 ∷ allOnes ∷ allOnes ∷ [])) 0 7 ≡ 10) ×
+    (getD (relaxedLimits (4 ∷ []) (crew [] (255 ∷ 0 ∷ 0 ∷ []) []) 2 (10 ∷ allOnes ∷ allOnes ∷ [])) 1 7 ≡ 15) ×
+    (getD (relaxedLimits (4 ∷ []) (crew [] (255 ∷ 0 ∷ 0 ∷ []) []) 2 (10 ∷ allOnes ∷ allOnes ∷ [])) 2 7 ≡ allOnes) ×
+    (getD (relaxedLimits (4 ∷ []) (crew [] (255 ∷ 0 ∷ 0 ∷ []) []) 2 (10 ∷ allOnes ∷ allOnes ∷ [])) 31 7 ≡ allOnes) ×
+    (getD (relaxedLimits (4 ∷ []) (crew [] (255 ∷ 0 ∷ 0 ∷ []) []) 2 (10 ∷ allOnes ∷ allOnes ∷ [])) 32 7 ≡ 7)
 unfolding computed
 relaxedLimits-edges = (refl, refl, refl, refl, refl)
 
 -- A chain of two links: thread 2 notifies event 0, on which thread 1 waits, which then notifies event 1, on which thread 0 waits.
 pub afterRounds-edges :
-    (getD (afterRounds (reachOf (sayers 3) farWords) (0 ∷ 2 ∷ 1 ∷ []) (1 ∷ 0 ∷ []) 3 0 (allOnes ∷ allOnes ∷ 10 ∷ [])) 1 7 ≡ allOnes) ×
-    (getD (afterRounds (reachOf (sayers 3) farWords) (0 ∷ 2 ∷ 1 ∷ []) (1 ∷ 0 ∷ []) 3 1 (allOnes ∷ allOnes ∷ 10 ∷ [])) 1 7 ≡ 11) ×
-    (getD (afterRounds (reachOf (sayers 3) farWords) (0 ∷ 2 ∷ 1 ∷ []) (1 ∷ 0 ∷ []) 3 1 (allOnes ∷ allOnes ∷ 10 ∷ [])) 0 7 ≡ allOnes) ×
-    (getD (afterRounds (reachOf (sayers 3) farWords) (0 ∷ 2 ∷ 1 ∷ []) (1 ∷ 0 ∷ []) 3 2 (allOnes ∷ allOnes ∷ 10 ∷ [])) 0 7 ≡ 12) ×
-    (getD (earliestLimits (reachOf (sayers 3) farWords) (0 ∷ 2 ∷ 1 ∷ []) (1 ∷ 0 ∷ []) 3 (allOnes ∷ allOnes ∷ 10 ∷ [])) 0 7 ≡ 12)
+    (getD (afterRounds (reachOf (sayers 3) farWords) (crew (0 ∷ 2 ∷ 1 ∷ []) (1 ∷ 0 ∷ []) []) 3 0 (allOnes ∷ allOnes ∷ 10 ∷ [])) 1 7 ≡ allOnes) ×
+    (getD (afterRounds (reachOf (sayers 3) farWords) (crew (0 ∷ 2 ∷ 1 ∷ []) (1 ∷ 0 ∷ []) []) 3 1 (allOnes ∷ allOnes ∷ 10 ∷ [])) 1 7 ≡ 11) ×
+    (getD (afterRounds (reachOf (sayers 3) farWords) (crew (0 ∷ 2 ∷ 1 ∷ []) (1 ∷ 0 ∷ []) []) 3 1 (allOnes ∷ allOnes ∷ 10 ∷ [])) 0 7 ≡ allOnes) ×
+    (getD (afterRounds (reachOf (sayers 3) farWords) (crew (0 ∷ 2 ∷ 1 ∷ []) (1 ∷ 0 ∷ []) []) 3 2 (allOnes ∷ allOnes ∷ 10 ∷ [])) 0 7 ≡ 12) ×
+    (getD (earliestLimits (reachOf (sayers 3) farWords) (crew (0 ∷ 2 ∷ 1 ∷ []) (1 ∷ 0 ∷ []) []) 3 (allOnes ∷ allOnes ∷ 10 ∷ [])) 0 7 ≡ 12)
 unfolding computed sayers withStarts segmentOf
 afterRounds-edges = (refl, refl, refl, refl, refl)
+
+-- "along chains too": thread 1's wait began at 20, thread 0's at 5
+pub afterRounds-raised :
+    (getD (afterRounds (reachOf (sayers 3) farWords) (crew (0 ∷ 2 ∷ 1 ∷ []) (1 ∷ 0 ∷ []) (5 ∷ 20 ∷ [])) 3 2 (allOnes ∷ allOnes ∷ 10 ∷ [])) 1 7 ≡ 21) ×
+    (getD (afterRounds (reachOf (sayers 3) farWords) (crew (0 ∷ 2 ∷ 1 ∷ []) (1 ∷ 0 ∷ []) (5 ∷ 20 ∷ [])) 3 2 (allOnes ∷ allOnes ∷ 10 ∷ [])) 0 7 ≡ 22)
+unfolding computed sayers withStarts segmentOf
+afterRounds-raised = (refl, refl)
 
 -- conflicts by a row of marks, by marks, and of thread 0 in segment 0 with thread 2 in segment 1 alone
 abbrev marked : List Bool → ℕ → Bool
@@ -232,6 +259,18 @@ pub eventsOf-edges :
     (getD (eventsOf 2 []) 32 9 ≡ 9)
 unfolding computed
 eventsOf-edges = (refl, refl, refl, refl)
+
+pub sinceAwaited-edges : (sinceAwaited nothing ≡ 0) × (sinceAwaited (awaits 7 (cycleAt 1 2)) ≡ 65538)
+unfolding computed
+sinceAwaited-edges = (refl, refl)
+
+pub sinceOf-edges :
+    (getD (sinceOf 2 (readyIn 4 5 7 ∷ waitingIn 5 3 1 2 ∷ waitingIn 6 4 1 0 ∷ [])) 0 9 ≡ 0) ×
+    (getD (sinceOf 2 (readyIn 4 5 7 ∷ waitingIn 5 3 1 2 ∷ waitingIn 6 4 1 0 ∷ [])) 1 9 ≡ 65538) ×
+    (getD (sinceOf 2 (readyIn 4 5 7 ∷ waitingIn 5 3 1 2 ∷ waitingIn 6 4 1 0 ∷ [])) 2 9 ≡ 0) ×
+    (getD (sinceOf 2 []) 32 9 ≡ 9)
+unfolding computed
+sinceOf-edges = (refl, refl, refl, refl)
 
 pub sourceLimits-edges :
     (getD (sourceLimits 2 (note 3 1 0 ∷ []) (readyIn 4 5 7 ∷ waitingIn 5 3 1 0 ∷ readyIn 6 1 0 ∷ [])) 0 9 ≡ 327687) ×

@@ -1,4 +1,4 @@
--- A limit says what its bound says: the order, the least, the sum and one delta, for times below 2 ^ 44 and deltas below 65,536. A fit word and a cycle come to
+-- A limit says what its bound says: the order, the least, the raise, the sum and one delta, for times below 2 ^ 44 and deltas below 65,536. A fit word and a cycle come to
 -- the limits of their bounds.
 use Prim.Native.Nat.{ℕ, zero, suc, _+_, _*_, _<_, _≤_, _/_}
 use mathlib.Core.Path.{_≡_, refl, ap, ap₂, sym, _∙_}
@@ -26,11 +26,12 @@ use Rattle.clock.proofs.AdvanceLaws.{deltaAfter-none, deltaAfter-more, advance-
 use Rattle.clock.proofs.WaitLaws.{waitEnds-advance}
 use Rattle.model.specs.Limits.{cutTime}
 use Rattle.tables.specs.Word.{allOnes, boundOf}
+use Rattle.early.specs.Earliest.{raised}
 use Rattle.early.specs.Hazard.{isSooner}
 use Rattle.early.specs.Fit.{isFitWord}
 use Rattle.early_laws.proofs.FitLaws.{FitWord, isFitWord→}
 use Rattle.early_laws.proofs.RangeLaws.{Within, within-more, within-leastBelow}
-use Rattle.early_limits.specs.Limit.{unit, top, limitOf, limitOfCycle, limitOfWord, lesser, lesserBelow, sumOf, isSoonerLimit}
+use Rattle.early_limits.specs.Limit.{unit, top, limitOf, limitOfCycle, limitOfWord, lesser, lesserBelow, sumOf, raisedLimit, isSoonerLimit}
 
 -- a bound that a limit holds: a time below 2 ^ 44, a delta below 65,536
 abbrev pub Limited : Bound → Type 0
@@ -96,6 +97,12 @@ limitOf-below zero f g all same = refl
 limitOf-below (suc n) f g all same =
     ap₂ lesser (limitOf-below n f g (λ i h. all i (omega arith)) (λ i h. same i (omega arith))) (same n (omega arith))
     ∙ sym (limitOf-least (leastBelow n f) (f n) (within-leastBelow 17592186044416 65535 n f (λ i h. all i (omega arith))) (all n (omega arith)))
+
+-- raised to the limit of the cycle in which a wait began
+pub limitOf-raised : (since : Cycle) (x : Bound) → Limited (At since) → Limited x → limitOf (raised since x) ≡ raisedLimit (limitOf (At since)) (limitOf x)
+unfolding raised raisedLimit
+limitOf-raised since x p q =
+    limitOf-cond (isBoundBefore x (At since)) (At since) x ∙ ap (λ (t : Bool). cond t (limitOf (At since)) (limitOf x)) (sym (limitOf-before x (At since) q p))
 
 -- the sum
 

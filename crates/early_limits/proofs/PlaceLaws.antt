@@ -20,8 +20,9 @@ use Rattle.model.specs.Record.{threadAt, awaitedBy}
 use Rattle.tables.specs.Word.{allOnes}
 use Rattle.early.specs.declared.Notification.{Notification}
 use Rattle.early.specs.Earliest.{sourceOf}
+use Rattle.early_limits.specs.declared.Crew.{Crew}
 use Rattle.early_limits.specs.Limit.{limitOf, atMost}
-use Rattle.early_limits.specs.Ahead.{nearest, reachOf, reachIn, relaxedAt, relaxedLimits, eventAwaited, segmentsOf, eventsOf, sourceLimits}
+use Rattle.early_limits.specs.Ahead.{nearest, reachOf, reachIn, relaxedAt, relaxedLimits, eventAwaited, sinceAwaited, segmentsOf, eventsOf, sinceOf, sourceLimits}
 
 -- least bounds
 
@@ -70,6 +71,10 @@ module _ (t : ℕ) (ts : List Thread) (k : ℕ) (few : t ≤ 32) (h : k < t) whe
   unfolding eventsOf
   eventsOf-at = below-at t k (λ i. eventAwaited (awaitedBy (threadAt ts i .state))) (λ i. 255) 255 few h
 
+  pub sinceOf-at : getD (sinceOf t ts) k 0 ≡ sinceAwaited (awaitedBy (threadAt ts k .state))
+  unfolding sinceOf
+  sinceOf-at = below-at t k (λ i. sinceAwaited (awaitedBy (threadAt ts i .state))) (λ i. 0) 0 few h
+
   pub sourceLimits-at : (l : List Notification) → getD (sourceLimits t l ts) k allOnes ≡ limitOf (sourceOf l (threadAt ts k .state))
   unfolding sourceLimits
   sourceLimits-at l = below-at t k (λ i. limitOf (sourceOf l (threadAt ts i .state))) (λ i. allOnes) allOnes few h
@@ -78,14 +83,14 @@ pub sourceLimits-past : (t : ℕ) (l : List Notification) (ts : List Thread) (k 
 unfolding sourceLimits
 sourceLimits-past t l ts k h = past-at t k (λ i. limitOf (sourceOf l (threadAt ts i .state))) (λ i. allOnes) allOnes h refl
 
-module _ (reach segments events : List ℕ) (t : ℕ) (xs : List ℕ) (k : ℕ) where
-  pub relaxedLimits-at : t ≤ 32 → k < t → getD (relaxedLimits reach segments events t xs) k allOnes ≡ relaxedAt reach segments events xs t k
+module _ (reach : List ℕ) (crew : Crew) (t : ℕ) (xs : List ℕ) (k : ℕ) where
+  pub relaxedLimits-at : t ≤ 32 → k < t → getD (relaxedLimits reach crew t xs) k allOnes ≡ relaxedAt reach crew xs t k
   unfolding relaxedLimits
-  relaxedLimits-at few h = below-at t k (λ i. relaxedAt reach segments events xs t i) (λ i. getD xs i allOnes) allOnes few h
+  relaxedLimits-at few h = below-at t k (λ i. relaxedAt reach crew xs t i) (λ i. getD xs i allOnes) allOnes few h
 
-  pub relaxedLimits-past : t ≤ k → getD xs k allOnes ≡ allOnes → getD (relaxedLimits reach segments events t xs) k allOnes ≡ allOnes
+  pub relaxedLimits-past : t ≤ k → getD xs k allOnes ≡ allOnes → getD (relaxedLimits reach crew t xs) k allOnes ≡ allOnes
   unfolding relaxedLimits
-  relaxedLimits-past h e = past-at t k (λ i. relaxedAt reach segments events xs t i) (λ i. getD xs i allOnes) allOnes h e
+  relaxedLimits-past h e = past-at t k (λ i. relaxedAt reach crew xs t i) (λ i. getD xs i allOnes) allOnes h e
 
 -- from segment r to event e
 pub reachOf-at : (m : Model) (ws : List ℕ) (r e : ℕ) → m .n ≤ 64 → r < m .n → e < 32 → getD (reachOf m ws) (r * 32 + e) allOnes ≡ nearest m ws r e

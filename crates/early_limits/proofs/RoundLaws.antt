@@ -10,7 +10,7 @@ use lib.ListN.{getD}
 use borrow.Author.Tests.{lt-ltb}
 use Rattle.clock.specs.declared.Cycle.{Cycle}
 use Rattle.clock.specs.declared.Bound.{Bound}
-use Rattle.clock.specs.declared.Bound.the-variants.{Never}
+use Rattle.clock.specs.declared.Bound.the-variants.{Never, At}
 use Rattle.clock.specs.Advance.{least, leastBelow, _⊕_, oneDelta}
 use Rattle.clock.proofs.LeastLaws.{least-Never-right, leastBelow-one, leastBelow-same}
 use Rattle.model.specs.declared.Model.{Model}
@@ -20,21 +20,22 @@ use Rattle.model.specs.Record.{threadAt, isLive, Awaited, nothing, awaits, awai
 use Rattle.tables.specs.Word.{allOnes}
 use Rattle.plain_laws.proofs.RecordLaws.{not-live→idle, awaits→waits}
 use Rattle.early.specs.declared.Notification.{Notification}
-use Rattle.early.specs.Earliest.{soonestNotify, linkTo, earliestOf}
+use Rattle.early.specs.Earliest.{soonestNotify, raised, linkTo, earliestOf}
+use Rattle.early_laws.proofs.RaiseLaws.{raised-leastBelow}
 use Rattle.early_laws.proofs.LinkLaws.{sourceOf-idle, linkTo-waiting, linkTo-other}
 use Rattle.early_laws.proofs.EarliestLaws.{earliestAt, linkedAt, withLinks-none, withLinks-more}
 use Rattle.early_laws.proofs.FitLaws.{isFitThread→}
-use Rattle.early_laws.proofs.RangeLaws.{earliestTime, sumTime, Within, within-leastBelow, within-oneDelta, within-notify, links-small, earliest-small}
-use Rattle.early_limits.specs.Limit.{limitOf, lesser, sumOf}
-use Rattle.early_limits.specs.Ahead.{reachOf, forecastAt, relaxedAt, afterRounds, earliestLimits, eventAwaited, segmentsOf, eventsOf, sourceLimits}
-use Rattle.early_limits.proofs.LimitLaws.{within-limited, limitOf-least, limitOf-oneDelta}
-use Rattle.early_limits.proofs.PlaceLaws.{leastBelow-⊕, eventsOf-at, sourceLimits-at, sourceLimits-past, relaxedLimits-at, relaxedLimits-past}
+use Rattle.early_laws.proofs.RangeLaws.{earliestTime, sumTime, Within, within-leastBelow, within-oneDelta, within-notify, began-fit, within-raised, links-small, earliest-small}
+use Rattle.early_limits.specs.Limit.{limitOf, limitOfCycle, lesser, sumOf, raisedLimit}
+use Rattle.early_limits.specs.Ahead.{reachOf, forecastAt, relaxedBy, relaxedAt, afterRounds, earliestLimits, eventAwaited, sinceAwaited, segmentsOf, crewOf, sourceLimits}
+use Rattle.early_limits.proofs.LimitLaws.{within-limited, limitOf-least, limitOf-raised, limitOf-oneDelta, limitOfCycle-is}
+use Rattle.early_limits.proofs.PlaceLaws.{leastBelow-⊕, eventsOf-at, sinceOf-at, sourceLimits-at, sourceLimits-past, relaxedLimits-at, relaxedLimits-past}
 use Rattle.early_limits.proofs.StateLaws.{FitState, fit-counts, fit-threads, fit-words}
 use Rattle.early_limits.proofs.NearestLaws.{forecastAt-is}
 
 -- the limits that a request looks ahead with
 abbrev pub limitsOf : Model → List ℕ → List Notification → List Thread → List ℕ
-limitsOf m ws l ts = earliestLimits (reachOf m ws) (segmentsOf (m .t) ts) (eventsOf (m .t) ts) (m .t) (sourceLimits (m .t) l ts)
+limitsOf m ws l ts = earliestLimits (reachOf m ws) (crewOf (m .t) ts) (m .t) (sourceLimits (m .t) l ts)
 
 -- the forecast of e, with thread k no sooner than b k
 abbrev forecastFrom : Model → List ℕ → List Thread → (ℕ → Bound) → ℕ → Bound
@@ -66,16 +67,17 @@ module _ (m : Model) (ws : List ℕ) (l : List Notification) (ts : List Thread) 
     small : (j : ℕ) → j < m .t → Within earliestTime 33792 (linkedAt m ws l ts n j)
     small j p = links-small m ws l ts (fit-threads fit) (fit .log) (fit-words fit) n j few p
 
-    -- a waiting thread, one delta after the forecast of its event
-    module _ (e : ℕ) (since : Cycle) (waits : viewOf (threadAt ts k .state) ≡ view.waits e since) (event : e < m .e) where
-      links-are : leastBelow (m .t) (λ j. linkTo m ws ts j k (linkedAt m ws l ts n j)) ≡ forecastFrom m ws ts (linkedAt m ws l ts n) e ⊕ oneDelta
+    -- a waiting thread, one delta after the forecast of its event, raised to its wait
+    module _ (e : ℕ) (since : Cycle) (awaited : awaitedBy (threadAt ts k .state) ≡ awaits e since) (event : e < m .e) where
+      links-are : leastBelow (m .t) (λ j. linkTo m ws ts j k (linkedAt m ws l ts n j)) ≡ raised since (forecastFrom m ws ts (linkedAt m ws l ts n) e) ⊕ oneDelta
       links-are =
           leastBelow-same
           (m .t)
           (λ j. linkTo m ws ts j k (linkedAt m ws l ts n j))
-          (λ j. soonestNotify m ws ts j (linkedAt m ws l ts n j) e ⊕ oneDelta)
-          (λ j p. linkTo-waiting m ws ts j k e since (linkedAt m ws l ts n j) waits)
-          ∙ sym (leastBelow-⊕ (m .t) (λ j. soonestNotify m ws ts j (linkedAt m ws l ts n j) e) oneDelta)
+          (λ j. raised since (soonestNotify m ws ts j (linkedAt m ws l ts n j) e) ⊕ oneDelta)
+          (λ j p. linkTo-waiting m ws ts j k e since (linkedAt m ws l ts n j) (awaits→waits (viewOf (threadAt ts k .state)) e since awaited))
+          ∙ sym (leastBelow-⊕ (m .t) (λ j. raised since (soonestNotify m ws ts j (linkedAt m ws l ts n j) e)) oneDelta)
+          ∙ ap (λ (b : Bound). b ⊕ oneDelta) (sym (raised-leastBelow since (m .t) (λ j. soonestNotify m ws ts j (linkedAt m ws l ts n j) e)))
 
       forecast-small : Within sumTime 34815 (forecastFrom m ws ts (linkedAt m ws l ts n) e)
       forecast-small =
@@ -86,22 +88,34 @@ module _ (m : Model) (ws : List ℕ) (l : List Notification) (ts : List Thread) 
           (λ j. soonestNotify m ws ts j (linkedAt m ws l ts n j) e)
           (λ j p. within-notify m ws l ts (fit-threads fit) (fit .log) (fit-words fit) earliestTime 33792 (linkedAt m ws l ts n j) j e p (small j p))
 
-      woken-limit : lesser (limitOf (linkedAt m ws l ts n k)) (sumOf (forecastAt (reachOf m ws) (segmentsOf (m .t) ts) xs (m .t) e) 1) ≡ limitOf (least (linkedAt m ws l ts n k) (leastBelow (m .t) (λ j. linkTo m ws ts j k (linkedAt m ws l ts n j))))
+      raised-small : Within sumTime 34815 (raised since (forecastFrom m ws ts (linkedAt m ws l ts n) e))
+      raised-small =
+          within-raised m ws l ts (fit-threads fit) (fit .log) (fit-words fit) sumTime 34815 k e since (forecastFrom m ws ts (linkedAt m ws l ts n) e) (omega arith) (omega arith) h awaited forecast-small
+
+      raised-limit : raisedLimit (limitOfCycle since) (forecastAt (reachOf m ws) (segmentsOf (m .t) ts) xs (m .t) e) ≡ limitOf (raised since (forecastFrom m ws ts (linkedAt m ws l ts n) e))
+      raised-limit =
+          let f = forecastFrom m ws ts (linkedAt m ws l ts n) e in
+          let began = began-fit m ws l ts (fit-threads fit) (fit .log) (fit-words fit) k e since h awaited in
+          rw
+          (limitOfCycle-is since (omega (arith, began .time)), forecastAt-is m ws l ts fit xs (linkedAt m ws l ts n) same small (λ j p t. linked-idle n j p t) e event)
+          (sym (limitOf-raised since f (omega (arith, began .time, began .delta)) (within-limited sumTime 34815 f (omega arith) (omega arith) forecast-small)))
+
+      woken-limit : lesser (limitOf (linkedAt m ws l ts n k)) (sumOf (raisedLimit (limitOfCycle since) (forecastAt (reachOf m ws) (segmentsOf (m .t) ts) xs (m .t) e)) 1) ≡ limitOf (least (linkedAt m ws l ts n k) (leastBelow (m .t) (λ j. linkTo m ws ts j k (linkedAt m ws l ts n j))))
       woken-limit =
           let x = linkedAt m ws l ts n k in
-          let f = forecastFrom m ws ts (linkedAt m ws l ts n) e in
+          let f = raised since (forecastFrom m ws ts (linkedAt m ws l ts n) e) in
           rw
-          (links-are, forecastAt-is m ws l ts fit xs (linkedAt m ws l ts n) same small (λ j p t. linked-idle n j p t) e event)
-          (ap (lesser (limitOf x)) (sym (limitOf-oneDelta f (within-limited sumTime 34815 f (omega arith) (omega arith) forecast-small)))
+          (links-are, raised-limit)
+          (ap (lesser (limitOf x)) (sym (limitOf-oneDelta f (within-limited sumTime 34815 f (omega arith) (omega arith) raised-small)))
           ∙ sym
           (limitOf-least
           x
           (f ⊕ oneDelta)
           (within-limited earliestTime 33792 x (omega arith) (omega arith) (small k h))
-          (within-limited sumTime 34816 (f ⊕ oneDelta) (omega arith) (omega arith) (within-oneDelta sumTime 34815 f forecast-small))))
+          (within-limited sumTime 34816 (f ⊕ oneDelta) (omega arith) (omega arith) (within-oneDelta sumTime 34815 f raised-small))))
 
-    round-limit : relaxedAt (reachOf m ws) (segmentsOf (m .t) ts) (eventsOf (m .t) ts) xs (m .t) k ≡ limitOf (linkedAt m ws l ts (suc n) k)
-    unfolding relaxedAt eventAwaited
+    round-limit : relaxedAt (reachOf m ws) (crewOf (m .t) ts) xs (m .t) k ≡ limitOf (linkedAt m ws l ts (suc n) k)
+    unfolding relaxedAt relaxedBy eventAwaited sinceAwaited crewOf
     round-limit = go (awaitedBy (threadAt ts k .state)) refl ∙ ap limitOf (sym (withLinks-more m ws l ts n k h))
       where
         x : Bound
@@ -110,7 +124,7 @@ module _ (m : Model) (ws : List ℕ) (l : List Notification) (ts : List Thread) 
         links : Bound
         links = leastBelow (m .t) (λ j. linkTo m ws ts j k (linkedAt m ws l ts n j))
 
-        go : (a : Awaited) → awaitedBy (threadAt ts k .state) ≡ a → relaxedAt (reachOf m ws) (segmentsOf (m .t) ts) (eventsOf (m .t) ts) xs (m .t) k ≡ limitOf (least x links)
+        go : (a : Awaited) → awaitedBy (threadAt ts k .state) ≡ a → relaxedAt (reachOf m ws) (crewOf (m .t) ts) xs (m .t) k ≡ limitOf (least x links)
         go nothing p =
             rw
             (eventsOf-at (m .t) ts k (fit-counts fit .threads) h, p, same k h, no-links m ws ts k (λ j. linkedAt m ws l ts n j) p)
@@ -119,25 +133,25 @@ module _ (m : Model) (ws : List ℕ) (l : List Notification) (ts : List Thread) 
             let waits = awaits→waits (viewOf (threadAt ts k .state)) e since p in
             let event = isFitThread→ m k (threadAt ts k) (fit-threads fit k h) .event e since waits in
             rw
-            (eventsOf-at (m .t) ts k (fit-counts fit .threads) h, p, lt-ltb e 32 (omega (arith, fit-counts fit .events)), same k h)
-            (woken-limit e since waits event)
+            (eventsOf-at (m .t) ts k (fit-counts fit .threads) h, sinceOf-at (m .t) ts k (fit-counts fit .threads) h, p, lt-ltb e 32 (omega (arith, fit-counts fit .events)), same k h)
+            (woken-limit e since p event)
 
   rounds-limit : (n : ℕ) → n ≤ 32 → (k : ℕ) → k < m .t
-      → getD (afterRounds (reachOf m ws) (segmentsOf (m .t) ts) (eventsOf (m .t) ts) (m .t) n (sourceLimits (m .t) l ts)) k allOnes ≡ limitOf (linkedAt m ws l ts n k)
+      → getD (afterRounds (reachOf m ws) (crewOf (m .t) ts) (m .t) n (sourceLimits (m .t) l ts)) k allOnes ≡ limitOf (linkedAt m ws l ts n k)
   unfolding afterRounds
   rounds-limit zero few k h = sourceLimits-at (m .t) ts k (fit-counts fit .threads) h l ∙ ap limitOf (sym (withLinks-none m ws l ts k h))
   rounds-limit (suc n) few k h =
-      let xs = afterRounds (reachOf m ws) (segmentsOf (m .t) ts) (eventsOf (m .t) ts) (m .t) n (sourceLimits (m .t) l ts) in
-      relaxedLimits-at (reachOf m ws) (segmentsOf (m .t) ts) (eventsOf (m .t) ts) (m .t) xs k (fit-counts fit .threads) h
+      let xs = afterRounds (reachOf m ws) (crewOf (m .t) ts) (m .t) n (sourceLimits (m .t) l ts) in
+      relaxedLimits-at (reachOf m ws) (crewOf (m .t) ts) (m .t) xs k (fit-counts fit .threads) h
       ∙ round-limit n (omega arith) xs (λ j p. rounds-limit n (omega arith) j p) k h
 
-  rounds-past : (n k : ℕ) → m .t ≤ k → getD (afterRounds (reachOf m ws) (segmentsOf (m .t) ts) (eventsOf (m .t) ts) (m .t) n (sourceLimits (m .t) l ts)) k allOnes ≡ allOnes
+  rounds-past : (n k : ℕ) → m .t ≤ k → getD (afterRounds (reachOf m ws) (crewOf (m .t) ts) (m .t) n (sourceLimits (m .t) l ts)) k allOnes ≡ allOnes
   unfolding afterRounds
   rounds-past zero k h = sourceLimits-past (m .t) l ts k h
   rounds-past (suc n) k h =
-      let xs = afterRounds (reachOf m ws) (segmentsOf (m .t) ts) (eventsOf (m .t) ts) (m .t) n (sourceLimits (m .t) l ts) in
+      let xs = afterRounds (reachOf m ws) (crewOf (m .t) ts) (m .t) n (sourceLimits (m .t) l ts) in
       let before = rounds-past n k h in
-      relaxedLimits-past (reachOf m ws) (segmentsOf (m .t) ts) (eventsOf (m .t) ts) (m .t) xs k h before
+      relaxedLimits-past (reachOf m ws) (crewOf (m .t) ts) (m .t) xs k h before
 
   -- earliest
 

@@ -15,7 +15,8 @@ use Rattle.model.specs.Record.{threadAt, Awaited, nothing, awaits, awaitedBy}
 use Rattle.tables.specs.Word.{allOnes}
 use Rattle.early.specs.declared.Notification.{Notification}
 use Rattle.early.specs.Earliest.{sourceOf}
-use Rattle.early_limits.specs.Limit.{limitOf, limitOfCycle, limitOfWord, lesser, lesserBelow, sumOf, isSoonerLimit, atMost}
+use Rattle.early_limits.specs.declared.Crew.{Crew}
+use Rattle.early_limits.specs.Limit.{limitOf, limitOfCycle, limitOfWord, lesser, lesserBelow, sumOf, raisedLimit, isSoonerLimit, atMost}
 
 -- the limit from segment r to the nearest one that notifies e, by the words of the table
 unfoldable pub nearest : Model → List ℕ → ℕ → ℕ → ℕ
@@ -35,24 +36,25 @@ unfoldable pub forecastAt : List ℕ → List ℕ → List ℕ → ℕ → ℕ �
 forecastAt reach segments xs t e =
     lesserBelow (atMost 32 t) (λ j. sumOf (getD xs j allOnes) (getD reach (getD segments j 0 * 32 + e) allOnes))
 
--- thread k's limit after one round: a waiting thread is woken one delta after its event
-unfoldable pub relaxedAt : List ℕ → List ℕ → List ℕ → List ℕ → ℕ → ℕ → ℕ
-relaxedAt reach segments events xs t k =
-    let x = getD xs k allOnes in
-    let e = getD events k 255 in
-    cond (ltb e 32) (lesser x (sumOf (forecastAt reach segments xs t e) 1)) x
+-- the limit x of a thread after one round: one that waits on event e is woken one delta after that, and the event is not before its wait
+unfoldable pub relaxedBy : List ℕ → List ℕ → List ℕ → ℕ → ℕ → ℕ → ℕ → ℕ
+relaxedBy reach segments xs t x e since =
+    cond (ltb e 32) (lesser x (sumOf (raisedLimit since (forecastAt reach segments xs t e)) 1)) x
 
-unfoldable pub relaxedLimits : List ℕ → List ℕ → List ℕ → ℕ → List ℕ → List ℕ
-relaxedLimits reach segments events t xs =
-    tabulate 32 0 (λ k. cond (ltb k t) (relaxedAt reach segments events xs t k) (getD xs k allOnes))
+unfoldable pub relaxedAt : List ℕ → Crew → List ℕ → ℕ → ℕ → ℕ
+relaxedAt reach crew xs t k =
+    relaxedBy reach (crew .segments) xs t (getD xs k allOnes) (getD (crew .events) k 255) (getD (crew .since) k 0)
+
+unfoldable pub relaxedLimits : List ℕ → Crew → ℕ → List ℕ → List ℕ
+relaxedLimits reach crew t xs = tabulate 32 0 (λ k. cond (ltb k t) (relaxedAt reach crew xs t k) (getD xs k allOnes))
 
 -- after n rounds
-unfoldable pub afterRounds : List ℕ → List ℕ → List ℕ → ℕ → ℕ → List ℕ → List ℕ
-afterRounds reach segments events t zero xs = xs
-afterRounds reach segments events t (suc n) xs = relaxedLimits reach segments events t (afterRounds reach segments events t n xs)
+unfoldable pub afterRounds : List ℕ → Crew → ℕ → ℕ → List ℕ → List ℕ
+afterRounds reach crew t zero xs = xs
+afterRounds reach crew t (suc n) xs = relaxedLimits reach crew t (afterRounds reach crew t n xs)
 
-unfoldable pub earliestLimits : List ℕ → List ℕ → List ℕ → ℕ → List ℕ → List ℕ
-earliestLimits reach segments events t xs = afterRounds reach segments events t t xs
+unfoldable pub earliestLimits : List ℕ → Crew → ℕ → List ℕ → List ℕ
+earliestLimits reach crew t xs = afterRounds reach crew t t xs
 
 -- whether thread j, in a segment and no sooner than b, could run one of the segments that conflict before thread i at c
 unfoldable pub threatensLimit : (ℕ → Bool) → List ℕ → ℕ → ℕ → ℕ → ℕ → ℕ → ℕ → Bool
@@ -71,11 +73,21 @@ unfoldable pub eventAwaited : Awaited → ℕ
 eventAwaited nothing = 255
 eventAwaited (awaits e since) = e
 
+unfoldable pub sinceAwaited : Awaited → ℕ
+sinceAwaited nothing = 0
+sinceAwaited (awaits e since) = limitOfCycle since
+
 unfoldable pub segmentsOf : ℕ → List Thread → List ℕ
 segmentsOf t ts = tabulate 32 0 (λ k. cond (ltb k t) (threadAt ts k .segment) 0)
 
 unfoldable pub eventsOf : ℕ → List Thread → List ℕ
 eventsOf t ts = tabulate 32 0 (λ k. cond (ltb k t) (eventAwaited (awaitedBy (threadAt ts k .state))) 255)
+
+unfoldable pub sinceOf : ℕ → List Thread → List ℕ
+sinceOf t ts = tabulate 32 0 (λ k. cond (ltb k t) (sinceAwaited (awaitedBy (threadAt ts k .state))) 0)
+
+unfoldable pub crewOf : ℕ → List Thread → Crew
+crewOf t ts = record { segments = segmentsOf t ts; events = eventsOf t ts; since = sinceOf t ts }
 
 unfoldable pub sourceLimits : ℕ → List Notification → List Thread → List ℕ
 sourceLimits t l ts = tabulate 32 0 (λ k. cond (ltb k t) (limitOf (sourceOf l (threadAt ts k .state))) allOnes)

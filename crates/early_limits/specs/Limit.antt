@@ -39,6 +39,10 @@ lesserBelow (suc n) f = lesser (lesserBelow n f) (f n)
 unfoldable pub sumOf : ℕ → ℕ → ℕ
 sumOf a d = cond (ltb a top && ltb d top) (cond (ltb d unit) (a + d) (a / unit * unit + d)) allOnes
 
+-- a limit, or that of the cycle in which a wait began where that is later; never stays never
+unfoldable pub raisedLimit : ℕ → ℕ → ℕ
+raisedLimit since x = cond (ltb x since) since x
+
 -- "at a smaller stamp": thread j at limit b, before thread i at limit c
 unfoldable pub isSoonerLimit : ℕ → ℕ → ℕ → ℕ → Bool
 isSoonerLimit b j c i = ltb b c || (eqb b c && ltb j i)

@@ -42,7 +42,7 @@ use Rattle.early_limits.proofs.PlaceLaws.{atMost-is}
 use Rattle.early_log.specs.Noted.{notedOf}
 use Rattle.early_log.proofs.NotedLaws.{notedOf-fits}
 use Rattle.early_deliver.specs.declared.Outlook.{Outlook}
-use Rattle.early_deliver.specs.Awake.{crewOf, aheadOf, soonerOn, outlookOf}
+use Rattle.early_deliver.specs.Awake.{aheadOf, soonerOn, outlookOf}
 use Rattle.early_request.specs.After.{afterOf}
 use Rattle.early_request.specs.Answered.{hazardOn, numberOn, effectFrom, grantOn, runOn, answeredOn}
 
@@ -114,11 +114,11 @@ module _ (isHazard : Cycle → Bool) (floor : Bound) (es : List ℕ) (l : List N
 -- what the code holds of the records says where a hazard stands
 pub same-hazard : (n t : ℕ) (conflicts : ℕ → ℕ → ℕ → ℕ → Bool) (ws reach : List ℕ) (l : List Notification) (ts : List Thread) (k : ℕ) (c : Cycle) → t ≤ 32
     → (o : Outlook) (heard : Bool) → o ≡ outlookOf reach (atMost 32 t) l ts heard
-    → hazardAt conflicts ws n t (o .crew .segments) (o .limits .at) (stampAt c k) ≡ hazardOn n t conflicts ws reach l ts k c
-unfolding hazardOn outlookOf crewOf
+    → hazardAt conflicts ws n t (o .segments) (o .limits .at) (stampAt c k) ≡ hazardOn n t conflicts ws reach l ts k c
+unfolding hazardOn outlookOf
 same-hazard n t conflicts ws reach l ts k c few o heard seen =
     ap
-    (λ (p : Outlook). hazardAt conflicts ws n t (p .crew .segments) (p .limits .at) (stampAt c k))
+    (λ (p : Outlook). hazardAt conflicts ws n t (p .segments) (p .limits .at) (stampAt c k))
     (seen ∙ ap (λ (i : ℕ). outlookOf reach i l ts heard) (atMost-is 32 t few))
 
 -- a grant: the pairs that fit are all logged

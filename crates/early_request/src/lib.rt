@@ -99,9 +99,9 @@ fn decide_ready(
     ensures { λ r. ⌜ r ≡ numberReady (hazardOn n t (conflictsOn marks (now (names .entry)) starts) (now (words .entry)) (now (reach .entry)) (logOf site) (threads .at) (at .thread .0)) (floorBelow t (threads .at)) (take (listed .n) (listed .at)) (logOf site) (at .cycle) ⌝ }
 {
     let o = early_deliver::outlook_of(reach, site, threads, t);
-    let crew = o.crew;
+    let segments = o.segments;
     let limits = o.limits;
-    if early_ahead::hazard(marks, names, starts, words, n, t, crew, limits, at) {
+    if early_ahead::hazard(marks, names, starts, words, n, t, segments, limits, at) {
         return 14;
     }
     let c = at.cycle;

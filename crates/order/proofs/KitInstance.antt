@@ -46,7 +46,7 @@ use Rattle.plain_laws.proofs.RangeLaws as range
 use Rattle.plain_laws.proofs.KeepLaws.{effectOf-notifies, modelFault-keeps}
 use Rattle.early.specs.declared.Notification.{Notification}
 use Rattle.early.specs.Fit.{isFitWord}
-use Rattle.early_laws.proofs.EarliestLaws.{earliestAt, FromReady, FromLogged, earliest-ready, earliest-heard, earliest-linked, earliest-attained}
+use Rattle.early_laws.proofs.EarliestLaws.{earliestAt, FromReady, FromLogged, earliest-ready, earliest-heard, earliest-link, earliest-attained}
 use Rattle.early_laws.proofs.ForecastLaws as forecast
 use Rattle.early_laws.proofs.HazardLaws as danger
 use Rattle.early_laws.proofs.FitLaws.{→isFitThread, →isFitCycle, →isUnfitWords}
@@ -198,7 +198,7 @@ module _ (m : Model) (fit : modelFault m ≡ 0) (ws : List ℕ) (begins : Begins
           earliest = earliestAt m ws l ts;
           ready = earliest-ready m ws l ts;
           heard = λ k y h. earliest-heard m ws l ts k (y .event) (h .since) y (h .below) (h .waits) (h .logged) refl (h .begun);
-          linked = earliest-linked m ws l ts;
+          linked = λ k e since j s x. earliest-link m ws l ts k e since j s (At x);
           attained = λ k b h e. source k b (earliest-attained m ws l ts k b h e);
           forecast-below = forecast.forecast-below m ws l ts;
           forecast-attained = λ e b f. let (k, s, p, q, _, _, r) = forecast.forecast-attained m ws l ts e b f in (k, s, p, q, r);

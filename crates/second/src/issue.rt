@@ -75,14 +75,20 @@ fn soonest(bounds: &[u64; 64]) -> u64 {
     best
 }
 
-// Thread k, if it waits, may be woken one delta after the instant at which segment s can notify its event.
+// Thread k, if it waits, may be woken one delta after the instant at which segment s can notify its event, and "cannot wake before the delta
+// after its wait began".
 fn woken(g: &[u64; 24576], desk: &[u64; 640], k: u64, s: u64, instant: u64) -> u64 {
     let x = at(desk, simulator::RECORDS, k);
     if x % 4 != simulator::WAITING {
         return NEVER;
     }
     let d = graph::entry(g, graph::AHEAD, s, event_of(x));
-    graph::plus(graph::plus(instant, d), 1)
+    let told = graph::plus(graph::plus(instant, d), 1);
+    let first = graph::plus(graph::instant(key_of(x)), 1);
+    if told < first {
+        return first;
+    }
+    told
 }
 
 // Whether thread k is not final, and x is sooner than what is known of it.

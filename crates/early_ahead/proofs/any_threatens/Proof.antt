@@ -15,20 +15,20 @@ use Rattle.early_ahead.proofs.any_threatens.Statement.{statement}
 use Rattle.early_ahead.proofs.any_threatens.Tie as tie
 
 abbrev Inv-loop : tie.InvT-loop
-Inv-loop row own names starts words n t i c crew xs k j₀ j = (j ≤ k) × (anyBelow j (threatAt row own names starts words n (crew .segments) (xs .at) i c) ≡ false)
+Inv-loop row own names starts words n t i c segments xs k j₀ j = (j ≤ k) × (anyBelow j (threatAt row own names starts words n segments (xs .at) i c) ≡ false)
 
 abbrev μ-loop : tie.MeasureT-loop
-μ-loop row own names starts words n t i c crew xs k j₀ j = k - j
+μ-loop row own names starts words n t i c segments xs k j₀ j = k - j
 
 loop-holds : tie.Need-loop-holds Inv-loop μ-loop
 loop-holds c = (omega arith, anyBelow-start _)
 
 returns : tie.Need-returns Inv-loop μ-loop
 returns c =
-    let x = c .before .before .before .before .before .before .before .before .before .before .before .args in
-    let j = c .before .before .before .before .before .before .before .loop .j in
-    let size = limits-length (x .t9) _ (c .before .before .before .before .before .before .before .before .before .before .before .good .1 .1 .1 .1 .1 .1 .1 .1 .0) in
-    let e = threatAt-other (x .row) (x .own) (x .names .now) (x .starts) (x .words .now) (x .n) (x .t8 .segments) (x .t9 .at) (x .i) (x .c) j _ _ (λ e. omega arith) (omega arith) (c .before .before .ports-of .ensures) (c .before .threatens .ensures) in
+    let x = c .before .before .before .before .before .before .before .before .before .before .args in
+    let j = c .before .before .before .before .before .before .loop .j in
+    let size = limits-length (x .t9) _ (c .before .before .before .before .before .before .before .before .before .before .good .1 .1 .1 .1 .1 .1 .1 .1 .0) in
+    let e = threatAt-other (x .row) (x .own) (x .names .now) (x .starts) (x .words .now) (x .n) (x .t8) (x .t9 .at) (x .i) (x .c) j _ _ (λ e. omega arith) (omega arith) (c .before .before .ports-of .ensures) (c .before .threatens .ensures) in
     sym (anyBelow-here _ _ j (omega arith) (e ∙ c .if2 .taken))
 
 loop-again : tie.Need-loop-again Inv-loop μ-loop
@@ -38,8 +38,8 @@ loop-again c =
     let size = limits-length (x .t9) _ (c .before .before .before .before .before .before .good .1 .1 .1 .1 .1 .1 .1 .1 .0) in
     let e =
     ⊎-elim
-    (λ w. threatAt-other (x .row) (x .own) (x .names .now) (x .starts) (x .words .now) (x .n) (x .t8 .segments) (x .t9 .at) (x .i) (x .c) j _ _ (λ e. omega arith) (omega arith) (w .3 .ensures) (w .4 .ensures) ∙ w .5 .left)
-    (λ w. threatAt-self (x .row) (x .own) (x .names .now) (x .starts) (x .words .now) (x .n) (x .t8 .segments) (x .t9 .at) (x .i) (x .c) j (omega arith))
+    (λ w. threatAt-other (x .row) (x .own) (x .names .now) (x .starts) (x .words .now) (x .n) (x .t8) (x .t9 .at) (x .i) (x .c) j _ _ (λ e. omega arith) (omega arith) (w .2 .ensures) (w .3 .ensures) ∙ w .4 .left)
+    (λ w. threatAt-self (x .row) (x .own) (x .names .now) (x .starts) (x .words .now) (x .n) (x .t8) (x .t9 .at) (x .i) (x .c) j (omega arith))
     (c .if1 .came) in
     (omega arith, anyBelow-more j _ (c .before .before .loop .inv .1) e)
 

@@ -9,22 +9,22 @@ use Rattle.early_ahead.proofs.earliest.Statement.{statement}
 use Rattle.early_ahead.proofs.earliest.Tie as tie
 
 abbrev Inv-loop : tie.InvT-loop
-Inv-loop reach crew t x₀ n₀ x n = (n ≤ t) × (x .at ≡ afterRounds reach (crew .segments) (crew .events) t n (x₀ .at))
+Inv-loop reach crew t x₀ n₀ x n = (n ≤ t) × (x .at ≡ afterRounds reach crew t n (x₀ .at))
 
 abbrev μ-loop : tie.MeasureT-loop
 μ-loop reach crew t x₀ n₀ x n = t - n
 
 loop-holds : tie.Need-loop-holds Inv-loop μ-loop
-loop-holds c = (omega arith, afterRounds-none _ _ _ _ _)
+loop-holds c = (omega arith, afterRounds-none _ _ _ _)
 
 returns : tie.Need-returns Inv-loop μ-loop
-returns c = earliestLimits-done _ _ _ _ _ (c .before .before .before .before .loop .n) _ _ (omega arith) (c .before .before .before .before .loop .inv .1) (c .before .before .relaxed-limits .ensures) (c .before .is-same .ensures (c .if1 .taken))
+returns c = earliestLimits-done _ _ _ _ (c .before .before .before .before .loop .n) _ _ (omega arith) (c .before .before .before .before .loop .inv .1) (c .before .before .relaxed-limits .ensures) (c .before .is-same .ensures (c .if1 .taken))
 
 loop-again : tie.Need-loop-again Inv-loop μ-loop
-loop-again c = (omega arith, afterRounds-more _ _ _ _ _ (c .before .before .before .before .loop .n) _ _ (c .before .before .before .before .loop .inv .1) (c .before .before .relaxed-limits .ensures))
+loop-again c = (omega arith, afterRounds-more _ _ _ _ (c .before .before .before .before .loop .n) _ _ (c .before .before .before .before .loop .inv .1) (c .before .before .relaxed-limits .ensures))
 
 returns-2 : tie.Need-returns-2 Inv-loop μ-loop
-returns-2 c = earliestLimits-all _ _ _ _ _ (c .before .loop .n) _ (omega arith) (c .before .loop .inv .1)
+returns-2 c = earliestLimits-all _ _ _ _ (c .before .loop .n) _ (omega arith) (c .before .loop .inv .1)
 
 pub earliest-spec : {M : Type 1} → statement M
 earliest-spec =
