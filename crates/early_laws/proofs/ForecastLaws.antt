@@ -1,7 +1,7 @@
 -- Forecast is the least of earliest plus distance over live threads and segments notifying the event. And a waiting thread's earliest is
 -- the delta after the lesser of what it can hear from the log and the forecast of its event, raised to its wait: deliveries turn on this.
 use Prim.Native.Nat.{ℕ, _<_}
-use mathlib.Core.Path.{_≡_, refl, ap, sym, _∙_, subst}
+use mathlib.Core.Path.{_≡_, refl, sym, _∙_, subst}
 use mathlib.Core.Logic.{_⊎_, inl, inr}
 use mathlib.Core.List.{List}
 use native.Mathlib.Omega.{arith}
@@ -22,8 +22,9 @@ use Rattle.model.specs.Footprint.{notifiesIn}
 use Rattle.tables.specs.Word.{distanceIn}
 use Rattle.early.specs.declared.Notification.{Notification}
 use Rattle.early.specs.Log.{leastHeard}
-use Rattle.early.specs.Earliest.{sourceOf, soonestNotify, raised, Chain, source, link}
+use Rattle.early.specs.Earliest.{soonestNotify, raised, Chain, source, link}
 use Rattle.early.specs.Forecast.{forecastOf}
+use Rattle.early_laws.proofs.LogLaws.{leastHeard-since}
 use Rattle.early_laws.proofs.RaiseLaws.{raised-since, raised-inflate, raised-Never, raised-mono}
 use Rattle.early_laws.proofs.LinkLaws.{sourceOf-waiting, soonestNotify-≼, soonestNotify-one, soonestNotify-glb, soonestNotify-mono, linkTo-waiting}
 use Rattle.early_laws.proofs.EarliestLaws.{earliestAt, chain-below, earliest-≼, earliest-glb, earliest-link}
@@ -144,3 +145,18 @@ module _ (m : Model) (ws : List ℕ) (l : List Notification) (ts : List Thread) 
         (subst (λ (x : Bound). earliestAt m ws l ts k ≼ x) (sourceOf-waiting l (threadAt ts k .state) e since w) (earliest-≼ m ws l ts (source h)))
         after-forecast))
         (earliest-glb m ws l ts k (soonest ⊕ oneDelta) h (λ x c. chain-waiting c refl))
+
+    -- slip 5: "A waiting thread cannot wake before the delta after its wait began"
+    pub earliest-since : At since ⊕ oneDelta ≼ earliestAt m ws l ts k
+    earliest-since =
+        let heard = leastHeard l e since in
+        let later = raised since (forecastOf m ws l ts e) in
+        rw
+        earliest-waiting
+        (⊕-mono
+        (At since)
+        (least heard later)
+        oneDelta
+        oneDelta
+        (least-glb (At since) heard later (leastHeard-since l e since) (raised-since since (forecastOf m ws l ts e)))
+        (≼-refl oneDelta))

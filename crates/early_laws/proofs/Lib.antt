@@ -8,9 +8,11 @@ pub mod ForecastLaws
 pub mod HazardLaws
 pub mod LookLaws
 pub mod HearLaws
+pub mod RiseLaws
 pub mod KeptLaws
 pub mod SettleLaws
 pub mod RestLaws
+pub mod RisingLaws
 pub mod AnyOrderLaws
 pub mod FitLaws
 pub mod RangeLaws

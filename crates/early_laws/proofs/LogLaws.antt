@@ -184,6 +184,22 @@ leastHeard-at (y ∷ l) e since c p = go (λ q. leastHeard-at l e since c q) (le
     go ih (inl q) = mine (sym q ∙ p)
     go ih (inr q) = let (a, b) = ih (sym q ∙ p) in (List·Memᴰ·tail a, b)
 
+-- it is not before the wait
+pub leastHeard-since : (l : List Notification) (e : ℕ) (since : Cycle) → At since ≼ leastHeard l e since
+leastHeard-since l e since = go (leastHeard l e since) refl
+  where
+    go : (b : Bound) → leastHeard l e since ≡ b → At since ≼ b
+    go Never p = tt
+    go (At c) p = leastHeard-at l e since c p .1
+
+-- a log of which no less can be heard
+pub leastHeard-more : (l l′ : List Notification) (e : ℕ) (since : Cycle) → ((c : Cycle) → In (pairOf e c) l → since ⊑ c → In (pairOf e c) l′) → leastHeard l′ e since ≼ leastHeard l e since
+leastHeard-more l l′ e since more = go (leastHeard l e since) refl
+  where
+    go : (b : Bound) → leastHeard l e since ≡ b → leastHeard l′ e since ≼ b
+    go Never p = tt
+    go (At c) p = let (i, r) = leastHeard-at l e since c p in leastHeard-≼ l′ e since (pairOf e c) (more c i r) refl r
+
 -- "notifications before the floor .. are dropped, all of them if none is ready"
 
 pub dropBefore-kept : (f : Cycle) (l : List Notification) {x : Notification} → In x l → f ⊑ x .cycle → In x (dropBefore (At f) l)

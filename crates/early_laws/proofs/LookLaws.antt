@@ -1,8 +1,8 @@
 -- One look at a thread: what it hears, what that makes of its record, and that every other record, every segment and every state
 -- that does not wait is kept.
 use Prim.Native.Nat.{ℕ, _<_}
-use mathlib.Core.Path.{_≡_, refl, ap, sym, _∙_, subst}
-use mathlib.Core.List.{List, [], _∷_}
+use mathlib.Core.Path.{_≡_, refl, ap, sym, _∙_, subst, subst₂}
+use mathlib.Core.List.{List, [], _∷_, List·Memᴰ, List·Memᴰ·not-nil, List·Memᴰ·eq-of-singleton}
 use native.Mathlib.Omega.{arith}
 use native.Mathlib.Decide.{decLt, ℕ-discrete}
 use lib.Dec.{T, eqb}
@@ -180,3 +180,25 @@ module _ (m : Model) (ws : List ℕ) (l : List Notification) (ts : List Thread) 
   pub lookItems-heard : (k e : ℕ) (since x : Cycle) → viewOf (threadAt ts k .state) ≡ view.waits e since → heardAt m ws l ts k ≡ At x → lookItems m ws l ts k k ≡ heard e x ∷ []
   unfolding lookItemsBy heardItems heardItem
   lookItems-heard k e since x w p = rw (eq-eqb k k refl, p, w) refl
+
+  -- what a look adds to a history, its thread hears
+  pub lookItems-only : (k j e : ℕ) (x : Cycle) → List·Memᴰ (heard e x) (lookItems m ws l ts k j)
+      → (since : Cycle) × (viewOf (threadAt ts k .state) ≡ view.waits e since) × (heardNow m ws l ts (awaits e since) ≡ At x)
+  lookItems-only k j e x i = go (looked k) (ℕ-discrete j k)
+    where
+      Heard : Type 0
+      Heard = (since : Cycle) × (viewOf (threadAt ts k .state) ≡ view.waits e since) × (heardNow m ws l ts (awaits e since) ≡ At x)
+
+      none : lookItems m ws l ts k j ≡ [] → Heard
+      none p = absurd (List·Memᴰ·not-nil (subst (λ (is : List Item). List·Memᴰ (heard e x) is) p i))
+
+      go : Looked k → Dec (j ≡ k) → Heard
+      go (unheard p) d = none (lookItems-none k j p)
+      go (hears y p) (no other) = none (lookItems-other k j other)
+      go (hears y p) (yes same) =
+          let (f, since, w, q) = heardAt-waits k y p in
+          let is : lookItems m ws l ts k j ≡ heard f y ∷ [] = rw same (lookItems-heard k f since y w p) in
+          let one : heard e x ≡ heard f y = List·Memᴰ·eq-of-singleton (subst (λ (a : List Item). List·Memᴰ (heard e x) a) is i) in
+          let event : f ≡ e = cc in
+          let cycle : y ≡ x = cc in
+          (since, w ∙ ap (λ (a : ℕ). view.waits a since) event, subst₂ (λ (a : ℕ) (c : Cycle). heardNow m ws l ts (awaits a since) ≡ At c) event cycle q)

@@ -1,11 +1,13 @@
 -- The number that decides a request: 0 says that everything stands for it, 11 it never is, and it hangs on what is asked of a thread below T.
 --     Passed, Decided, numberFor-decided     the numbers, by case
 --     numberFor→passed, passed→numberFor     0, and what stands then
+--     Clear, clear→numberFor, numberFor→clear     0 or 15, and what stands then
 --     readyCycle→cycle     the cycle of a ready thread's record
 --     isFullBy-none     with places left, no more than 128 are counted
 --     SameAsked, numberFor-same     the same is asked, and so the number is the same
 use Prim.Native.Nat.{ℕ, _<_, _≤_}
 use mathlib.Core.Path.{_≡_, refl, ap}
+use mathlib.Core.Logic.{_⊎_, inl, inr}
 use mathlib.Core.Bool.{Bool, true, false, cond, not, _&&_, _||_}
 use mathlib.Core.List.{List}
 use native.Mathlib.Omega.{arith}
@@ -35,6 +37,10 @@ pub isFullBy-none : (floor : Bound) (n : ℕ) (c : Cycle) → isFullBy floor n c
 isFullBy-none floor n c e =
     let early = isBoundBefore floor (At c) && ltb earlyPlaces n in
     nltb→le places n (not-or→both early (ltb places n) (false→T (early || ltb places n) e) .1)
+
+-- granted, or refused with 15 alone
+abbrev pub ZeroOrFull : ℕ → Type 0
+ZeroOrFull n = (n ≡ accepted) ⊎ (n ≡ logFull)
 
 module _ (t end : ℕ) (isHazard : Cycle → Bool) (floor : Bound) (es : List ℕ) (l : List Notification) (ts : List Thread) (k : ℕ) where
   -- what stands where it is 0
@@ -97,6 +103,57 @@ module _ (t end : ℕ) (isHazard : Cycle → Bool) (floor : Bound) (es : List �
   pub passed→numberFor : (c : Cycle) → Passed c → numberFor t end isHazard floor es l ts k ≡ accepted
   unfolding numberFor numberAt numberReady
   passed→numberFor c p = rw (lt-ltb k t (p .thread), p .ready, p .in-time, p .no-hazard, p .room) refl
+
+  -- what stands where it is 0 or 15: the thread is ready before the end time, and no hazard stands
+  pub record Clear (c : Cycle) : Type 0 where
+    pub thread : k < t
+    pub ready : readyCycle (threadAt ts k .state) ≡ At c
+    pub in-time : isBeforeTime end c ≡ true
+    pub no-hazard : isHazard c ≡ false
+
+  pub clear→numberFor : (c : Cycle) → Clear c → ZeroOrFull (numberFor t end isHazard floor es l ts k)
+  unfolding numberFor numberAt numberReady
+  clear→numberFor c p =
+      rw (lt-ltb k t (p .thread), p .ready, p .in-time, p .no-hazard)
+      (cond-case ZeroOrFull (isFullBy floor (placesWith l c es) c) (λ d. inr refl) (λ d. inl refl))
+
+  pub numberFor→clear : ZeroOrFull (numberFor t end isHazard floor es l ts k) → (c : Cycle) × Clear c
+  unfolding numberFor numberAt numberReady
+  numberFor→clear =
+      cond-case
+      Found
+      (not (ltb k t))
+      (λ u e. absurd (other wrongThread (omega arith) (omega arith) e))
+      (λ u. at (ltb→lt k t (not-not (ltb k t) u)) (readyCycle (threadAt ts k .state)) refl)
+    where
+      Found : ℕ → Type 0
+      Found n = ZeroOrFull n → (c : Cycle) × Clear c
+
+      other : (n : ℕ) → 0 < n → n < 15 → ZeroOrFull n → ⊥
+      other n p q (inl e) = omega arith
+      other n p q (inr e) = omega arith
+
+      at : k < t → (b : Bound) → readyCycle (threadAt ts k .state) ≡ b → Found (numberAt end isHazard floor es l b)
+      at h Never e = λ f. absurd (other notReady (omega arith) (omega arith) f)
+      at h (At c) e =
+          cond-case
+          Found
+          (not (isBeforeTime end c))
+          (λ a f. absurd (other pastHorizon (omega arith) (omega arith) f))
+          (λ a.
+          cond-case
+          Found
+          (isHazard c)
+          (λ b f. absurd (other hazardStands (omega arith) (omega arith) f))
+          (λ b f. (
+            c,
+            record {
+              thread = h;
+              ready = e;
+              in-time = T→true (isBeforeTime end c) (not-not (isBeforeTime end c) a);
+              no-hazard = T→false (isHazard c) b;
+            },
+          )))
 
   -- the same number where, for a thread below T, the same is asked
   module _ (isThreat : Cycle → Bool) (bound : Bound) (fs : List ℕ) (us : List Thread) where

@@ -1,10 +1,8 @@
 -- A bound raised to the cycle in which a wait began is the least that is sooner than neither, and never where the bound is; raising keeps the order
 -- of bounds and their least. What is heard from the log is not before the wait, so that it needs no raise.
 use Prim.Native.Nat.{ℕ, zero, suc}
-use mathlib.Core.Path.{_≡_, refl, ap, sym, _∙_, subst}
-use mathlib.Core.Bool.{Bool, cond, not}
+use mathlib.Core.Path.{_≡_, refl, _∙_}
 use mathlib.Core.List.{List}
-use lib.Dec.{T}
 use Rattle.base.proofs.BoolLaws.{cond-case, T→false}
 use Rattle.clock.specs.declared.Cycle.{Cycle}
 use Rattle.clock.specs.declared.Bound.{Bound}
@@ -16,7 +14,7 @@ use Rattle.clock.proofs.LeastLaws.{isBoundBefore→≼, not-isBoundBefore→≼
 use Rattle.early.specs.declared.Notification.{Notification}
 use Rattle.early.specs.Log.{leastHeard}
 use Rattle.early.specs.Earliest.{raised}
-use Rattle.early_laws.proofs.LogLaws.{leastHeard-at}
+use Rattle.early_laws.proofs.LogLaws.{leastHeard-since}
 
 module _ (since : Cycle) where
   pub raised-case : (Q : Bound → Type 0) (x : Bound) → Q (At since) → Q x → Q (raised since x)
@@ -73,8 +71,4 @@ module _ (since : Cycle) where
 
   -- "a logged notification of its event not before its wait began"
   pub raised-heard : (l : List Notification) (e : ℕ) → raised since (leastHeard l e since) ≡ leastHeard l e since
-  raised-heard l e = go (leastHeard l e since) refl
-    where
-      go : (x : Bound) → leastHeard l e since ≡ x → raised since x ≡ x
-      go Never p = raised-Never
-      go (At c) p = raised-same (At c) (leastHeard-at l e since c p .1)
+  raised-heard l e = raised-same (leastHeard l e since) (leastHeard-since l e since)

@@ -1,7 +1,7 @@
 -- A request is refused, and then changes nothing, or is granted; 11 is answered on an unfit state only; and demand 2 as a sentence: on a fit
 -- state, for a thread ready up to the horizon and with places left, it is granted exactly where no hazard stands.
 use Prim.Native.Nat.{ℕ, _<_}
-use mathlib.Core.Path.{_≡_, refl, ap, sym, subst, fun-ext}
+use mathlib.Core.Path.{_≡_, refl, ap, sym, _∙_, subst, fun-ext}
 use mathlib.Core.Logic.{_↔_, _⊎_, inl, inr}
 use mathlib.Core.Bool.{Bool, true, false, not}
 use mathlib.Core.List.{List, [], _∷_, _++_, append-assoc, append-nil}
@@ -27,7 +27,7 @@ use Rattle.early.specs.Hazard.{hazard}
 use Rattle.early.specs.Fit.{isUnfit}
 use Rattle.early.specs.Answer.{numberOf}
 use Rattle.early.specs.Request.{isFull, numberIn, Requested, refusedWith, grantedTo, answeredBy, requestFit, requestOf, answerNumber, answerValues, Answers, requestsOf}
-use Rattle.early_laws.proofs.NumberLaws.{readyCycle→cycle, Decided, refuses, passes, numberFor-decided, passed→numberFor}
+use Rattle.early_laws.proofs.NumberLaws.{readyCycle→cycle, ZeroOrFull, Decided, refuses, passes, numberFor-decided, passed→numberFor, clear→numberFor, numberFor→clear}
 
 module _ (m : Model) (marks : List (List Bool)) (ws : List ℕ) (site : Site) (ts : List Thread) (k : ℕ) where
   -- what stands where a request is granted at c
@@ -116,6 +116,32 @@ module _ (m : Model) (marks : List (List Bool)) (ws : List ℕ) (site : Site) (t
           let same : d ≡ c = cc in
           ((cc), subst Grantable same g)
 
+  -- on a fit state it is granted, or refused with 15, exactly where its thread is ready up to the horizon and no hazard stands
+  pub record Unhindered (c : Cycle) : Type 0 where
+    pub thread : k < m .t
+    pub ready : readyCycle (threadAt ts k .state) ≡ At c
+    pub in-time : isUpToHorizon m c ≡ true
+    pub no-hazard : hazard m marks ws (logOf site) ts k c ≡ false
+
+  number-fit : isUnfit m ws site ts ≡ false → numberOf (requestOf m marks ws site ts k .answer) ≡ numberIn m marks ws site ts k
+  unfolding answerNumber
+  number-fit fit = requestOf-answers .number ∙ rw fit refl
+
+  pub unhindered→number : isUnfit m ws site ts ≡ false → (c : Cycle) → Unhindered c → ZeroOrFull (numberOf (requestOf m marks ws site ts k .answer))
+  unfolding numberIn isUpToHorizon
+  unhindered→number fit c u =
+      rw (number-fit fit)
+      (clear→numberFor (m .t) (endTime m) (hazard m marks ws (logOf site) ts k) (floorOf m ts) (listedIn m k (threadAt ts k .segment)) (logOf site) ts k c
+      (record { thread = u .thread; ready = u .ready; in-time = u .in-time; no-hazard = u .no-hazard }))
+
+  pub number→unhindered : isUnfit m ws site ts ≡ false → ZeroOrFull (numberOf (requestOf m marks ws site ts k .answer)) → (c : Cycle) × Unhindered c
+  unfolding numberIn isUpToHorizon
+  number→unhindered fit e =
+      let (c, u) =
+      numberFor→clear (m .t) (endTime m) (hazard m marks ws (logOf site) ts k) (floorOf m ts) (listedIn m k (threadAt ts k .segment)) (logOf site) ts k
+      (subst ZeroOrFull (number-fit fit) e) in
+      (c, record { thread = u .thread; ready = u .ready; in-time = u .in-time; no-hazard = u .no-hazard })
+
   -- Demand 2: on a fit state, for a thread ready up to the horizon at c, with places left
   module _ (c : Cycle) (fit : isUnfit m ws site ts ≡ false) (thread : k < m .t) (ready : readyCycle (threadAt ts k .state) ≡ At c)
       (in-time : isUpToHorizon m c ≡ true) (room : isFull m site ts k c ≡ false)
@@ -155,3 +181,23 @@ unfolding requestsOf
 requestsOf-append m marks ws [] more site ts = refl
 requestsOf-append m marks ws (k ∷ ks) more site ts =
     requestsOf-append m marks ws ks more (requestOf m marks ws site ts k .site) (requestOf m marks ws site ts k .threads)
+
+pub requestsOf-append-site : (m : Model) (marks : List (List Bool)) (ws : List ℕ) (ks more : List ℕ) (site : Site) (ts : List Thread)
+    → requestsOf m marks ws site ts (ks ++ more) .site
+    ≡ requestsOf m marks ws (requestsOf m marks ws site ts ks .site) (requestsOf m marks ws site ts ks .threads) more .site
+unfolding requestsOf
+requestsOf-append-site m marks ws [] more site ts = refl
+requestsOf-append-site m marks ws (k ∷ ks) more site ts =
+    requestsOf-append-site m marks ws ks more (requestOf m marks ws site ts k .site) (requestOf m marks ws site ts k .threads)
+
+pub requestsOf-append-history : (m : Model) (marks : List (List Bool)) (ws : List ℕ) (ks more : List ℕ) (site : Site) (ts : List Thread) (j : ℕ)
+    → requestsOf m marks ws site ts (ks ++ more) .history j
+    ≡ requestsOf m marks ws site ts ks .history j
+    ++ requestsOf m marks ws (requestsOf m marks ws site ts ks .site) (requestsOf m marks ws site ts ks .threads) more .history j
+unfolding requestsOf
+requestsOf-append-history m marks ws [] more site ts j = refl
+requestsOf-append-history m marks ws (k ∷ ks) more site ts j =
+    let a = requestOf m marks ws site ts k in
+    let b = requestsOf m marks ws (a .site) (a .threads) ks in
+    ap (λ (is : List Item). a .items j ++ is) (requestsOf-append-history m marks ws ks more (a .site) (a .threads) j)
+    ∙ sym (append-assoc (a .items j) (b .history j) (requestsOf m marks ws (b .site) (b .threads) more .history j))

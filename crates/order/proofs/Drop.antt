@@ -52,12 +52,12 @@ abbrev pub Quiet : Model → List Notification → List Thread → Type 0
 Quiet m l ts = (k : ℕ) (y : Notification) → Hearable m l ts k y → floorOf m ts ≼ At (y .cycle)
 
 -- a bound that a cycle is not below, is before it
-before-or-not : (b : Bound) (c : Cycle) → (At c ≼ b → ⊥) → (d : Cycle) × (b ≡ At d) × Before d c
+pub before-or-not : (b : Bound) (c : Cycle) → (At c ≼ b → ⊥) → (d : Cycle) × (b ≡ At d) × Before d c
 before-or-not Never c h = absurd (h tt)
 before-or-not (At d) c h = (d, refl, not-⊑→Before h)
 
 -- a drop keeps what is not before its bound
-dropBefore-keeps : (f : Bound) (l : List Notification) {y : Notification} → List·Memᴰ y l → f ≼ At (y .cycle) → List·Memᴰ y (dropBefore f l)
+pub dropBefore-keeps : (f : Bound) (l : List Notification) {y : Notification} → List·Memᴰ y l → f ≼ At (y .cycle) → List·Memᴰ y (dropBefore f l)
 dropBefore-keeps Never l i h = absurd h
 dropBefore-keeps (At f) l i h = dropBefore-kept f l i h
 

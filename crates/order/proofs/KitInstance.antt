@@ -39,7 +39,7 @@ use Rattle.model_rules.proofs.RuleLaws.{modelFault-horizon, modelFault-counts, 
 use Rattle.tables.specs.Conflict.{marksOf}
 use Rattle.tables.specs.Distance.{stepOf, edge, distanceOf}
 use Rattle.tables.specs.Word.{wordsOf, distanceIn}
-use Rattle.tables_laws.proofs.DistanceLaws.{distanceOf-self, distanceOf-after}
+use Rattle.tables_laws.proofs.DistanceLaws.{distanceOf-is, distanceOf-self, distanceOf-step, distanceOf-after}
 use Rattle.tables_laws.proofs.WordLaws.{place-below, wordsOf-length, distanceIn-wordsOf, wordsOf-fit}
 use Rattle.plain_laws.proofs.RecordLaws.{goesTo-next, stateAfter-ready, stateAfter-not-waits, effectOf-thread, effectOf-waits, horizon→<}
 use Rattle.plain_laws.proofs.RangeLaws as range
@@ -161,13 +161,26 @@ module _ (m : Model) (fit : modelFault m ≡ 0) (ws : List ℕ) (begins : Begins
       (onward r a next y c (cycleAt (h .time .0) (h .delta .0 + 1)) rn an (next-below k a c x an) (before-cut h t)
       (rw (edge-waits k a e c since x f, ← ⊕-oneDelta h) (⊕-mono (At c) (At h) oneDelta oneDelta start (≼-refl oneDelta))) l)
 
+  -- the bound on the distance from this segment, from that after a step
+  ahead : (a b s : ℕ) (y : Bound) (c z : Cycle) → a < m .n → b < m .n → s < m .n → T (isUpToHorizon m z) → At c ⊕ edge m a b ≡ y
+      → y ⊕ distanceIn m ws b s ≼ At z → At c ⊕ distanceIn m ws a s ≼ At z
+  ahead a b s y c z an bn sn t step l =
+      rw (distance-at a s an sn)
+      (distanceOf-step m a b s an bn sn (At c) z (before-cut z t) (rw (step, ← distance-at b s bn sn) l))
+
   distances : Distances m ws
   distances =
       record {
+        holds = record { each = λ r s rn sn. rw (distance-at r s rn sn) (distanceOf-is m r s rn sn) };
         over-wait = λ k r a c d x y kt rn an f t l.
             let step = subst (λ (z : Bound). z ≼ At d) (sym (edge-ready k a c d x f)) (≼-refl (At d)) in
             onward r a (effectOf m k a c x .thread .segment) y c d rn an (next-below k a c x an) (before-cut d t) step l;
         over-event = over-event;
+        from-wait = λ k a s c d z x an sn f t l.
+            ahead a (effectOf m k a c x .thread .segment) s (At d) c z an (next-below k a c x an) sn t (edge-ready k a c d x f) l;
+        from-event = λ k a e s c since z x an sn f t l.
+            ahead a (effectOf m k a c x .thread .segment) s (At c ⊕ oneDelta) c z an (next-below k a c x an) sn t
+            (ap (λ (b : Bound). At c ⊕ b) (edge-waits k a e c since x f)) l;
         self = λ r h. distance-at r r h h ∙ distanceOf-self m r h;
         listed = λ k s c x e t. effectOf-notifies m k s c x e t;
         listed-below = λ k s e h t. modelFault-notifies m fit k s h e t;

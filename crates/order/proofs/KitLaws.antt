@@ -23,7 +23,7 @@ use Rattle.model.specs.Effect.{effectOf}
 use Rattle.model.specs.Footprint.{writesIn, usesIn, has, notifiesIn}
 use Rattle.model.specs.Rules.{modelFault}
 use Rattle.model_effect.proofs.FrameLaws.{Agree, Alike}
-use Rattle.tables.specs.Word.{distanceIn}
+use Rattle.tables.specs.Word.{distanceIn, HoldsDistances}
 use Rattle.early.specs.declared.Notification.{Notification}
 use Rattle.early.specs.Forecast.{forecastOf}
 use Rattle.early.specs.Hazard.{threadsConflict, isSooner, hazard}
@@ -75,6 +75,8 @@ pub record Needed (m : Model) (marks : List (List Bool)) : Type 1 where
 
 -- L2 and L3: distances along what a thread does, below the horizon; and what it lists as notifying
 pub record Distances (m : Model) (ws : List ℕ) : Type 0 where
+  -- the words are the least advances over all paths
+  pub holds : HoldsDistances m ws
   -- thread k runs segment a at c and is ready at d, in segment b: what is bounded by y ⊕ D(r, a) before, is bounded so after
   pub over-wait : (k r a : ℕ) (c d : Cycle) (x : List ℕ) (y : Bound) → k < m .t → r < m .n → a < m .n
       → viewOf (effectOf m k a c x .thread .state) ≡ view.ready d → T (isUpToHorizon m d) → y ⊕ distanceIn m ws r a ≼ At c
@@ -83,6 +85,12 @@ pub record Distances (m : Model) (ws : List ℕ) : Type 0 where
   pub over-event : (k r a e : ℕ) (c since h : Cycle) (x : List ℕ) (y : Bound) → k < m .t → r < m .n → a < m .n
       → viewOf (effectOf m k a c x .thread .state) ≡ view.waits e since → since ⊑ h → T (isUpToHorizon m h) → y ⊕ distanceIn m ws r a ≼ At c
       → y ⊕ distanceIn m ws r (effectOf m k a c x .thread .segment) ≼ At h ⊕ oneDelta
+  -- it is ready at d: what lies ahead from there up to the horizon, lay no later ahead from c
+  pub from-wait : (k a s : ℕ) (c d z : Cycle) (x : List ℕ) → a < m .n → s < m .n → viewOf (effectOf m k a c x .thread .state) ≡ view.ready d
+      → T (isUpToHorizon m z) → At d ⊕ distanceIn m ws (effectOf m k a c x .thread .segment) s ≼ At z → At c ⊕ distanceIn m ws a s ≼ At z
+  -- it waits: so from the delta after c
+  pub from-event : (k a e s : ℕ) (c since z : Cycle) (x : List ℕ) → a < m .n → s < m .n → viewOf (effectOf m k a c x .thread .state) ≡ view.waits e since
+      → T (isUpToHorizon m z) → (At c ⊕ oneDelta) ⊕ distanceIn m ws (effectOf m k a c x .thread .segment) s ≼ At z → At c ⊕ distanceIn m ws a s ≼ At z
   pub self : (r : ℕ) → r < m .n → distanceIn m ws r r ≡ noAdvance
   pub listed : (k s : ℕ) (c : Cycle) (x : List ℕ) (e : ℕ) → T (has (effectOf m k s c x .notified) e) → T (notifiesIn m k s e)
   pub listed-below : (k s e : ℕ) → s < m .n → T (notifiesIn m k s e) → e < m .e

@@ -2,7 +2,7 @@
 -- granted one the run, the deliveries and the drop leave a cut at its floor, with room in the log.
 -- Takes as given the facts of the plain run (PlainFacts) and the laws of the kit (KitLaws).
 use Prim.Native.Nat.{ℕ, suc, _≤_}
-use mathlib.Core.Path.{_≡_, refl, sym, subst, subst₂, fun-ext}
+use mathlib.Core.Path.{_≡_, refl, sym, subst, fun-ext}
 use mathlib.Core.Bool.{Bool, cond}
 use mathlib.Core.List.{List, [], _∷_, _++_, append-assoc, append-nil, List·Memᴰ·not-nil}
 use native.Mathlib.Omega.{arith}
@@ -43,7 +43,7 @@ use Rattle.order.proofs.Settle.{settled-cut}
 use Rattle.order.proofs.Floor.{floor-below}
 use Rattle.order.proofs.Drop.{rest-quiet, floor-rises, dropped-cut}
 use Rattle.order.proofs.Capacity.{Roomy, roomy-short, roomy-granted}
-use Rattle.order.proofs.Reached.{Reached, reached-log, reached-variables}
+use Rattle.order.proofs.Reached.{Reached, reached-cut, reached-room}
 
 pub reached-same : {m : Model} {site : Site} {ts : List Thread} {h h′ : ℕ → List Item} → ((j : ℕ) → h j ≡ h′ j) → Reached m site ts h
     → Reached m site ts h′
@@ -81,7 +81,7 @@ module _ (m : Model) (pf : PlainFacts m) {marks : List (List Bool)} {ws : List �
     ready : viewOf (threadAt ts k .state) ≡ view.ready c
     ready = readyCycle→ready (viewOf (threadAt ts k .state)) c (g .ready)
 
-    abbrev items : List Item
+    abbrev pub items : List Item
     items = ran (threadAt ts k .segment) c ∷ []
 
     -- what it has logged takes no more places than were counted
@@ -91,14 +91,14 @@ module _ (m : Model) (pf : PlainFacts m) {marks : List (List Bool)} {ws : List �
         withPairs-shorter (logOf site) c (effectAt m site ts k c .notified) (listedIn m k (threadAt ts k .segment)) (ic .once)
         (λ e t. kl .distances .listed k (threadAt ts k .segment) c (site .variables .at) e t)
 
-    ran-cut : SomeCut m (effectAt m site ts k c .variables) (logAfter m site ts k c) (closedThreads m site ts k c) (adding h k items) (floorOf m ts)
+    pub ran-cut : SomeCut m (effectAt m site ts k c .variables) (logAfter m site ts k c) (closedThreads m site ts k c) (adding h k items) (floorOf m ts)
     unfolding effectAt logAfter closedThreads
     ran-cut = (moved cut k (suc (run .place)), granted-cut m pf kl ic k c (g .thread) ready run (g .no-hazard))
       where
         run : NextRun m (cut k) k c
         run = next-place m pf kl ic k c (g .thread) ready (true→T (isUpToHorizon m c) (g .in-time))
 
-    delivered-cut : SomeCut m (effectAt m site ts k c .variables) (logAfter m site ts k c) (threadsAfter m ws site ts k c)
+    pub delivered-cut : SomeCut m (effectAt m site ts k c .variables) (logAfter m site ts k c) (threadsAfter m ws site ts k c)
         (λ j. h j ++ itemsAfter m ws site ts k c j) (floorOf m ts)
     unfolding threadsAfter itemsAfter adding
     delivered-cut =
@@ -138,17 +138,9 @@ module _ (m : Model) (pf : PlainFacts m) {marks : List (List Bool)} {ws : List �
   unfolding grantedTo siteAfter threadsAfter logAfter closedThreads
   request-reached site ts h r k = go (requestOf m marks ws site ts k) (requestOf-asked m marks ws site ts k)
     where
-      here : IsCut m (site .variables .at) (logOf site) ts h (r .cut) (floorOf m ts)
-      here =
-          subst₂ (λ (x : List ℕ) (l : List Notification). IsCut m x l ts h (r .cut) (floorOf m ts)) (sym (reached-variables r))
-          (sym (reached-log r)) (r .is-cut)
-
-      room : Roomy (floorOf m ts) (logOf site)
-      room = subst (λ (l : List Notification). Roomy (floorOf m ts) l) (sym (reached-log r)) (r .roomy)
-
       go : (a : Requested) → Asked m marks ws site ts k a → Reached m (a .site) (a .threads) (λ j. h j ++ a .items j)
       go a (refused n u f) = reached-same (λ j. sym (append-nil (h j))) r
-      go a (granted c g) = granted-reached site ts h (r .cut) here room k c g
+      go a (granted c g) = granted-reached site ts h (r .cut) (reached-cut r) (reached-room r) k c g
 
   -- and so does a list of them
   pub list-reached : (ks : List ℕ) (site : Site) (ts : List Thread) (h : ℕ → List Item) → Reached m site ts h

@@ -32,7 +32,7 @@ pub claim-with : (m : Model) → modelFault m ≡ 0 → (marks : List (List Bool
 claim-with m fit marks needed ws begins ts fresh ks = claim m (plain-facts m fit) (kit-laws m fit ws begins marks needed) fresh ks
 
 -- words of which the first N × N are the table's begin with it
-table-begins : (m : Model) (ws : List ℕ) → TableBelow m ws → Begins (wordsOf m) ws
+pub table-begins : (m : Model) (ws : List ℕ) → TableBelow m ws → Begins (wordsOf m) ws
 table-begins m ws table =
     let n = m .n * m .n in
     (drop n ws, sym (take-append-drop n ws) ∙ ap (λ (l : List ℕ). l ++ drop n ws) table)

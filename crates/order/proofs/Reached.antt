@@ -2,7 +2,7 @@
 -- so that no request answers 11.
 -- Takes as given the facts of the plain run (PlainFacts) and the laws of the kit (KitLaws).
 use Prim.Native.Nat.{ℕ, _≤_, _<_}
-use mathlib.Core.Path.{_≡_, ap, sym, _∙_, subst}
+use mathlib.Core.Path.{_≡_, ap, sym, _∙_, subst, subst₂}
 use mathlib.Core.Bool.{Bool, false}
 use mathlib.Core.List.{List, List·Memᴰ}
 use lib.Dec.{T}
@@ -43,6 +43,16 @@ reached-log r = ap logOf (r .site-is) ∙ logOf-siteOf (r .variables) (r .log)
 pub reached-variables : {m : Model} {site : Site} {ts : List Thread} {h : ℕ → List Item} (r : Reached m site ts h)
     → site .variables .at ≡ r .variables
 reached-variables r = ap (λ (s : Site). s .variables .at) (r .site-is) ∙ siteOf-variables (r .variables) (r .log)
+
+-- a cut of the state itself, and the room in its log
+pub reached-cut : {m : Model} {site : Site} {ts : List Thread} {h : ℕ → List Item} (r : Reached m site ts h)
+    → IsCut m (site .variables .at) (logOf site) ts h (r .cut) (floorOf m ts)
+reached-cut {m} {site} {ts} {h} r =
+    subst₂ (λ (x : List ℕ) (l : List Notification). IsCut m x l ts h (r .cut) (floorOf m ts)) (sym (reached-variables r)) (sym (reached-log r))
+    (r .is-cut)
+
+pub reached-room : {m : Model} {site : Site} {ts : List Thread} {h : ℕ → List Item} → Reached m site ts h → Roomy (floorOf m ts) (logOf site)
+reached-room {m} {site} {ts} {h} r = subst (λ (l : List Notification). Roomy (floorOf m ts) l) (sym (reached-log r)) (r .roomy)
 
 module _ (m : Model) (pf : PlainFacts m) {marks : List (List Bool)} {ws : List ℕ} (kl : KitLaws m marks ws) where
   -- whatever a place notifies is an event of the model

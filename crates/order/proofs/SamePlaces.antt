@@ -1,5 +1,5 @@
 -- Two lists of requests after which every thread has run equally often have run the same places: so they leave the same
--- variables, and each thread has run the same segments at the same cycles. (What was heard so far can differ.)
+-- variables, and each thread has run the same segments at the same cycles. (What was heard is the same too: SameStates.)
 -- Takes as given the facts of the plain run (PlainFacts) and the laws of the kit (KitLaws).
 use Prim.Native.Nat.{ℕ, zero, suc, _+_, _-_, _≤_, _<_}
 use mathlib.Core.Path.{_≡_, refl, ap, sym, _∙_, subst, subst₂}
@@ -21,6 +21,7 @@ use Rattle.plain.specs.History.{Item, ran, heard, historyAt, itemsAt}
 use Rattle.plain_laws.proofs.RecordLaws.{ready-not-waits}
 use Rattle.plain_laws.proofs.HappenLaws.{historyAt-more}
 use Rattle.early.specs.declared.Site.{Site}
+use Rattle.order.specs.Steady.{ranItems, runCount}
 use Rattle.order.proofs.Places.{recordAt, Runs, Happens, idle, runs, hears}
 use Rattle.order.proofs.PlainFacts.{PlainFacts}
 use Rattle.order.proofs.KitLaws.{KitLaws}
@@ -28,21 +29,14 @@ use Rattle.order.proofs.Invariant.{Done, Good}
 use Rattle.order.proofs.PlaceLaws.{same-runner}
 use Rattle.order.proofs.Reached.{Reached, reached-variables}
 
--- the segments with their cycles in a history
-unfoldable pub ranItems : List Item → List Item
-ranItems [] = []
-ranItems (ran s c ∷ is) = ran s c ∷ ranItems is
-ranItems (heard e c ∷ is) = ranItems is
-
 ranItems-append : (a b : List Item) → ranItems (a ++ b) ≡ ranItems a ++ ranItems b
 unfolding ranItems
 ranItems-append [] b = refl
 ranItems-append (ran s c ∷ a) b = ap (λ (is : List Item). ran s c ∷ is) (ranItems-append a b)
 ranItems-append (heard e c ∷ a) b = ranItems-append a b
 
--- how often a history has its thread run
-abbrev pub runCount : List Item → ℕ
-runCount is = length (ranItems is)
+pub runCount-append : (a b : List Item) → runCount (a ++ b) ≡ runCount a + runCount b
+runCount-append a b = ap length (ranItems-append a b) ∙ length-append (ranItems a) (ranItems b)
 
 module _ (m : Model) (pf : PlainFacts m) (k : ℕ) (below : k < m .t) where
   -- what thread k has run up to a place
@@ -84,7 +78,7 @@ module _ (m : Model) (pf : PlainFacts m) (k : ℕ) (below : k < m .t) where
   ran-mono i zero = let e : i + 0 ≡ i = omega arith in rw e (omega arith)
   ran-mono i (suc d) = let e : i + suc d ≡ suc (i + d) = omega arith in rw e (let a = ran-mono i d in let b = next-mono (i + d) in omega arith)
 
-  ran-≤ : (i j : ℕ) → i ≤ j → length (ranUpTo i) ≤ length (ranUpTo j)
+  pub ran-≤ : (i j : ℕ) → i ≤ j → length (ranUpTo i) ≤ length (ranUpTo j)
   ran-≤ i j h = let e : i + (j - i) ≡ j = omega arith in subst (λ (n : ℕ). length (ranUpTo i) ≤ length (ranUpTo n)) e (ran-mono i (j - i))
 
   -- a run between two places counts

@@ -27,6 +27,7 @@ use Rattle.early_laws.proofs.LogLaws.{siteOf-count}
 use Rattle.early_laws.proofs.OnceLaws.{Once}
 use Rattle.early_laws.proofs.RequestLaws.{requestOf-refused, requestOf-fit, requestsOf-append}
 use Rattle.order.specs.Claim.{FreshBelow, afterListWith, requestNext, AgreesAt, Claim}
+use Rattle.order.specs.Steady.{ranItems, runCount}
 use Rattle.order.proofs.PlainFacts.{PlainFacts}
 use Rattle.order.proofs.KitLaws.{Begins, KitLaws}
 use Rattle.order.proofs.Invariant.{Bounded}
@@ -36,7 +37,7 @@ use Rattle.order.proofs.LeastReady.{LeastReady}
 use Rattle.order.proofs.Progress.{least-granted, some-granted}
 use Rattle.order.proofs.End.{end-record, end-history, end-variables}
 use Rattle.order.proofs.Lists.{fresh-reached, request-reached, list-reached}
-use Rattle.order.proofs.SamePlaces.{ranItems, runCount, reached-variables-same, reached-ran-same}
+use Rattle.order.proofs.SamePlaces.{reached-variables-same, reached-ran-same}
 use Rattle.order.proofs.CarriedOn.{reached-begins, reached-carried}
 
 module _ (m : Model) (pf : PlainFacts m) {marks : List (List Bool)} {ws : List ℕ} (kl : KitLaws m marks ws) {ts : List Thread} (fresh : FreshBelow m ts) where
