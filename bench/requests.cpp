@@ -121,7 +121,7 @@ struct Kit {
       changed = false;
       for (int k = 0; k < m.t; k++)
         if (r[k].st == WAITING) {
-          B b = plus(forecast(x, r[k].ev), 1);
+          B b = plus(std::max(forecast(x, r[k].ev), at(r[k].t, r[k].d)), 1);
           if (b < x[k]) x[k] = b, changed = true;
         }
     }

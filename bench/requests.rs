@@ -43,11 +43,33 @@ fn site(t: u8, shared: bool) -> Vec<u8> {
     b
 }
 
+// Eight threads: a poller notifies event 0 every unit, a display adds to variable 0 every unit, and six slow sounders each wait many units, then for event 0, then add to variable 0.
+fn sounders() -> Vec<u8> {
+    let mut b = vec![10, 0, 1, 0, 0, 202, 154, 59, 1, 1];
+    let wait = |units: u8, next: u8| [1, 0, units, 0, 0, 0, next, next, 255, 0, 0, 0, 0];
+    seg(&mut b, wait(1, 0), &[[6, 0, 0, 0, 0, 0]]);
+    seg(&mut b, wait(1, 1), &[[2, 0, 1, 0, 0, 0]]);
+    for k in 0..6 {
+        let first = 2 + 3 * k;
+        seg(&mut b, wait(20 + k, first + 1), &[]);
+        seg(&mut b, [2, 0, 0, 0, 0, 0, first + 2, first + 2, 255, 0, 0, 0, 0], &[]);
+        seg(&mut b, wait(5, first), &[[2, 0, 1, 0, 0, 0]]);
+    }
+    for first in [0, 1].into_iter().chain((0..6).map(|k| 2 + 3 * k)) {
+        b.extend([5, 0, 3, 0, first]);
+    }
+    b.extend([4, 0, 4, 0]);
+    b
+}
+
 fn main() {
-    println!("| site | threads, segments | requests | granted | later than the floor | proved, ns a request | native, ns a request | proved / native | one at a time, ns a request |");
-    println!("|---|---|---|---|---|---|---|---|---|");
-    for (name, t, shared) in [("small, own variables", 2u8, false), ("small, shared", 2, true), ("medium, own", 8, false), ("medium, shared", 8, true), ("full, own", 32, false), ("full, shared", 32, true)] {
-        let b = site(t, shared);
+    println!("| site | threads, segments | requests | granted | refused 14 | later than the floor | proved, ns a request | native, ns a request | proved / native | one at a time, ns a request |");
+    println!("|---|---|---|---|---|---|---|---|---|---|");
+    let sites = [
+        ("small, own variables", 2u8, 4, site(2, false)), ("small, shared", 2, 4, site(2, true)), ("medium, own", 8, 16, site(8, false)), ("medium, shared", 8, 16, site(8, true)),
+        ("full, own", 32, 64, site(32, false)), ("full, shared", 32, 64, site(32, true)), ("slow sounders", 8, 20, sounders()),
+    ];
+    for (name, t, segments, b) in sites {
         let n = 2000usize;
         let mut seed = 1u64;
         let ks: Vec<u8> = (0..n).map(|_| { seed = seed.wrapping_mul(6364136223846793005).wrapping_add(1442695040888963407); ((seed >> 33) % t as u64) as u8 }).collect();
@@ -82,6 +104,7 @@ fn main() {
         }
         let one = start.elapsed().as_nanos() as f64 / n as f64;
         let (p, q) = ((least[2] - least[0]) / n as f64, (least[3] - least[1]) / n as f64);
-        println!("| {name} | {t}, {} | {n} | {granted} | {:.0} % | {p:.0} | {q:.0} | {:.2} | {one:.0} |", 2 * t, 100.0 * ahead as f64 / granted as f64, p / q);
+        let held = (0..n).filter(|i| x[4 * i] == 14).count();
+        println!("| {name} | {t}, {segments} | {n} | {granted} | {held} | {:.0} % | {p:.0} | {q:.0} | {:.2} | {one:.0} |", 100.0 * ahead as f64 / granted as f64, p / q);
     }
 }
