@@ -28,7 +28,7 @@ use Rattle.reader_laws.proofs.Accepted.{accepted-kept}
 use Rattle.writer.specs.File.{fileOf}
 use Rattle.export_model.specs.Numbers.{numbersOf}
 use Rattle.export_model.specs.Judged.{numbersNumber, modelHeld, heldOr}
-use Rattle.export_model.proofs.KeptLaws.{held-kept}
+use Rattle.export_hold.proofs.KeptLaws.{held-kept}
 use Rattle.export_write.specs.Call.{Models, callNumber, answerOf, Files}
 
 -- a text that is not empty, written or not: the answer 0 is no room

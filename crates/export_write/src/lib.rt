@@ -10,7 +10,7 @@ pub fn model_into(file: &[u8], numbers: &mut [u32]) -> u8
         return read.number;
     }
     let m = read.model;
-    if export_model::numbers_into(m, numbers) == 0 {
+    if export_numbers::numbers_into(m, numbers) == 0 {
         return 16;
     }
     0
@@ -23,11 +23,11 @@ pub fn write_into(numbers: &[u32], out: &mut [u8], length: &mut [u64]) -> u8
     if length.len() == 0 {
         return 11;
     }
-    let number = export_model::held_number(numbers);
+    let number = export_hold::held_number(numbers);
     if number != 0 {
         return number;
     }
-    let m = export_model::model_held(numbers);
+    let m = export_hold::model_held(numbers);
     let written = writer_file::write(m, out);
     let refusal = buffers::written_number(written);
     if refusal == 0 {
