@@ -241,9 +241,9 @@ fn end_cycle(
     ensures words { λ _. ⌜ ((k : ℕ) → k < t → getD (now (state .exit)) k 0 ≡ wakeWord (now (told .entry)) (due .key) (getD (now (state .entry)) k 0)) ⌝ }
     ensures threads { λ r. ⌜ IsDue t (now (state .exit)) (r .key) (r .from) (r .to) ⌝ }
 {
-    let first = plain_words::lesser(due.from, ranges[32]);
-    let most = plain_words::greater(due.to, ranges[65]);
-    let past = plain_words::lesser(t, most);
+    let first = plain_execute::lesser(due.from, ranges[32]);
+    let most = plain_execute::greater(due.to, ranges[65]);
+    let past = plain_execute::lesser(t, most);
     let near = wake(state, told, due.key, first, past);
     let least = least_of(state, due.key, near, first, past, t);
     due_of(state, least, first, past, t)
@@ -322,7 +322,7 @@ fn wait_for(end: u64, turn: usize, ranges: &mut [usize; 66])
         return;
     }
     let e = ((end / 1024) % 32) as usize;
-    plain_words::widen(ranges, e, turn, turn + 1);
+    plain_execute::widen(ranges, e, turn, turn + 1);
 }
 
 // One thread is looked at: if it is ready in this cycle, and the budget has room, it runs its segment whole.
@@ -349,8 +349,8 @@ fn look_at(
         return n;
     }
     let s = rows[turn];
-    let next = plain_words::run(code, s, v, told, ranges);
-    let end = plain_words::end_of(code, s);
+    let next = plain_execute::run(code, s, v, told, ranges);
+    let end = plain_pack::end_of(code, s);
     wait_for(end, turn, ranges);
     state[turn] = close_word(end, key);
     rows[turn] = next;
@@ -412,7 +412,7 @@ fn result(
     requires { ⌜ t ≤ 32 ⌝ }
     ensures { λ r. ⌜ r ≡ answer v (threadsTo (now (state .entry)) (segmentsBy (now (held .entry)) (now (rows .entry))) t) n spent ⌝ }
 {
-    let segments = plain_words::segments_by(held, rows);
+    let segments = plain_rows::segments_by(held, rows);
     let threads = threads_of(state, &segments, t);
     PlainRun {
         number: 0,
@@ -430,8 +430,8 @@ fn cycles(m: Model, budget: u64) -> PlainRun
 {
     let t = m.t as usize;
     let limit = 1024 * (m.horizon.0 + 1);
-    let mut code = plain_words::pack(m);
-    let marked = plain_words::any_marked(&code);
+    let mut code = plain_pack::pack(m);
+    let marked = plain_pack::any_marked(&code);
     let mut held = [255u8; 32];
     let mut rows = first_rows(m);
     let mut v = [0u32; 64];
@@ -441,7 +441,7 @@ fn cycles(m: Model, budget: u64) -> PlainRun
     let mut due = due_of(&state, 0, 0, t, t);
     let mut n = 0;
     loop {
-        plain_words::prepare(marked, &mut code, &mut held, &mut rows, due.from, due.to);
+        plain_rows::prepare(marked, &mut code, &mut held, &mut rows, due.from, due.to);
         n = run_cycle(
             &code,
             due,
