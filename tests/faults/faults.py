@@ -26,9 +26,9 @@ PLAIN, EARLY = ["versus"], ["versus", "test_files"]
 FAULTS = [
     (PLAIN, "a cycle past the horizon runs", "plain_core/src/lib.rt", "if limit <= due.key {", "if limit < due.key {"),
     (PLAIN, "the horizon not counted in", "plain_core/src/lib.rt", "1024 * (m.horizon.0 + 1);", "1024 * m.horizon.0;"),
-    (PLAIN, "a wait begun in the notifying cycle is not woken", "plain_core/src/lib.rt", "if key < x % 175", "if key <= x % 175"),
-    (PLAIN, "overrun at 1,024", "plain_core/src/lib.rt", "if key % 1024 < 1023 {", "if key % 1024 < 1024 {"),
-    (PLAIN, "one segment over the budget", "plain_core/src/lib.rt", "if budget <= n {", "if budget < n {"),
+    (PLAIN, "a wait begun in the notifying cycle is not woken", "plain_close/src/lib.rt", "if key < x % 175", "if key <= x % 175"),
+    (PLAIN, "overrun at 1,024", "plain_close/src/lib.rt", "if key % 1024 < 1023 {", "if key % 1024 < 1024 {"),
+    (PLAIN, "one segment over the budget", "plain_cycle/src/lib.rt", "if budget <= n {", "if budget < n {"),
     (PLAIN, "the limit counted in", "plain_execute/src/lib.rt", "if x < next / 16777216 {", "if x <= next / 16777216 {"),
     (PLAIN, "the ports of thread 0", "plain_rows/src/lib.rt", "code[2176 + 8 * turn + p] % 256", "code[2176 + p] % 256"),
     (PLAIN, "a row keeps the first segment with a port", "plain_rows/src/lib.rt", "if held[turn] == s {", "if held[turn] < 64 {"),
