@@ -1,4 +1,3 @@
-pub mod JoinLaws
 pub mod PortLaws
 pub mod SizeLaws
 pub mod ReadLaws

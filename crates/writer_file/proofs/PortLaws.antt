@@ -15,7 +15,7 @@ use Rattle.writer.specs.Bytes.{bytesOf}
 use Rattle.writer.specs.File.{portsBytes}
 use Rattle.writer_laws.proofs.RecordLaws.{recordBytes-length}
 use Rattle.writer_laws.proofs.PortLaws.{portsBody, portsBody-length, portsBytes-used, portsBytes-unused}
-use Rattle.writer_file.proofs.JoinLaws.{puts-record}
+use Rattle.writer_segment.proofs.JoinLaws.{puts-record}
 
 module _ (ps : List ℕ) where
   pub portsBytes-size : usesPorts ps ≡ true → length (portsBytes ps) ≡ 12

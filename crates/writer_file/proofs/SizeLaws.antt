@@ -1,12 +1,12 @@
 -- How many bytes: the records beside a segment's, and the whole file.
---     segmentBytes-parts, endBytes-frame     a record as the code puts it
+--     endBytes-frame     a record as the code puts it
 --     starts-none, starts-read, starts-past     the length of the threads, counted one by one
 --     counted-none, counted-read, counted-past, counted-all     the length, counted segment by segment
 --     fileOf-longest     no more than 13,934 for a model that keeps the file rules
 -- Assumes nothing.
 use Prim.Native.Nat.{ℕ, zero, suc, _+_, _*_, _<_, _≤_}
 use mathlib.Core.Path.{_≡_, refl, sym, ap, _∙_}
-use mathlib.Core.List.{List, _++_, append-assoc}
+use mathlib.Core.List.{List, _++_}
 use native.Mathlib.Nat.{zero-add}
 use native.Mathlib.Numerals.{add-one}
 use native.Mathlib.Omega.{arith}
@@ -16,33 +16,16 @@ use Rattle.model.specs.declared.Segment.{Segment}
 use Rattle.model.specs.declared.Start.{Start}
 use Rattle.model.specs.declared.Model.{Model}
 use Rattle.model.specs.Port.{noPorts, usesPorts}
-use Rattle.model.specs.Values.{noStatement, noSegment, noStart, segmentAt, startAt}
+use Rattle.model.specs.Values.{noSegment, noStart, segmentAt, startAt}
 use Rattle.model.specs.Rules.{modelFault}
 use Rattle.model_rules.proofs.RuleLaws.{modelFault-counts, modelFault-statements}
 use Rattle.model_rules.proofs.FaultLaws.{segmentAt-read, segmentAt-past, startAt-read, startAt-past}
-use Rattle.reader.specs.Record.{segmentKind, endKind}
-use Rattle.writer.specs.Bytes.{bytesOf, joined, closerBytes, opBytes}
+use Rattle.reader.specs.Record.{endKind}
+use Rattle.writer.specs.Bytes.{bytesOf, joined}
 use Rattle.writer.specs.File.{recordBytes, headBytes, segmentBytes, portsBytes, startBytes, endBytes, fileOf}
 use Rattle.writer_laws.proofs.JoinLaws.{joined-more}
-use Rattle.writer_laws.proofs.SegmentLaws.{body-length, segmentBytes-length}
+use Rattle.writer_laws.proofs.SegmentLaws.{segmentBytes-length}
 use Rattle.writer_file.proofs.PortLaws.{portsBytes-most, portsBytes-empty}
-
--- statement j of a segment
-abbrev pub statementAt : Segment → ℕ → List ℕ
-statementAt g j = opBytes (getD (g .statements) j noStatement .op)
-
--- a segment's frame and closer, then its statements
-pub segmentBytes-parts :
-    (g : Segment) →
-    ((bytesOf 2 (17 + 6 * g .n) ++ bytesOf 2 segmentKind) ++ closerBytes (g .closer)) ++ joined (g .n) 0 (statementAt g) ≡ segmentBytes g
-unfolding segmentBytes recordBytes
-segmentBytes-parts g =
-    let e : 17 + 6 * g .n ≡ 4 + length (closerBytes (g .closer) ++ joined (g .n) 0 (statementAt g)) = omega (arith, body-length g) in
-    let a = bytesOf 2 (17 + 6 * g .n) in
-    let b = bytesOf 2 segmentKind in
-    let x = closerBytes (g .closer) in
-    let y = joined (g .n) 0 (statementAt g) in
-    append-assoc (a ++ b) x y ∙ (append-assoc a b (x ++ y) ∙ ap (λ (n : ℕ). bytesOf 2 n ++ (b ++ (x ++ y))) e)
 
 pub startBytes-length : (s : Start) → length (startBytes s) ≡ 5 + length (portsBytes (s .ports))
 unfolding startBytes recordBytes bytesOf

@@ -8,7 +8,7 @@ use Rattle.buffers.specs.Put.{Puts}
 use Rattle.buffers.proofs.PutLaws.{puts-none}
 use Rattle.model.specs.Port.{portOf}
 use Rattle.writer.specs.Bytes.{bytesOf, joined}
-use Rattle.writer_file.proofs.JoinLaws.{joined-none, puts-joined}
+use Rattle.writer_segment.proofs.JoinLaws.{joined-none, puts-joined}
 use Rattle.writer_file.proofs.put_eight.Statement.{statement}
 use Rattle.writer_file.proofs.put_eight.Tie as tie
 

@@ -3,7 +3,7 @@ use mathlib.Core.Path.{refl}
 use borrow.Author.Needs.{needs}
 use Rattle.buffers.proofs.PutLaws.{puts-then}
 use Rattle.writer.specs.Bytes.{bytesOf}
-use Rattle.writer_file.proofs.JoinLaws.{puts-record}
+use Rattle.writer_segment.proofs.JoinLaws.{puts-record}
 use Rattle.writer_file.proofs.put_head.Statement.{statement}
 use Rattle.writer_file.proofs.put_head.Tie as tie
 

@@ -12,7 +12,7 @@ use Rattle.model_effect.proofs.LengthLaws.{segments-length}
 use Rattle.writer.specs.File.{segmentBytes}
 use Rattle.writer.specs.Bytes.{joined}
 use Rattle.writer_file.proofs.ReadLaws.{segmentBytes-read, segmentBytes-past}
-use Rattle.writer_file.proofs.JoinLaws.{joined-none, puts-joined}
+use Rattle.writer_segment.proofs.JoinLaws.{joined-none, puts-joined}
 use Rattle.writer_file.proofs.put_segments.Statement.{statement}
 use Rattle.writer_file.proofs.put_segments.Tie as tie
 

@@ -2,7 +2,7 @@
 use mathlib.Core.Path.{refl}
 use borrow.Author.Needs.{needs}
 use Rattle.writer.specs.Bytes.{bytesOf}
-use Rattle.writer_file.proofs.JoinLaws.{puts-record}
+use Rattle.writer_segment.proofs.JoinLaws.{puts-record}
 use Rattle.writer_file.proofs.put_start.Statement.{statement}
 use Rattle.writer_file.proofs.put_start.Tie as tie
 

@@ -11,7 +11,7 @@ use Rattle.model.specs.Values.{startAt}
 use Rattle.model_effect.proofs.LengthLaws.{starts-length}
 use Rattle.writer.specs.File.{startBytes}
 use Rattle.writer.specs.Bytes.{joined}
-use Rattle.writer_file.proofs.JoinLaws.{joined-none, puts-joined}
+use Rattle.writer_segment.proofs.JoinLaws.{joined-none, puts-joined}
 use Rattle.writer_file.proofs.ReadLaws.{startBytes-read, startBytes-past}
 use Rattle.writer_file.proofs.put_starts.Statement.{statement}
 use Rattle.writer_file.proofs.put_starts.Tie as tie

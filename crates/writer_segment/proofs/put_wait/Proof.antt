@@ -1,8 +1,8 @@
--- `writer_file::put_wait` meets its contract. Its three numbers in turn, then what comes next.
+-- `writer_segment::put_wait` meets its contract. Its three numbers in turn, then what comes next.
 use borrow.Author.Needs.{needs}
 use Rattle.buffers.proofs.PutLaws.{puts-then}
-use Rattle.writer_file.proofs.put_wait.Statement.{statement}
-use Rattle.writer_file.proofs.put_wait.Tie as tie
+use Rattle.writer_segment.proofs.put_wait.Statement.{statement}
+use Rattle.writer_segment.proofs.put_wait.Tie as tie
 
 returns : tie.Need-returns
 returns c =

@@ -1,8 +1,8 @@
--- `writer_file::put_op` meets its contract. Operation by operation.
+-- `writer_segment::put_op` meets its contract. Operation by operation.
 use borrow.Author.Needs.{needs}
 use Rattle.writer.specs.Bytes.{opBytes}
-use Rattle.writer_file.proofs.put_op.Statement.{statement}
-use Rattle.writer_file.proofs.put_op.Tie as tie
+use Rattle.writer_segment.proofs.put_op.Statement.{statement}
+use Rattle.writer_segment.proofs.put_op.Tie as tie
 
 returns : tie.Need-returns
 unfolding opBytes

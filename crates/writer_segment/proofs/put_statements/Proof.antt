@@ -1,4 +1,4 @@
--- `writer_file::put_statements` meets its contract. The invariant: the first j statements are put.
+-- `writer_segment::put_statements` meets its contract. The invariant: the first j statements are put.
 use Prim.Native.Nat.{ℕ, _≤_, _-_}
 use mathlib.Core.Logic.{⊎-elim}
 use mathlib.Core.List.{List}
@@ -9,11 +9,10 @@ use Rattle.buffers.specs.Put.{Puts}
 use Rattle.buffers.proofs.PutLaws.{puts-none}
 use Rattle.model_effect.proofs.LengthLaws.{statements-length}
 use Rattle.writer.specs.Bytes.{joined}
-use Rattle.writer_file.proofs.SizeLaws.{statementAt}
-use Rattle.writer_file.proofs.JoinLaws.{joined-none, puts-joined}
-use Rattle.writer_file.proofs.ReadLaws.{opBytes-past}
-use Rattle.writer_file.proofs.put_statements.Statement.{statement}
-use Rattle.writer_file.proofs.put_statements.Tie as tie
+use Rattle.writer_segment.proofs.JoinLaws.{joined-none, puts-joined}
+use Rattle.writer_segment.proofs.SegmentLaws.{statementAt, opBytes-past}
+use Rattle.writer_segment.proofs.put_statements.Statement.{statement}
+use Rattle.writer_segment.proofs.put_statements.Tie as tie
 
 abbrev Inv-loop : tie.InvT-loop
 Inv-loop out₀ at g n to₀ j₀ out to j = (j ≤ n) × Puts out₀ at out to (joined j 0 (statementAt g))

@@ -1,9 +1,9 @@
--- `writer_file::put_segment` meets its contract. The frame and the closer, then the statements.
+-- `writer_segment::put_segment` meets its contract. The frame and the closer, then the statements.
 use borrow.Author.Needs.{needs}
 use Rattle.buffers.proofs.PutLaws.{puts-then}
-use Rattle.writer_file.proofs.SizeLaws.{segmentBytes-parts}
-use Rattle.writer_file.proofs.put_segment.Statement.{statement}
-use Rattle.writer_file.proofs.put_segment.Tie as tie
+use Rattle.writer_segment.proofs.SegmentLaws.{segmentBytes-parts}
+use Rattle.writer_segment.proofs.put_segment.Statement.{statement}
+use Rattle.writer_segment.proofs.put_segment.Tie as tie
 
 returns : tie.Need-returns
 returns c =

@@ -1,9 +1,9 @@
--- `writer_file::put_closer` meets its contract. Closer by closer.
+-- `writer_segment::put_closer` meets its contract. Closer by closer.
 use borrow.Author.Needs.{needs}
 use Rattle.writer.specs.Bytes.{closerBytes}
-use Rattle.writer_file.proofs.ReadLaws.{closerBytes-end}
-use Rattle.writer_file.proofs.put_closer.Statement.{statement}
-use Rattle.writer_file.proofs.put_closer.Tie as tie
+use Rattle.writer_segment.proofs.SegmentLaws.{closerBytes-end}
+use Rattle.writer_segment.proofs.put_closer.Statement.{statement}
+use Rattle.writer_segment.proofs.put_closer.Tie as tie
 
 returns : tie.Need-returns
 returns c =

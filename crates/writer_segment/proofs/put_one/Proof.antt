@@ -1,9 +1,9 @@
--- `writer_file::put_one` meets its contract. A byte is itself modulo 256.
+-- `writer_segment::put_one` meets its contract. A byte is itself modulo 256.
 use native.Mathlib.Omega.{arith}
 use borrow.Author.Needs.{needs}
-use Rattle.writer_file.proofs.JoinLaws.{bytesOf-byte}
-use Rattle.writer_file.proofs.put_one.Statement.{statement}
-use Rattle.writer_file.proofs.put_one.Tie as tie
+use Rattle.writer_segment.proofs.JoinLaws.{bytesOf-byte}
+use Rattle.writer_segment.proofs.put_one.Statement.{statement}
+use Rattle.writer_segment.proofs.put_one.Tie as tie
 
 returns : tie.Need-returns
 returns c = rw (bytesOf-byte (c .before .before .before .before .before .args .x) (omega arith)) (c .before .before .put-byte .ensures)

@@ -1,9 +1,9 @@
--- `writer_file::put_next` meets its contract. Its four numbers in turn.
+-- `writer_segment::put_next` meets its contract. Its four numbers in turn.
 use borrow.Author.Needs.{needs}
 use Rattle.buffers.proofs.PutLaws.{puts-then}
 use Rattle.writer.specs.Bytes.{nextBytes}
-use Rattle.writer_file.proofs.put_next.Statement.{statement}
-use Rattle.writer_file.proofs.put_next.Tie as tie
+use Rattle.writer_segment.proofs.put_next.Statement.{statement}
+use Rattle.writer_segment.proofs.put_next.Tie as tie
 
 returns : tie.Need-returns
 unfolding nextBytes

@@ -1,9 +1,9 @@
--- `writer_file::put_four` meets its contract. The low two bytes, then the next two.
+-- `writer_segment::put_four` meets its contract. The low two bytes, then the next two.
 use borrow.Author.Needs.{needs}
 use Rattle.buffers.proofs.PutLaws.{puts-then}
 use Rattle.writer.specs.Bytes.{bytesOf}
-use Rattle.writer_file.proofs.put_four.Statement.{statement}
-use Rattle.writer_file.proofs.put_four.Tie as tie
+use Rattle.writer_segment.proofs.put_four.Statement.{statement}
+use Rattle.writer_segment.proofs.put_four.Tie as tie
 
 returns : tie.Need-returns
 unfolding bytesOf

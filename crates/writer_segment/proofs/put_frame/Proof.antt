@@ -1,8 +1,8 @@
--- `writer_file::put_frame` meets its contract. The length, then the kind.
+-- `writer_segment::put_frame` meets its contract. The length, then the kind.
 use borrow.Author.Needs.{needs}
 use Rattle.buffers.proofs.PutLaws.{puts-then}
-use Rattle.writer_file.proofs.put_frame.Statement.{statement}
-use Rattle.writer_file.proofs.put_frame.Tie as tie
+use Rattle.writer_segment.proofs.put_frame.Statement.{statement}
+use Rattle.writer_segment.proofs.put_frame.Tie as tie
 
 returns : tie.Need-returns
 returns c = puts-then (c .before .before .before .before .before .before .put-two .ensures) (c .before .before .put-two2 .ensures)

@@ -1,9 +1,9 @@
--- `writer_file::put_statement` meets its contract. Its three numbers in turn.
+-- `writer_segment::put_statement` meets its contract. Its three numbers in turn.
 use borrow.Author.Needs.{needs}
 use Rattle.buffers.proofs.PutLaws.{puts-then}
 use Rattle.writer.specs.Bytes.{statementOf}
-use Rattle.writer_file.proofs.put_statement.Statement.{statement}
-use Rattle.writer_file.proofs.put_statement.Tie as tie
+use Rattle.writer_segment.proofs.put_statement.Statement.{statement}
+use Rattle.writer_segment.proofs.put_statement.Tie as tie
 
 returns : tie.Need-returns
 unfolding statementOf

@@ -1,8 +1,8 @@
--- `writer_file::put_front` meets its contract. The frame, then the closer.
+-- `writer_segment::put_front` meets its contract. The frame, then the closer.
 use borrow.Author.Needs.{needs}
 use Rattle.buffers.proofs.PutLaws.{puts-then}
-use Rattle.writer_file.proofs.put_front.Statement.{statement}
-use Rattle.writer_file.proofs.put_front.Tie as tie
+use Rattle.writer_segment.proofs.put_front.Statement.{statement}
+use Rattle.writer_segment.proofs.put_front.Tie as tie
 
 returns : tie.Need-returns
 returns c =

@@ -1,9 +1,9 @@
--- `writer_file::put_two` meets its contract. The low byte, then the next.
+-- `writer_segment::put_two` meets its contract. The low byte, then the next.
 use borrow.Author.Needs.{needs}
 use Rattle.buffers.proofs.PutLaws.{puts-then}
 use Rattle.writer.specs.Bytes.{bytesOf}
-use Rattle.writer_file.proofs.put_two.Statement.{statement}
-use Rattle.writer_file.proofs.put_two.Tie as tie
+use Rattle.writer_segment.proofs.put_two.Statement.{statement}
+use Rattle.writer_segment.proofs.put_two.Tie as tie
 
 returns : tie.Need-returns
 unfolding bytesOf
