@@ -1,30 +1,28 @@
--- What a record's body says: 4, then a segment's 5 to 7 or the 17 of a thread's ports; and the model with the record.
---     recordFault-.., ownFault-..     1 to 7 and 17 in the parts that the code computes
+-- What a record's body says: its fault as the definition of the file has it, and the model with the record.
+--     recordFault-is     1 to 7 and 17
 --     withRecord-..     the model after a head, a segment, a thread, a thread's ports
 use Prim.Native.Nat.{ℕ, _+_, _-_, _<_}
-use mathlib.Core.Path.{sym, ap, _∙_, _≡_, refl}
+use mathlib.Core.Path.{ap, _≡_, refl}
 use mathlib.Core.Bool.{true}
 use mathlib.Core.List.{List}
-use native.Mathlib.Omega.{arith}
 use native.Mathlib.Decide.{ℕ-discrete}
-use lib.Dec.{ltb}
 use lib.ListN.{length, take, getD, set}
-use borrow.Author.Tests.{ltb-true, ne-eqb}
+use borrow.Author.Tests.{ne-eqb}
 use Rattle.base.specs.Index.{orElse}
-use Rattle.base.proofs.IndexLaws.{orElse-none, orElse-zero, orElse-last}
+use Rattle.base.proofs.IndexLaws.{orElse-none, orElse-last}
 use Rattle.clock.specs.declared.Time.{Time}
 use Rattle.model.specs.declared.Segment.{Segment}
 use Rattle.model.specs.declared.Start.{Start}
 use Rattle.model.specs.declared.Model.{Model}
 use Rattle.model.specs.Values.{withHead, withSegment, withStart, withPorts}
-use Rattle.model_rules.proofs.FaultLaws.{fault-here, unless-zero, startAt-read}
+use Rattle.model_rules.proofs.FaultLaws.{startAt-read}
 use Rattle.reader.specs.Word.{byteAt, wordAt, longAt}
 use Rattle.reader.specs.Record.{framingFault, portsBytesFault, bodyFault, withRecord}
-use Rattle.reader_segment.specs.Parts.{fits, segmentRecordFault, segmentIn}
-use Rattle.reader_segment.proofs.SegmentLaws.{segmentRecordFault-fits, segmentIn-fits}
-use Rattle.reader_file.specs.declared.Counts.{Counts}
-use Rattle.reader_file.specs.Parts.{countFault, ownFault, recordFault, threadFrom, portsInto}
-use Rattle.reader_file.proofs.RecordLaws.{Opened}
+use Rattle.reader_segment.specs.Parts.{fits, segmentIn}
+use Rattle.reader_segment.proofs.SegmentLaws.{segmentIn-fits}
+use Rattle.reader_record.specs.declared.Counts.{Counts}
+use Rattle.reader_record.specs.Parts.{countFault, ownFault, recordFault}
+use Rattle.reader_file.specs.Parts.{threadFrom, portsInto}
 use Rattle.reader_file.proofs.TargetLaws.{Counted}
 
 bodyFault-is : (k : ℕ) (c : Counts) (m : Model) (r : List ℕ) → Counted c m → orElse (countFault k c r) (ownFault k (c .v) (c .e) r) ≡ bodyFault k m r
@@ -43,53 +41,6 @@ bodyFault-is k c m r g = rw (g .v, g .e, g .n, g .t) (go (ℕ-discrete k 2) (ℕ
 pub recordFault-is : (last : ℕ) (c : Counts) (m : Model) (b : List ℕ) → Counted c m → recordFault last c b ≡ orElse (framingFault last b) (bodyFault (wordAt b 2) m (take (wordAt b 0) b))
 unfolding recordFault
 recordFault-is last c m b g = ap (λ (x : ℕ). orElse (framingFault last b) x) (bodyFault-is (wordAt b 2) c m (take (wordAt b 0) b) g)
-
-module _ (last : ℕ) (c : Counts) (b : List ℕ) where
-  pub recordFault-framing : (x : ℕ) → x ≡ framingFault last b → (x ≡ 0 → ⊥) → x ≡ recordFault last c b
-  unfolding recordFault
-  recordFault-framing x p z = fault-here _ _ x p z
-
-  pub recordFault-framed : recordFault last c b ≡ 0 → framingFault last b ≡ 0
-  unfolding recordFault
-  recordFault-framed z = orElse-zero _ _ z .0
-
-module _ {last s k : ℕ} {b : List ℕ} (o : Opened last b s k) (c : Counts) where
-  recordFault-opened : recordFault last c b ≡ orElse (countFault k c (take s b)) (ownFault k (c .v) (c .e) (take s b))
-  unfolding recordFault
-  recordFault-opened = rw (o .is-size, o .is-kind) (orElse-none _ _ (o .none))
-
-  pub recordFault-counts : recordFault last c b ≡ 0 → countFault k c (take s b) ≡ 0
-  recordFault-counts z = orElse-zero _ _ (sym recordFault-opened ∙ z) .0
-
-  module _ (x : ℕ) (is : x ≡ countFault k c (take s b)) where
-    pub recordFault-count : (x ≡ 0 → ⊥) → x ≡ recordFault last c b
-    recordFault-count n = fault-here _ _ x is n ∙ sym recordFault-opened
-
-    pub recordFault-own : (y : ℕ) → x ≡ 0 → y ≡ ownFault k (c .v) (c .e) (take s b) → y ≡ recordFault last c b
-    recordFault-own y z p = p ∙ sym (recordFault-opened ∙ orElse-none _ _ (sym is ∙ z))
-
--- a segment's own faults, those of a thread's ports, and no others
-module _ (k : ℕ) (v e : ℕ) (r : List ℕ) where
-  pub ownFault-segment : (y : ℕ) → k ≡ 2 → fits r ≡ true → y ≡ segmentRecordFault v e r → y ≡ ownFault k v e r
-  unfolding ownFault
-  ownFault-segment y is f p = p ∙ (segmentRecordFault-fits v e r f ∙ rw is refl)
-
-  pub ownFault-ports : (y : ℕ) → k ≡ 5 → y ≡ portsBytesFault v r → y ≡ ownFault k v e r
-  unfolding ownFault
-  ownFault-ports y is p = p ∙ rw is refl
-
-  pub ownFault-other : (k ≡ 2 → ⊥) → (k ≡ 5 → ⊥) → 0 ≡ ownFault k v e r
-  unfolding ownFault
-  ownFault-other n m = rw (ne-eqb k 2 n, ne-eqb k 5 m) refl
-
-module _ (k : ℕ) (c : Counts) (r : List ℕ) (none : countFault k c r ≡ 0) where
-  pub count-segment : k ≡ 2 → c .n < 64
-  unfolding countFault
-  count-segment e = ltb-true (c .n) 64 (unless-zero (ltb (c .n) 64) 4 (λ z. omega arith) (rw e at none))
-
-  pub count-thread : k ≡ 3 → c .t < 32
-  unfolding countFault
-  count-thread e = ltb-true (c .t) 32 (unless-zero (ltb (c .t) 32) 4 (λ z. omega arith) (rw e at none))
 
 module _ (k : ℕ) (m : Model) (r : List ℕ) where
   pub withRecord-head : (h : Time) → k ≡ 1 → h .0 ≡ longAt r 4

@@ -33,10 +33,11 @@ use Rattle.reader_laws.proofs.ReadSoFar.{SoFar, nothing-read, Follows, head, se
 use Rattle.reader_laws.proofs.Reading.{readOr-accepted}
 use Rattle.reader_segment.specs.Parts.{segmentIn}
 use Rattle.reader_segment.proofs.SegmentLaws.{part-rest, fits-length}
-use Rattle.reader_file.specs.declared.Counts.{Counts}
+use Rattle.reader_record.specs.declared.Counts.{Counts}
 use Rattle.reader_file.specs.declared.Head.{Head}
-use Rattle.reader_file.specs.Parts.{recordFault, noCounts, countsAfter, endFault, refusedWith, threadFrom, portsInto, judgedEnd, judgedFrom, judgedFile, headOf, noHead, Builds, BuildsIf}
-use Rattle.reader_file.proofs.RecordLaws.{isWhole-head, framingFault-short, Opened, opened-some, opened-least, opened-left, opened-length, opened-after, opened-size, opened-fits, opened-head, opened-thread, opened-ports, opened-last, opened-end}
+use Rattle.reader_record.specs.Parts.{recordFault}
+use Rattle.reader_file.specs.Parts.{noCounts, countsAfter, endFault, refusedWith, threadFrom, portsInto, judgedEnd, judgedFrom, judgedFile, headOf, noHead, Builds, BuildsIf}
+use Rattle.reader_record.proofs.RecordLaws.{isWhole-head, framingFault-short, Opened, opened-some, opened-least, opened-left, opened-length, opened-after, opened-size, opened-fits, opened-head, opened-thread, opened-ports, opened-last, opened-end}
 use Rattle.reader_file.proofs.TargetLaws.{stays-targets, Counted, counted-none, counted-more}
 use Rattle.reader_file.proofs.UnnamedLaws.{unnamed-lack}
 use Rattle.reader_file.proofs.LackLaws.{readOr-number}

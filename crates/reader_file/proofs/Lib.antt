@@ -1,5 +1,3 @@
-pub mod RecordLaws
-pub mod PortsLaws
 pub mod BodyLaws
 pub mod UnnamedLaws
 pub mod TargetLaws

@@ -31,7 +31,7 @@ use Rattle.reader.specs.Record.{segmentFrom, segmentBytesFault, portsFrom, body
 use Rattle.reader_laws.proofs.ReadSoFar.{SoFar, Follows, head, segment, thread, ports, ending}
 use Rattle.reader_segment.specs.Parts.{boundOf, targetBound, fits, closerIn, recordNames}
 use Rattle.reader_segment.proofs.NamedLaws.{segment-unnamed}
-use Rattle.reader_file.specs.declared.Counts.{Counts}
+use Rattle.reader_record.specs.declared.Counts.{Counts}
 use Rattle.reader_file.specs.Parts.{noCounts, countsAfter}
 use Rattle.reader_file.proofs.UnnamedLaws.{Unnamed, unnamed-same, unnamed-segment}
 

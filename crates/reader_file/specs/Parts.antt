@@ -1,48 +1,25 @@
 -- What the reader's own functions answer, in parts of the definitions before. Only private contracts cite these.
 use Prim.Native.Nat.{ℕ, zero, suc, _+_, _<_, _≤_, max}
 use mathlib.Core.Path.{_≡_}
-use mathlib.Core.Bool.{Bool, false, true, cond, _&&_, _||_}
+use mathlib.Core.Bool.{Bool, false, true, cond, _||_}
 use mathlib.Core.List.{List}
-use lib.Dec.{ltb, leb, eqb}
+use lib.Dec.{leb, eqb}
 use lib.ListN.{length, take, drop}
 use Rattle.base.specs.Index.{orElse}
 use Rattle.model.specs.declared.Start.{Start}
 use Rattle.model.specs.declared.Model.{Model}
 use Rattle.model.specs.Port.{noPorts}
-use Rattle.model.specs.Refusal.{accepted, shortFile, wrongCount, wrongTarget, extraBytes}
+use Rattle.model.specs.Refusal.{accepted, shortFile, wrongTarget, extraBytes}
 use Rattle.model.specs.Values.{noModel, startAt}
-use Rattle.model.specs.Rules.{unless, headFault, targetsFault, lackFault}
+use Rattle.model.specs.Rules.{unless, targetsFault, lackFault}
 use Rattle.reader.specs.declared.Read.{Read}
 use Rattle.reader.specs.Word.{byteAt, wordAt, longAt}
-use Rattle.reader.specs.Record.{headKind, segmentKind, threadKind, endKind, portsKind, framingFault, segmentBytesFault, portsFrom, portsBytesFault, bodyFault, withRecord}
+use Rattle.reader.specs.Record.{headKind, segmentKind, threadKind, endKind, framingFault, portsFrom, bodyFault, withRecord}
 use Rattle.reader.specs.File.{readOr}
 use Rattle.reader_segment.specs.Parts.{closerIn, targetBound, recordNames}
-use Rattle.reader_file.specs.declared.Counts.{Counts}
+use Rattle.reader_record.specs.declared.Counts.{Counts}
 use Rattle.reader_file.specs.declared.Head.{Head}
 use Rattle.reader_file.specs.declared.Verdict.{Verdict}
-
--- a record's head and its length are there
-unfoldable pub isWhole : List ℕ → Bool
-isWhole b = leb 4 (length b) && (leb 4 (wordAt b 0) && leb (wordAt b 0) (length b))
-
--- 4 of the record r of kind k, after what is counted
-unfoldable pub countFault : ℕ → Counts → List ℕ → ℕ
-countFault k c r =
-    cond (eqb k headKind) (headFault (longAt r 4) (byteAt r 8) (byteAt r 9))
-    (cond (eqb k segmentKind) (unless (ltb (c .n) 64) wrongCount)
-    (cond (eqb k threadKind) (unless (ltb (c .t) 32) wrongCount)
-    accepted))
-
--- a segment's 5 to 7, the 17 of a thread's ports, none of another kind
-unfoldable pub ownFault : ℕ → ℕ → ℕ → List ℕ → ℕ
-ownFault k v e r = cond (eqb k segmentKind) (segmentBytesFault v e r) (cond (eqb k portsKind) (portsBytesFault v r) accepted)
-
--- 1 to 7 and 17 of the record that begins b, after a record of kind last and what is counted
-unfoldable pub recordFault : ℕ → Counts → List ℕ → ℕ
-recordFault last c b =
-    let k = wordAt b 2 in
-    let r = take (wordAt b 0) b in
-    orElse (framingFault last b) (orElse (countFault k c r) (ownFault k (c .v) (c .e) r))
 
 -- what is counted before the first record, and with the record r of kind k
 abbrev pub noCounts : Counts

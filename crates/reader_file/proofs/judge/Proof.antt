@@ -7,9 +7,9 @@ use native.Mathlib.Omega.{arith}
 use lib.ListN.{length}
 use borrow.Author.Needs.{needs}
 use denote.Ref.{now}
-use Rattle.reader_file.specs.Parts.{recordFault}
-use Rattle.reader_file.proofs.RecordLaws.{Opened, opened-least, opened-left, opened-length, opened-head, opened-thread}
-use Rattle.reader_file.proofs.BodyLaws.{recordFault-framed, recordFault-counts, count-segment, count-thread}
+use Rattle.reader_record.specs.Parts.{recordFault}
+use Rattle.reader_record.proofs.RecordLaws.{Opened, opened-least, opened-left, opened-length, opened-head, opened-thread}
+use Rattle.reader_record.proofs.FaultLaws.{recordFault-framed, recordFault-counts, count-segment, count-thread}
 use Rattle.reader_file.proofs.FileLaws.{restOf, restOf-length, Judged, judged-none, judged-short, judged-refused, judged-end, judged-unnamed, judged-more}
 use Rattle.reader_file.proofs.judge.Statement.{statement}
 use Rattle.reader_file.proofs.judge.Tie as tie

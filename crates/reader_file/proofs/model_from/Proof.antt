@@ -12,7 +12,7 @@ use denote.Ref.{now}
 use Rattle.model.specs.declared.Model.{Model}
 use Rattle.reader.specs.Word.{wordAt}
 use Rattle.reader_file.specs.Parts.{judgedFile}
-use Rattle.reader_file.proofs.RecordLaws.{Opened, opened-least, opened-left, opened-length, opened-thread, opened-ports}
+use Rattle.reader_record.proofs.RecordLaws.{Opened, opened-least, opened-left, opened-length, opened-thread, opened-ports}
 use Rattle.reader_file.proofs.FileLaws.{restOf, restOf-length, Filled, filled-opened, filled-ports, filled-last, filled-segments, filled-threads, filled-with-segment, filled-with-thread, filled-with-ports, Partly, partly-head, partly-accepted, partly-more, partly-all}
 use Rattle.reader_file.proofs.model_from.Statement.{statement}
 use Rattle.reader_file.proofs.model_from.Tie as tie

@@ -1,8 +1,8 @@
--- `reader_file::own_fault` meets its contract, kind by kind.
+-- `reader_record::own_fault` meets its contract, kind by kind.
 use borrow.Author.Needs.{needs}
-use Rattle.reader_file.proofs.BodyLaws.{ownFault-segment, ownFault-ports, ownFault-other}
-use Rattle.reader_file.proofs.own_fault.Statement.{statement}
-use Rattle.reader_file.proofs.own_fault.Tie as tie
+use Rattle.reader_record.proofs.FaultLaws.{ownFault-segment, ownFault-ports, ownFault-other}
+use Rattle.reader_record.proofs.own_fault.Statement.{statement}
+use Rattle.reader_record.proofs.own_fault.Tie as tie
 
 ports-record-fault-requires : tie.Need-ports-record-fault-requires
 ports-record-fault-requires c κs = c .before .before .pre .1 (c .match .keys2)

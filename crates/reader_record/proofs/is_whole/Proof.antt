@@ -1,9 +1,9 @@
--- `reader_file::is_whole` meets its contract, test by test.
+-- `reader_record::is_whole` meets its contract, test by test.
 use mathlib.Core.Path.{_∙_}
 use borrow.Author.Needs.{needs}
-use Rattle.reader_file.proofs.RecordLaws.{isWhole-head, isWhole-least, isWhole-left}
-use Rattle.reader_file.proofs.is_whole.Statement.{statement}
-use Rattle.reader_file.proofs.is_whole.Tie as tie
+use Rattle.reader_record.proofs.RecordLaws.{isWhole-head, isWhole-least, isWhole-left}
+use Rattle.reader_record.proofs.is_whole.Statement.{statement}
+use Rattle.reader_record.proofs.is_whole.Tie as tie
 
 returns : tie.Need-returns
 returns c = isWhole-head _ (c .if1 .taken)

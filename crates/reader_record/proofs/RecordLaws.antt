@@ -15,7 +15,7 @@ use Rattle.reader.specs.Word.{wordAt}
 use Rattle.reader.specs.Record.{follows, lengthFits, framingFault}
 use Rattle.reader_laws.proofs.FrameLaws.{framed, head-length, thread-length, ports-length, follows-end}
 use Rattle.reader_segment.specs.Parts.{fits}
-use Rattle.reader_file.specs.Parts.{isWhole}
+use Rattle.reader_record.specs.Parts.{isWhole}
 
 module _ (b : List ℕ) where
   pub isWhole-head : length b < 4 → false ≡ isWhole b

@@ -1,10 +1,10 @@
--- `reader_file::count_fault` meets its contract, kind by kind.
+-- `reader_record::count_fault` meets its contract, kind by kind.
 use native.Mathlib.Omega.{arith}
 use borrow.Author.Needs.{needs}
 use borrow.Author.Tests.{ne-eqb}
-use Rattle.reader_file.specs.Parts.{countFault}
-use Rattle.reader_file.proofs.count_fault.Statement.{statement}
-use Rattle.reader_file.proofs.count_fault.Tie as tie
+use Rattle.reader_record.specs.Parts.{countFault}
+use Rattle.reader_record.proofs.count_fault.Statement.{statement}
+use Rattle.reader_record.proofs.count_fault.Tie as tie
 
 horizon-at-requires : tie.Need-horizon-at-requires
 horizon-at-requires c κs = omega (arith, c .before .before .pre (c .match .keys1))

@@ -1,10 +1,10 @@
--- `reader_file::ports_record_fault` meets its contract.
+-- `reader_record::ports_record_fault` meets its contract.
 use mathlib.Core.Path.{sym, _∙_}
 use borrow.Author.Needs.{needs}
 use borrow.Author.Tests.{not-true, not-false}
-use Rattle.reader_file.proofs.PortsLaws.{portsBytesFault-none, portsBytesFault-used}
-use Rattle.reader_file.proofs.ports_record_fault.Statement.{statement}
-use Rattle.reader_file.proofs.ports_record_fault.Tie as tie
+use Rattle.reader_record.proofs.PortsLaws.{portsBytesFault-none, portsBytesFault-used}
+use Rattle.reader_record.proofs.ports_record_fault.Statement.{statement}
+use Rattle.reader_record.proofs.ports_record_fault.Tie as tie
 
 returns : tie.Need-returns
 returns c = portsBytesFault-none _ _ _ (c .before .before .ports-at .ensures) (sym (c .before .uses-ports .ensures) ∙ not-true _ (c .if1 .taken))

@@ -1,10 +1,10 @@
--- `reader_file::length_fits` meets its contract, kind by kind.
+-- `reader_record::length_fits` meets its contract, kind by kind.
 use mathlib.Core.Path.{ap, _∙_}
 use borrow.Author.Needs.{needs}
 use borrow.Author.Tests.{ne-eqb}
 use Rattle.reader.specs.Record.{segmentKind, lengthFits}
-use Rattle.reader_file.proofs.length_fits.Statement.{statement}
-use Rattle.reader_file.proofs.length_fits.Tie as tie
+use Rattle.reader_record.proofs.length_fits.Statement.{statement}
+use Rattle.reader_record.proofs.length_fits.Tie as tie
 
 returns : tie.Need-returns
 unfolding lengthFits

@@ -1,12 +1,12 @@
--- `reader_file::record_fault` meets its contract: 1 to 3, then 4, then a segment's 5 to 7 or the 17 of a thread's ports.
+-- `reader_record::record_fault` meets its contract: 1 to 3, then 4, then a segment's 5 to 7 or the 17 of a thread's ports.
 use mathlib.Core.Path.{sym, _∙_}
 use native.Mathlib.Omega.{arith}
 use borrow.Author.Needs.{needs}
 use denote.Ref.{now}
-use Rattle.reader_file.proofs.RecordLaws.{Opened, opened-length, opened-head, opened-fits, opened-ports}
-use Rattle.reader_file.proofs.BodyLaws.{recordFault-framing, recordFault-count, recordFault-own}
-use Rattle.reader_file.proofs.record_fault.Statement.{statement}
-use Rattle.reader_file.proofs.record_fault.Tie as tie
+use Rattle.reader_record.proofs.RecordLaws.{Opened, opened-length, opened-head, opened-fits, opened-ports}
+use Rattle.reader_record.proofs.FaultLaws.{recordFault-framing, recordFault-count, recordFault-own}
+use Rattle.reader_record.proofs.record_fault.Statement.{statement}
+use Rattle.reader_record.proofs.record_fault.Tie as tie
 
 opened : (c : tie.After-r) → let a = c .before .before .before .before .before .before .before .args in Opened (a .last) (now (a .b)) (c .before .before .size-of .result) (c .before .word-at2 .result)
 opened c = record {

@@ -1,9 +1,9 @@
--- `reader_file::ports_at` meets its contract.
+-- `reader_record::ports_at` meets its contract.
 use borrow.Author.Needs.{needs}
 use Rattle.base.specs.Index.{tabulate}
 use Rattle.reader.specs.Record.{portsFrom}
-use Rattle.reader_file.proofs.ports_at.Statement.{statement}
-use Rattle.reader_file.proofs.ports_at.Tie as tie
+use Rattle.reader_record.proofs.ports_at.Statement.{statement}
+use Rattle.reader_record.proofs.ports_at.Tie as tie
 
 returns : tie.Need-returns
 unfolding portsFrom tabulate

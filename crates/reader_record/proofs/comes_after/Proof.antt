@@ -1,8 +1,8 @@
--- `reader_file::comes_after` meets its contract, by the kind that came last.
+-- `reader_record::comes_after` meets its contract, by the kind that came last.
 use borrow.Author.Tests.{ne-eqb}
 use Rattle.reader.specs.Record.{follows}
-use Rattle.reader_file.proofs.comes_after.Statement.{statement}
-use Rattle.reader_file.proofs.comes_after.Tie as tie
+use Rattle.reader_record.proofs.comes_after.Statement.{statement}
+use Rattle.reader_record.proofs.comes_after.Tie as tie
 
 returns : tie.Need-returns
 unfolding follows

@@ -1,10 +1,10 @@
--- `reader_file::framing_fault` meets its contract: 1, then 2, then 3.
+-- `reader_record::framing_fault` meets its contract: 1, then 2, then 3.
 use mathlib.Core.Path.{_∙_, sym}
 use borrow.Author.Needs.{needs}
 use borrow.Author.Tests.{not-true, not-false}
-use Rattle.reader_file.proofs.RecordLaws.{framingFault-short, framingFault-kind, framingFault-length, framingFault-none}
-use Rattle.reader_file.proofs.framing_fault.Statement.{statement}
-use Rattle.reader_file.proofs.framing_fault.Tie as tie
+use Rattle.reader_record.proofs.RecordLaws.{framingFault-short, framingFault-kind, framingFault-length, framingFault-none}
+use Rattle.reader_record.proofs.framing_fault.Statement.{statement}
+use Rattle.reader_record.proofs.framing_fault.Tie as tie
 
 returns : tie.Need-returns
 returns c = framingFault-short _ _ (sym (c .before .is-whole .ensures) ∙ not-true _ (c .if1 .taken))
