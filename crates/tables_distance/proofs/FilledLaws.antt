@@ -191,7 +191,7 @@ module _ (ws : List ℕ) where
   cutTo-past : (n i : ℕ) → n ≤ i → getD (cutTo ws n) i 0 ≡ getD ws i 0
   cutTo-past n i h = storeTo-other _ 0 ws 0 n i (inr (omega arith))
 
-  cutTo-at : (n i : ℕ) → i < n → n ≤ length ws → getD (cutTo ws n) i 0 ≡ cutWord (getD ws i 0)
+  pub cutTo-at : (n i : ℕ) → i < n → n ≤ length ws → getD (cutTo ws n) i 0 ≡ cutWord (getD ws i 0)
   cutTo-at n i h l = storeTo-at _ 0 ws 0 (λ i. cutWord (getD ws i 0)) n i i (omega arith) (λ j b. ap cutWord (cutTo-past j j (omega arith))) h (omega arith)
 
 -- all of it, for a model that keeps the file rules

@@ -21,10 +21,10 @@ ghost use Rattle.tables_distance.specs.Store.{far, heldWord, sumWord, st
 const NEVER: u64 = 18446744073709551615;
 
 // The next segments of a closer, and the word of a step to them. While the rounds run CUT_WORD stands for never.
-struct Steps {
-    a: u8,
-    b: u8,
-    word: u64,
+pub struct Steps {
+    pub a: u8,
+    pub b: u8,
+    pub word: u64,
 }
 
 // Document 01: "A step over a time wait counts as the clock says": a zero wait is one delta, a timed wait its units.
@@ -42,7 +42,7 @@ fn units_word(k: Delay) -> u64
 }
 
 // Both next segments are steps, whatever the limit; "over an event wait it is one delta".
-fn steps_of(closer: Closer) -> Steps
+pub fn steps_of(closer: Closer) -> Steps
     ensures { λ r. ⌜ r ≡ stepsOf closer ⌝ }
 {
     match closer {
@@ -93,7 +93,7 @@ fn direct_row(words: &mut [u64], n: usize, r: usize, p: usize, g: Steps)
 }
 
 // The sum of two words: a time wait starts the delta anew.
-fn sum_word(a: u64, b: u64) -> u64
+pub fn sum_word(a: u64, b: u64) -> u64
     requires { ⌜ a < far ⌝ }
     ensures { λ r. ⌜ r ≡ sumWord a b ⌝ }
 {
@@ -152,7 +152,7 @@ fn all_rounds(words: &mut [u64], n: usize)
 }
 
 // "'never' as all ones", also where there is a way of more than 1,000,000,000 units.
-fn cut_words(words: &mut [u64], count: usize)
+pub fn cut_words(words: &mut [u64], count: usize)
     requires { ⌜ count ≤ length (now words) ⌝ }
     ensures { λ _. ⌜ now (words .exit) ≡ cutTo (now (words .entry)) count ⌝ }
 {
