@@ -4,3 +4,4 @@ pub mod Edges
 pub mod RequestEdges
 pub mod PortEdges
 pub mod RaisedEdges
+pub mod RowsEdges

@@ -7,3 +7,4 @@ pub mod Fit
 pub mod Grant
 pub mod Answer
 pub mod Request
+pub mod ByRows

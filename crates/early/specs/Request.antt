@@ -118,10 +118,13 @@ pub record Listed : Type 0 where
   pub threads : List Thread
   pub history : ℕ → List Item
 
--- each request gets "the state and thread records that the last one left"
-unfoldable pub requestsOf : Model → List (List Bool) → List ℕ → Site → List Thread → List ℕ → Listed
-requestsOf m marks ws site ts [] = record { answers = []; site = site; threads = ts; history = λ j. [] }
-requestsOf m marks ws site ts (k ∷ ks) =
-    let a = requestOf m marks ws site ts k in
-    let r = requestsOf m marks ws (a .site) (a .threads) ks in
+-- each request gets "the state and thread records that the last one left", by what one request leaves of them
+unfoldable pub listedBy : (Site → List Thread → ℕ → Requested) → Site → List Thread → List ℕ → Listed
+listedBy ask site ts [] = record { answers = []; site = site; threads = ts; history = λ j. [] }
+listedBy ask site ts (k ∷ ks) =
+    let a = ask site ts k in
+    let r = listedBy ask (a .site) (a .threads) ks in
     record { answers = a .answer ∷ r .answers; site = r .site; threads = r .threads; history = λ j. a .items j ++ r .history j }
+
+abbrev pub requestsOf : Model → List (List Bool) → List ℕ → Site → List Thread → List ℕ → Listed
+requestsOf m marks ws site ts ks = listedBy (requestOf m marks ws) site ts ks

@@ -1,4 +1,3 @@
 pub mod LengthLaws
 pub mod LimitLaws
-pub mod StoreLaws
-pub mod AheadLaws
+mod AheadLaws

@@ -124,15 +124,19 @@ pub square-fits : (n : ℕ) → n < 256 → n * n ≤ 65536
 square-fits n h = mul-le-mul {n₁ = n} {m₁ = n} {n₂ = 256} {m₂ = 256} (le-of-lt h) (le-of-lt h)
 
 -- the tests of 11, one after the other
-module _ (m : Model) (ws : List ℕ) (site : Site) (ts : List Thread) where
-  pub isUnfit-model : (modelFault m ≡ 0 → ⊥) → true ≡ isUnfit m ws site ts
-  unfolding isUnfit isUnfitState
-  isUnfit-model broken = rw (ne-eqb (modelFault m) 0 broken) refl
+module _ (m : Model) (site : Site) (ts : List Thread) where
+  pub isUnfitState-model : (modelFault m ≡ 0 → ⊥) → true ≡ isUnfitState m site ts
+  unfolding isUnfitState
+  isUnfitState-model broken = rw (ne-eqb (modelFault m) 0 broken) refl
 
-  pub isUnfit-state : modelFault m ≡ 0 → true ≡ (isUnfitThreads m ts || isUnfitLog m site) → true ≡ isUnfit m ws site ts
-  unfolding isUnfit isUnfitState
-  isUnfit-state kept e = rw (eq-eqb (modelFault m) 0 kept, ← e) refl
+  pub isUnfitState-kept : (r : Bool) → modelFault m ≡ 0 → r ≡ (isUnfitThreads m ts || isUnfitLog m site) → r ≡ isUnfitState m site ts
+  unfolding isUnfitState
+  isUnfitState-kept r kept e = rw (eq-eqb (modelFault m) 0 kept) e
 
-  pub isUnfit-words : (r : Bool) → modelFault m ≡ 0 → false ≡ (isUnfitThreads m ts || isUnfitLog m site) → r ≡ isUnfitWords m ws → r ≡ isUnfit m ws site ts
-  unfolding isUnfit isUnfitState
-  isUnfit-words r kept e f = rw (eq-eqb (modelFault m) 0 kept, ← e) f
+  pub isUnfit-state : (ws : List ℕ) → true ≡ isUnfitState m site ts → true ≡ isUnfit m ws site ts
+  unfolding isUnfit
+  isUnfit-state ws e = rw (← e) refl
+
+  pub isUnfit-words : (ws : List ℕ) (r : Bool) → false ≡ isUnfitState m site ts → r ≡ isUnfitWords m ws → r ≡ isUnfit m ws site ts
+  unfolding isUnfit
+  isUnfit-words ws r e f = rw (← e) f

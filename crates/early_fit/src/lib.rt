@@ -19,7 +19,7 @@ ghost use Rattle.model.specs.Limits.{recordTime};
 ghost use Rattle.model.specs.Record.{cycleOf, awaitedBy};
 ghost use Rattle.model.specs.Reach.{lacksFrom};
 ghost use Rattle.model_reach.specs.Lacks.{HoldsLacks};
-ghost use Rattle.early.specs.Fit.{isFitCycle, isFitWait, isFitThread, isFitPair, isUnfitThreads, isUnfitLog, isUnfitWords, isUnfit};
+ghost use Rattle.early.specs.Fit.{isFitCycle, isFitWait, isFitThread, isFitPair, isUnfitThreads, isUnfitLog, isUnfitWords, isUnfitState, isUnfit};
 
 // Document 01: "all ones apart".
 const NEVER: u64 = 18446744073709551615;
@@ -132,7 +132,7 @@ fn is_unfit_words(words: &[u64], count: usize) -> bool
 }
 
 // The records and the log, under a model of t threads, n segments and e events.
-fn is_unfit_state(site: Site, threads: Threads, t: u8, n: u8, e: u8, lacking: [u64; 32]) -> bool
+fn are_unfit(site: Site, threads: Threads, t: u8, n: u8, e: u8, lacking: [u64; 32]) -> bool
     requires { ⌜ (t ≤ 32) × (n ≤ 64) ⌝ }
     ensures { λ r. ⌜ ((m : Model) → m .t ≡ t → m .n ≡ n → m .e ≡ e → HoldsLacks m lacking → r ≡ (isUnfitThreads m (threads .at) || isUnfitLog m site)) ⌝ }
 {
@@ -154,9 +154,9 @@ fn is_unfit_table(words: &[u64], n: u8) -> bool
     is_unfit_words(words, count)
 }
 
-// Whether 11 applies: a held model against the file rules, a state that does not fit it, or words that do not.
-pub fn is_unfit(m: Model, words: &[u64], site: Site, threads: Threads) -> bool
-    ensures { λ r. ⌜ r ≡ isUnfit m (now (words .entry)) site (threads .at) ⌝ }
+// Whether 11 applies to the model, the records and the state: a held model against the file rules, or a state that does not fit it.
+pub fn is_unfit_state(m: Model, site: Site, threads: Threads) -> bool
+    ensures { λ r. ⌜ r ≡ isUnfitState m site (threads .at) ⌝ }
 {
     if model_rules::parts_fault(m) != 0 {
         return true;
@@ -166,7 +166,14 @@ pub fn is_unfit(m: Model, words: &[u64], site: Site, threads: Threads) -> bool
     if model_rules::lack_in(starts, m.t, lacking) != 0 {
         return true;
     }
-    if is_unfit_state(site, threads, m.t, m.n, m.e, lacking) {
+    are_unfit(site, threads, m.t, m.n, m.e, lacking)
+}
+
+// Whether 11 applies: that, or words that do not fit the model.
+pub fn is_unfit(m: Model, words: &[u64], site: Site, threads: Threads) -> bool
+    ensures { λ r. ⌜ r ≡ isUnfit m (now (words .entry)) site (threads .at) ⌝ }
+{
+    if is_unfit_state(m, site, threads) {
         return true;
     }
     is_unfit_table(words, m.n)

@@ -181,22 +181,22 @@ pub record Fit (m : Model) (ws : List ℕ) (site : Site) (ts : List Thread) : Ty
   pub log : isUnfitLog m site ≡ false
   pub words : isUnfitWords m ws ≡ false
 
-pub isUnfit→ : (m : Model) (ws : List ℕ) (site : Site) (ts : List Thread) → isUnfit m ws site ts ≡ false → Fit m ws site ts
-unfolding isUnfit isUnfitState
-isUnfit→ m ws site ts e =
+-- without the words
+pub state-fit : (m : Model) (site : Site) (ts : List Thread) → isUnfitState m site ts ≡ false
+    → (modelFault m ≡ accepted) × (isUnfitThreads m ts ≡ false) × (isUnfitLog m site ≡ false)
+unfolding isUnfitState
+state-fit m site ts e =
     let broken = not (eqb (modelFault m) accepted) in
-    let (p, d) = not-or→both (isUnfitState m site ts) (isUnfitWords m ws) (false→T (isUnfit m ws site ts) e) in
-    let (a, q) = not-or→both broken (isUnfitThreads m ts || isUnfitLog m site) p in
+    let (a, q) = not-or→both broken (isUnfitThreads m ts || isUnfitLog m site) (false→T (isUnfitState m site ts) e) in
     let (b, c) = not-or→both (isUnfitThreads m ts) (isUnfitLog m site) q in
-    record {
-      model = sound (modelFault m) a;
-      threads = T→false (isUnfitThreads m ts) b;
-      log = T→false (isUnfitLog m site) c;
-      words = T→false (isUnfitWords m ws) d;
-    }
-  where
-    sound : (n : ℕ) → T (not (not (eqb n accepted))) → n ≡ accepted
-    sound n t = eqb→eq n accepted (not-not (eqb n accepted) t)
+    (eqb→eq (modelFault m) accepted (not-not (eqb (modelFault m) accepted) a), T→false (isUnfitThreads m ts) b, T→false (isUnfitLog m site) c)
+
+pub isUnfit→ : (m : Model) (ws : List ℕ) (site : Site) (ts : List Thread) → isUnfit m ws site ts ≡ false → Fit m ws site ts
+unfolding isUnfit
+isUnfit→ m ws site ts e =
+    let (p, d) = not-or→both (isUnfitState m site ts) (isUnfitWords m ws) (false→T (isUnfit m ws site ts) e) in
+    let (a, b, c) = state-fit m site ts (T→false (isUnfitState m site ts) p) in
+    record { model = a; threads = b; log = c; words = T→false (isUnfitWords m ws) d }
 
 pub →isUnfit : (m : Model) (ws : List ℕ) (site : Site) (ts : List Thread) → Fit m ws site ts → isUnfit m ws site ts ≡ false
 unfolding isUnfit isUnfitState

@@ -24,3 +24,4 @@ pub mod AgreeLaws
 pub mod AlikeLaws
 pub mod EntryLaws
 pub mod PastLaws
+pub mod ByRowsLaws

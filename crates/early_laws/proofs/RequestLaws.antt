@@ -26,7 +26,7 @@ use Rattle.early.specs.Log.{logOf, countedPlaces}
 use Rattle.early.specs.Hazard.{hazard}
 use Rattle.early.specs.Fit.{isUnfit}
 use Rattle.early.specs.Answer.{numberOf}
-use Rattle.early.specs.Request.{isFull, numberIn, Requested, refusedWith, grantedTo, answeredBy, requestFit, requestOf, answerNumber, answerValues, Answers, requestsOf}
+use Rattle.early.specs.Request.{isFull, numberIn, Requested, refusedWith, grantedTo, answeredBy, requestFit, requestOf, answerNumber, answerValues, Answers, listedBy, requestsOf}
 use Rattle.early_laws.proofs.NumberLaws.{readyCycle→cycle, ZeroOrFull, Decided, refuses, passes, numberFor-decided, passed→numberFor, clear→numberFor, numberFor→clear}
 
 module _ (m : Model) (marks : List (List Bool)) (ws : List ℕ) (site : Site) (ts : List Thread) (k : ℕ) where
@@ -163,7 +163,7 @@ module _ (m : Model) (marks : List (List Bool)) (ws : List ℕ) (P : Site → Li
   where
     pub requestsOf-carries : (ks : List ℕ) (site : Site) (ts : List Thread) (is : ℕ → List Item) → P site ts is
         → P (requestsOf m marks ws site ts ks .site) (requestsOf m marks ws site ts ks .threads) (λ j. is j ++ requestsOf m marks ws site ts ks .history j)
-    unfolding requestsOf
+    unfolding listedBy
     requestsOf-carries [] site ts is p = subst (P site ts) (fun-ext (λ j. sym (append-nil (is j)))) p
     requestsOf-carries (k ∷ ks) site ts is p =
         let a = requestOf m marks ws site ts k in
@@ -177,7 +177,7 @@ module _ (m : Model) (marks : List (List Bool)) (ws : List ℕ) (P : Site → Li
 pub requestsOf-append : (m : Model) (marks : List (List Bool)) (ws : List ℕ) (ks more : List ℕ) (site : Site) (ts : List Thread)
     → requestsOf m marks ws site ts (ks ++ more) .threads
     ≡ requestsOf m marks ws (requestsOf m marks ws site ts ks .site) (requestsOf m marks ws site ts ks .threads) more .threads
-unfolding requestsOf
+unfolding listedBy
 requestsOf-append m marks ws [] more site ts = refl
 requestsOf-append m marks ws (k ∷ ks) more site ts =
     requestsOf-append m marks ws ks more (requestOf m marks ws site ts k .site) (requestOf m marks ws site ts k .threads)
@@ -185,7 +185,7 @@ requestsOf-append m marks ws (k ∷ ks) more site ts =
 pub requestsOf-append-site : (m : Model) (marks : List (List Bool)) (ws : List ℕ) (ks more : List ℕ) (site : Site) (ts : List Thread)
     → requestsOf m marks ws site ts (ks ++ more) .site
     ≡ requestsOf m marks ws (requestsOf m marks ws site ts ks .site) (requestsOf m marks ws site ts ks .threads) more .site
-unfolding requestsOf
+unfolding listedBy
 requestsOf-append-site m marks ws [] more site ts = refl
 requestsOf-append-site m marks ws (k ∷ ks) more site ts =
     requestsOf-append-site m marks ws ks more (requestOf m marks ws site ts k .site) (requestOf m marks ws site ts k .threads)
@@ -194,7 +194,7 @@ pub requestsOf-append-history : (m : Model) (marks : List (List Bool)) (ws : Lis
     → requestsOf m marks ws site ts (ks ++ more) .history j
     ≡ requestsOf m marks ws site ts ks .history j
     ++ requestsOf m marks ws (requestsOf m marks ws site ts ks .site) (requestsOf m marks ws site ts ks .threads) more .history j
-unfolding requestsOf
+unfolding listedBy
 requestsOf-append-history m marks ws [] more site ts j = refl
 requestsOf-append-history m marks ws (k ∷ ks) more site ts j =
     let a = requestOf m marks ws site ts k in

@@ -7,7 +7,7 @@ use Rattle.model.specs.Record.{noThread}
 use Rattle.early.specs.declared.Answer.the-variants.{Granted, Refused}
 use Rattle.early.proofs.Computed.{computed}
 use Rattle.early.proofs.EdgeModels.{readyIn, endedIn, segmentOf, withStarts, doers, noMark, apartWords, siteWith}
-use Rattle.early_lent.specs.Moved.{takenAt, loaded, stored, noThreads, movedOf, requestLent}
+use Rattle.early_lent.specs.Moved.{takenAt, loaded, stored, noThreads, movedOf, unlessShort, requestLent, rowsLent}
 
 -- of two threads one record lent, two, and three; of 31, 32 and 33 threads, where 32 are held by value
 pub movedOf-edges : (movedOf 1 2 ≡ 1) × (movedOf 2 2 ≡ 2) × (movedOf 3 2 ≡ 2) × (movedOf 40 31 ≡ 31) × (movedOf 40 32 ≡ 32) × (movedOf 40 33 ≡ 32)
@@ -28,5 +28,15 @@ pub requestLent-edges :
     (requestLent doers noMark apartWords (siteWith []) (record { at = three }) 1 1 .answer ≡ Refused 11) ×
     (requestLent doers noMark apartWords (siteWith []) (record { at = three }) 2 1 .answer ≡ Granted 1 (cycleAt 6 0)) ×
     (requestLent doers noMark apartWords (siteWith []) (record { at = three }) 3 1 .answer ≡ Granted 1 (cycleAt 6 0))
-unfolding computed doers withStarts segmentOf requestLent
+unfolding computed doers withStarts segmentOf unlessShort
 requestLent-edges = (refl, refl, refl)
+
+-- 11 first, then 16, "below 64 words"
+pub rowsLent-edges :
+    (rowsLent doers noMark 63 (siteWith []) (record { at = three }) 1 1 .answer ≡ Refused 11) ×
+    (rowsLent doers noMark 64 (siteWith []) (record { at = three }) 1 1 .answer ≡ Refused 11) ×
+    (rowsLent doers noMark 63 (siteWith []) (record { at = three }) 2 1 .answer ≡ Refused 16) ×
+    (rowsLent doers noMark 64 (siteWith []) (record { at = three }) 2 1 .answer ≡ Granted 1 (cycleAt 6 0)) ×
+    (rowsLent doers noMark 65 (siteWith []) (record { at = three }) 3 1 .answer ≡ Granted 1 (cycleAt 6 0))
+unfolding computed doers withStarts segmentOf unlessShort
+rowsLent-edges = (refl, refl, refl, refl, refl)

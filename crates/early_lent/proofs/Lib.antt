@@ -1,5 +1,7 @@
 mod MovedLaws
+pub mod RowsLaws
 mod LendLaws
 mod WalkLaws
+mod RequestWalk
 pub mod Edges
 pub mod FrontLaws

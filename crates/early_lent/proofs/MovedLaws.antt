@@ -1,8 +1,10 @@
 -- The records that are moved are those of the threads, and the request on them, moved back, is the request on the whole slice.
 --     movedOf-le     no more are moved than are lent, nor than are held by value
 --     stored-length     a slice keeps its length
+--     Moves     what is used of a request: it reads and writes the threads' records alone, and 11 comes first
 --     moved-asked, moved-back     the answer and the state, and the records that the slice is left with
---     lent-short, lent-enough     the exits of `request_of`
+--     requestOf-moves     by the whole table
+--     lent-short, lent-enough     the exits of `request_of` and `request_of_rows`
 use Prim.Native.Nat.{ℕ, zero, suc, _<_, _≤_}
 use mathlib.Core.Path.{_≡_, refl, ap, sym, _∙_}
 use mathlib.Core.Bool.{Bool, cond}
@@ -23,14 +25,13 @@ use Rattle.model_rules.proofs.RuleLaws.{modelFault-counts}
 use Rattle.early.specs.declared.Site.{Site}
 use Rattle.early.specs.declared.After.{After}
 use Rattle.early.specs.declared.Answer.the-variants.{Refused}
-use Rattle.early.specs.Request.{Requested, refusedWith, requestOf, Answers}
+use Rattle.early.specs.Request.{Requested, refusedWith, requestOf}
 use Rattle.early_laws.proofs.AgreeLaws.{Agree}
 use Rattle.early_laws.proofs.AlikeLaws.{AlikeAfter, requestOf-unread, requestOf-unwritten, requestOf-length, requestOf-short, requestOf-faulty}
-use Rattle.early_laws.proofs.RequestLaws.{requestOf-answers}
-use Rattle.early_request.specs.After.{afterOf}
+use Rattle.early_answer.specs.After.{afterOf}
 use Rattle.early_lent.specs.declared.Done.{Done}
 use Rattle.early_lent.specs.Answered.{askedOf}
-use Rattle.early_lent.specs.Moved.{takenAt, loaded, stored, noThreads, movedOf, requestLent, doneOf}
+use Rattle.early_lent.specs.Moved.{takenAt, loaded, stored, noThreads, movedOf, unlessShort, doneOf}
 
 pub movedOf-le : (lent t : ℕ) → (movedOf lent t ≤ lent) × (movedOf lent t ≤ 32)
 movedOf-le lent t = (omega arith, omega arith)
@@ -80,7 +81,15 @@ stored-is ts us n from few long moved rest = ext-getD noThread (stored ts n from
     go j (yes h) = stored-at ts n from j h few ∙ moved j h
     go j (no h) = stored-past ts n from j (omega arith) ∙ rest j (omega arith)
 
-module _ (m : Model) (marks : List (List Bool)) (ws : List ℕ) (site : Site) (ts : List Thread) (k : ℕ) where
+-- what is used of a request Q on records, in a model and a state
+pub record Moves (m : Model) (site : Site) (Q : List Thread → Requested) : Type 0 where
+  pub unread : (ts us : List Thread) → Agree m ts us → AlikeAfter m (Q ts) (Q us)
+  pub unwritten : (ts : List Thread) (j : ℕ) → m .t ≤ j → threadAt (Q ts .threads) j ≡ threadAt ts j
+  pub long : (ts : List Thread) → length (Q ts .threads) ≡ length ts
+  pub short : (ts : List Thread) → length ts < m .t → Q ts ≡ refusedWith unfit site ts
+  pub faulty : (ts : List Thread) → (modelFault m ≡ accepted → ⊥) → Q ts ≡ refusedWith unfit site ts
+
+module _ (m : Model) (site : Site) (Q : List Thread → Requested) (laws : Moves m site Q) (ts : List Thread) where
   abbrev n : ℕ
   n = movedOf (length ts) (m .t)
 
@@ -92,11 +101,11 @@ module _ (m : Model) (marks : List (List Bool)) (ws : List ℕ) (site : Site) (t
 
   -- what the request on the moved records is to be
   record Right (r : Requested) : Type 0 where
-    asked : askedOf r ≡ askedOf (requestOf m marks ws site ts k)
-    back : stored ts n (record { at = r .threads }) ≡ requestOf m marks ws site ts k .threads
+    asked : askedOf r ≡ askedOf (Q ts)
+    back : stored ts n (record { at = r .threads }) ≡ Q ts .threads
 
   -- 11, and all as handed in
-  refused-right : requestOf m marks ws site ts k ≡ refusedWith unfit site ts → Right (refusedWith unfit site (before .at))
+  refused-right : Q ts ≡ refusedWith unfit site ts → Right (refusedWith unfit site (before .at))
   refused-right e =
       record {
         asked = rw e refl;
@@ -116,10 +125,10 @@ module _ (m : Model) (marks : List (List Bool)) (ws : List ℕ) (site : Site) (t
           same = λ j h. taken j (omega (arith, all));
         }
 
-    alike : AlikeAfter m (requestOf m marks ws site (before .at) k) (requestOf m marks ws site ts k)
-    alike = requestOf-unread m marks ws site k ws (before .at) ts agree refl
+    alike : AlikeAfter m (Q (before .at)) (Q ts)
+    alike = laws .unread (before .at) ts agree
 
-    asked-right : Right (requestOf m marks ws site (before .at) k)
+    asked-right : Right (Q (before .at))
     unfolding threadAt
     asked-right =
         record {
@@ -127,45 +136,52 @@ module _ (m : Model) (marks : List (List Bool)) (ws : List ℕ) (site : Site) (t
           back =
               stored-is
               ts
-              (requestOf m marks ws site ts k .threads)
+              (Q ts .threads)
               n
-              (record { at = requestOf m marks ws site (before .at) k .threads })
+              (record { at = Q (before .at) .threads })
               (movedOf-le (length ts) (m .t) .0)
-              (requestOf-length m marks ws site k ts)
+              (laws .long ts)
               (λ j h. alike .threads .same j (omega (arith, all)))
-              (λ j h. sym (requestOf-unwritten m marks ws site k ts j (omega (arith, all))));
+              (λ j h. sym (laws .unwritten ts j (omega (arith, all))));
         }
 
-  faulty-right : (modelFault m ≡ accepted → ⊥) → Right (requestOf m marks ws site (before .at) k)
-  faulty-right other = rw (requestOf-faulty m marks ws site k (before .at) other) (refused-right (requestOf-faulty m marks ws site k ts other))
+  faulty-right : (modelFault m ≡ accepted → ⊥) → Right (Q (before .at))
+  faulty-right other = rw (laws .faulty (before .at) other) (refused-right (laws .faulty ts other))
 
-  lent-right : Right (requestLent m marks ws site before (length ts) k)
-  unfolding requestLent
+  lent-right : Right (unlessShort m site before (length ts) (Q (before .at)))
+  unfolding unlessShort
   lent-right = go (decLt (length ts) (m .t)) (ℕ-discrete (modelFault m) accepted)
     where
-      go : Dec (length ts < m .t) → Dec (modelFault m ≡ accepted) → Right (cond (ltb (length ts) (m .t)) (refusedWith unfit site (before .at)) (requestOf m marks ws site (before .at) k))
-      go (yes h) kept = rw (lt-ltb (length ts) (m .t) h) (refused-right (requestOf-short m marks ws site k ts h))
+      go : Dec (length ts < m .t) → Dec (modelFault m ≡ accepted) → Right (cond (ltb (length ts) (m .t)) (refusedWith unfit site (before .at)) (Q (before .at)))
+      go (yes h) kept = rw (lt-ltb (length ts) (m .t) h) (refused-right (laws .short ts h))
       go (no h) (yes kept) = rw (le-ltb (length ts) (m .t) (omega arith)) (asked-right (omega arith) (modelFault-counts m kept .threads))
       go (no h) (no other) = rw (le-ltb (length ts) (m .t) (omega arith)) (faulty-right other)
 
-  pub moved-asked : doneOf (requestLent m marks ws site before (length ts) k) .asked ≡ askedOf (requestOf m marks ws site ts k)
+  pub moved-asked : doneOf (unlessShort m site before (length ts) (Q (before .at))) .asked ≡ askedOf (Q ts)
   unfolding doneOf
   moved-asked = lent-right .asked
 
-  pub moved-back : stored ts n (doneOf (requestLent m marks ws site before (length ts) k) .threads) ≡ requestOf m marks ws site ts k .threads
+  pub moved-back : stored ts n (doneOf (unlessShort m site before (length ts) (Q (before .at))) .threads) ≡ Q ts .threads
   unfolding doneOf
   moved-back = lent-right .back
 
-  pub moved-answers : Answers m marks ws site ts k (doneOf (requestLent m marks ws site before (length ts) k) .asked .answer)
-  moved-answers = rw moved-asked (requestOf-answers m marks ws site ts k)
+pub requestOf-moves : (m : Model) (marks : List (List Bool)) (ws : List ℕ) (site : Site) (k : ℕ) → Moves m site (λ ts. requestOf m marks ws site ts k)
+requestOf-moves m marks ws site k =
+    record {
+      unread = λ ts us agree. requestOf-unread m marks ws site k ws ts us agree refl;
+      unwritten = requestOf-unwritten m marks ws site k;
+      long = requestOf-length m marks ws site k;
+      short = requestOf-short m marks ws site k;
+      faulty = requestOf-faulty m marks ws site k;
+    }
 
--- the exits of the core on a slice of so many records
-module _ (m : Model) (marks : List (List Bool)) (ws : List ℕ) (site : Site) (before : Threads) (lent k : ℕ) where
-  pub lent-short : lent < m .t → _≡_ {A = Done} (record { asked = record { answer = Refused unfit; site = site }; threads = before }) (doneOf (requestLent m marks ws site before lent k))
-  unfolding requestLent doneOf
+-- the exits of a core on a slice of so many records, of which r is asked
+module _ (m : Model) (site : Site) (before : Threads) (lent : ℕ) (r : Requested) where
+  pub lent-short : lent < m .t → _≡_ {A = Done} (record { asked = record { answer = Refused unfit; site = site }; threads = before }) (doneOf (unlessShort m site before lent r))
+  unfolding unlessShort doneOf
   lent-short h = rw (lt-ltb lent (m .t) h) refl
 
-  pub lent-enough : (a : After) → m .t ≤ lent → a ≡ afterOf (requestOf m marks ws site (before .at) k)
-      → _≡_ {A = Done} (record { asked = record { answer = a .answer; site = a .site }; threads = a .threads }) (doneOf (requestLent m marks ws site before lent k))
-  unfolding requestLent doneOf afterOf
+  pub lent-enough : (a : After) → m .t ≤ lent → a ≡ afterOf r
+      → _≡_ {A = Done} (record { asked = record { answer = a .answer; site = a .site }; threads = a .threads }) (doneOf (unlessShort m site before lent r))
+  unfolding unlessShort doneOf afterOf
   lent-enough a h e = rw (le-ltb lent (m .t) h, e) refl

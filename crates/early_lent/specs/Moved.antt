@@ -11,6 +11,7 @@ use Rattle.model.specs.Record.{noThread}
 use Rattle.model.specs.Refusal.{unfit}
 use Rattle.early.specs.declared.Site.{Site}
 use Rattle.early.specs.Request.{Requested, refusedWith, requestOf}
+use Rattle.early.specs.ByRows.{requestByRows}
 use Rattle.early_lent.specs.declared.Done.{Done}
 use Rattle.early_lent.specs.Answered.{askedOf}
 
@@ -37,10 +38,16 @@ noThreads = record { at = replicate 32 noThread }
 abbrev pub movedOf : ℕ → ℕ → ℕ
 movedOf lent t = min lent (min t 32)
 
--- a request on records by value, of which so many were lent: 11, "records below T"
-unfoldable pub requestLent : Model → List (List Bool) → List ℕ → Site → Threads → ℕ → ℕ → Requested
-requestLent m marks ws site before lent k =
-    cond (ltb lent (m .t)) (refusedWith unfit site (before .at)) (requestOf m marks ws site (before .at) k)
+-- what is asked on records by value, of which so many were lent, unless 11 applies: "records below T"
+unfoldable pub unlessShort : Model → Site → Threads → ℕ → Requested → Requested
+unlessShort m site before lent asked = cond (ltb lent (m .t)) (refusedWith unfit site (before .at)) asked
+
+abbrev pub requestLent : Model → List (List Bool) → List ℕ → Site → Threads → ℕ → ℕ → Requested
+requestLent m marks ws site before lent k = unlessShort m site before lent (requestOf m marks ws site (before .at) k)
+
+-- by rows, in so many words
+abbrev pub rowsLent : Model → List (List Bool) → ℕ → Site → Threads → ℕ → ℕ → Requested
+rowsLent m marks words site before lent k = unlessShort m site before lent (requestByRows m marks words site (before .at) k)
 
 unfoldable pub doneOf : Requested → Done
 doneOf r = record { asked = askedOf r; threads = record { at = r .threads } }

@@ -10,8 +10,9 @@ ghost use mathlib.Core.Path.{_≡_};
 ghost use Prim.Native.Nat.{_<_, _≤_};
 ghost use lib.ListN.{length, take, drop};
 ghost use Rattle.early.specs.Request.{requestOf, Answers};
+ghost use Rattle.early.specs.ByRows.{requestByRows, LeftFree};
 ghost use Rattle.early_lent.specs.Answered.{askedOf, lentOf, requestFirst};
-ghost use Rattle.early_lent.specs.Moved.{placedAt, takenAt, loaded, stored, movedOf, requestLent, doneOf};
+ghost use Rattle.early_lent.specs.Moved.{placedAt, takenAt, loaded, stored, movedOf, requestLent, rowsLent, doneOf};
 
 // The answer of a request, and the state beside it; the records stand in the slice.
 pub struct Asked {
@@ -123,6 +124,60 @@ pub fn request(
     let before = load(threads, n, model_effect::no_threads());
     let done = request_of(m, marks, words, site, before, lent, k);
     store(threads, n, done.threads);
+    done.asked
+}
+
+// The core by rows, on the records of a slice of so many: 11 where they are fewer than the threads.
+fn request_of_rows(
+    m: Model,
+    marks: [[bool; 64]; 64],
+    row: &mut [u64],
+    site: Site,
+    before: Threads,
+    lent: usize,
+    k: ThreadNo,
+) -> Done
+    ensures free { λ _. ⌜ LeftFree (now (row .entry)) (now (row .exit)) ⌝ }
+    ensures left { λ r. ⌜ r ≡ doneOf (rowsLent m marks (length (now (row .entry))) site before lent (k .0)) ⌝ }
+{
+    let t = m.t;
+    if t as usize > lent {
+        let answer = Answer::Refused(11);
+        return Done {
+            asked: Asked { answer, site },
+            threads: before,
+        };
+    }
+    let left = early_request::request_by_rows(m, marks, row, site, before, k);
+    let answer = left.answer;
+    let site = left.site;
+    let back = left.threads;
+    Done {
+        asked: Asked { answer, site },
+        threads: back,
+    }
+}
+
+// Document 02, slip 6: "a second entry, for reading and for requests, that takes 64 words and works out one segment's row when it is needed".
+// What the words hold when it is called is not read, and what they hold after it is left free; they are as many as before, and those past
+// the first 64 stay.
+pub fn request_by_rows(
+    m: Model,
+    marks: [[bool; 64]; 64],
+    row: &mut [u64],
+    site: Site,
+    threads: &mut [Thread],
+    k: ThreadNo,
+) -> Asked
+    ensures { λ r. ⌜ (r ≡ askedOf (requestByRows m marks (length (now (row .entry))) site (now (threads .entry)) (k .0)))
+        × (now (threads .exit) ≡ requestByRows m marks (length (now (row .entry))) site (now (threads .entry)) (k .0) .threads)
+        × LeftFree (now (row .entry)) (now (row .exit)) ⌝ }
+{
+    let records = threads.len();
+    let count = moved(records, m.t);
+    let before = load(threads, count, model_effect::no_threads());
+    let done = request_of_rows(m, marks, row, site, before, records, k);
+    store(threads, count, done.threads);
     done.asked
 }
 

@@ -111,7 +111,7 @@ module _ (m : Model) (ws : List ℕ) (l : List Notification) (ts : List Thread) 
     module _ (conflicts : ℕ → ℕ → ℕ → ℕ → Bool)
         (same : (r j s : ℕ) → r < m .n → j < m .t → s < m .n → conflicts i r j s ≡ threadsConflict m marks i r j s) where
       threatens-limit : (j : ℕ) → j < m .t
-          → threatensLimit (conflicts i (threadAt ts i .segment) j) ws (m .n) (threadAt ts j .segment) (getD (limitsOf m ws l ts) j allOnes) j (limitOfCycle c) i
+          → threatensLimit (conflicts i (threadAt ts i .segment) j) ws (m .n) (threadAt ts j .segment * m .n) (getD (limitsOf m ws l ts) j allOnes) j (limitOfCycle c) i
           ≡ threatens m marks ws ts i c j (earliestAt m ws l ts j)
       unfolding threatensLimit threatens
       threatens-limit j h =
@@ -130,7 +130,7 @@ module _ (m : Model) (ws : List ℕ) (l : List Notification) (ts : List Thread) 
           (atMost-is 32 (m .t) (fit-counts fit .threads), segmentsOf-at (m .t) ts i (fit-counts fit .threads) asks)
           (anyBelow-same
           (m .t)
-          (λ j. not (eqb j i) && threatensLimit (conflicts i (threadAt ts i .segment) j) ws (m .n) (getD (segmentsOf (m .t) ts) j 0) (getD (limitsOf m ws l ts) j allOnes) j (limitOfCycle c) i)
+          (λ j. not (eqb j i) && threatensLimit (conflicts i (threadAt ts i .segment) j) ws (m .n) (getD (segmentsOf (m .t) ts) j 0 * m .n) (getD (limitsOf m ws l ts) j allOnes) j (limitOfCycle c) i)
           (λ j. (not (eqb j i) && isLive (threadAt ts j .state)) && threatens m marks ws ts i c j (earliestAt m ws l ts j))
           (λ j h.
           rw

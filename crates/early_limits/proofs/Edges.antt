@@ -204,18 +204,20 @@ byMarks marks i r j s = markAt marks r s
 abbrev alone : ℕ → ℕ → ℕ → ℕ → Bool
 alone i r j s = (eqb i 0 && eqb r 0) && (eqb j 2 && eqb s 1)
 
--- a marked segment, sooner, tied as a lower thread and as a higher one, later; the last segment below N and N; segment 63 and 64
+-- a marked segment, sooner, tied as a lower thread and as a higher one, later; the last segment below N and N; by the second row, tied and
+-- sooner; segment 63 and 64
 pub threatensLimit-edges :
     (threatensLimit (marked (false ∷ true ∷ [])) (0 ∷ 3 ∷ []) 2 0 10 1 14 0 ≡ true) ×
     (threatensLimit (marked (false ∷ true ∷ [])) (0 ∷ 3 ∷ []) 2 0 10 0 13 1 ≡ true) ×
     (threatensLimit (marked (false ∷ true ∷ [])) (0 ∷ 3 ∷ []) 2 0 10 1 13 0 ≡ false) ×
     (threatensLimit (marked (false ∷ true ∷ [])) (0 ∷ 3 ∷ []) 2 0 10 0 12 1 ≡ false) ×
     (threatensLimit (marked (false ∷ true ∷ [])) (0 ∷ 3 ∷ []) 1 0 10 1 14 0 ≡ false) ×
-    (threatensLimit (marked (false ∷ true ∷ [])) (0 ∷ 3 ∷ 0 ∷ 5 ∷ []) 2 1 10 1 15 0 ≡ false) ×
+    (threatensLimit (marked (false ∷ true ∷ [])) (0 ∷ 3 ∷ 0 ∷ 5 ∷ []) 2 2 10 1 15 0 ≡ false) ×
+    (threatensLimit (marked (false ∷ true ∷ [])) (0 ∷ 3 ∷ 0 ∷ 5 ∷ []) 2 2 10 1 16 0 ≡ true) ×
     (threatensLimit (marked (replicate 63 false ++ (true ∷ []))) [] 64 0 10 1 14 0 ≡ true) ×
     (threatensLimit (marked (replicate 64 false ++ (true ∷ []))) [] 65 0 10 1 14 0 ≡ false)
 unfolding computed
-threatensLimit-edges = (refl, refl, refl, refl, refl, refl, refl, refl)
+threatensLimit-edges = (refl, refl, refl, refl, refl, refl, refl, refl, refl)
 
 -- "another live thread": not the asker; the last thread below T and T; thread 31 and 32; the row is that of the asker's segment
 pub hazardAt-edges :

@@ -56,17 +56,18 @@ afterRounds reach crew t (suc n) xs = relaxedLimits reach crew t (afterRounds re
 unfoldable pub earliestLimits : List ℕ → Crew → ℕ → List ℕ → List ℕ
 earliestLimits reach crew t xs = afterRounds reach crew t t xs
 
--- whether thread j, in a segment and no sooner than b, could run one of the segments that conflict before thread i at c
+-- whether thread j, no sooner than b and in the segment whose row of words begins at p, could run one of the segments that conflict before
+-- thread i at c
 unfoldable pub threatensLimit : (ℕ → Bool) → List ℕ → ℕ → ℕ → ℕ → ℕ → ℕ → ℕ → Bool
-threatensLimit conflicts ws n segment b j c i =
-    anyBelow (atMost 64 n) (λ s. conflicts s && isSoonerLimit (sumOf b (limitOfWord (getD ws (segment * n + s) 0))) j c i)
+threatensLimit conflicts ws n p b j c i =
+    anyBelow (atMost 64 n) (λ s. conflicts s && isSoonerLimit (sumOf b (limitOfWord (getD ws (p + s) 0))) j c i)
 
 -- by which threads conflict: thread i in segment r with thread j in segment s
 unfoldable pub hazardAt : (ℕ → ℕ → ℕ → ℕ → Bool) → List ℕ → ℕ → ℕ → List ℕ → List ℕ → Stamp → Bool
 hazardAt conflicts ws n t segments xs x =
     let i = x .thread .0 in
     let r = getD segments i 0 in
-    anyBelow (atMost 32 t) (λ j. not (eqb j i) && threatensLimit (conflicts i r j) ws n (getD segments j 0) (getD xs j allOnes) j (limitOfCycle (x .cycle)) i)
+    anyBelow (atMost 32 t) (λ j. not (eqb j i) && threatensLimit (conflicts i r j) ws n (getD segments j 0 * n) (getD xs j allOnes) j (limitOfCycle (x .cycle)) i)
 
 -- the crew and the first limits of thread records
 unfoldable pub eventAwaited : Awaited → ℕ

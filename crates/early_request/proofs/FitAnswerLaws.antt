@@ -48,9 +48,9 @@ use Rattle.early_limits.proofs.StateLaws.{FitState, isUnfit→FitState, fit-cou
 use Rattle.early_limits.proofs.AheadLaws.{hazard-limit}
 use Rattle.early_limits.proofs.DeliverLaws.{granted-fit}
 use Rattle.early_deliver.proofs.SettledLaws.{aheadOf-is, settledBy-is}
-use Rattle.early_request.specs.After.{afterOf}
-use Rattle.early_request.specs.Answered.{hazardOn, numberOn, effectFrom, grantOn, runOn, answeredOn}
-use Rattle.early_request.proofs.AnsweredLaws.{heldEvents-taken}
+use Rattle.early_answer.specs.After.{afterOf}
+use Rattle.early_answer.specs.Answered.{hazardOn, numberOn, effectFrom, grantOn, runOn, answeredOn}
+use Rattle.early_answer.proofs.AnsweredLaws.{heldEvents-taken}
 
 -- what is run of a segment: its body and its closer
 abbrev RunsAs : Segment → Segment → Type 0

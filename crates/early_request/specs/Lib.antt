@@ -1,4 +1,1 @@
-pub mod After
 pub mod Fresh
-pub mod Answers
-pub mod Answered

@@ -2,5 +2,5 @@
 -- Assumes nothing.
 
 unfoldable pub computed : Unit {0}
-unfolding Rattle.buffers.proofs.Computed.computed Rattle.early.proofs.Computed.computed Rattle.export_state.specs.Numbers.inTurn Rattle.export_state.specs.Numbers.logWords Rattle.export_state.specs.Numbers.pairAt Rattle.export_state.specs.Numbers.stateFrom Rattle.export_state.specs.Numbers.threadFrom Rattle.export_state.specs.Numbers.variablesFrom Rattle.export_state.specs.Numbers.placeFrom Rattle.export_state.specs.Numbers.siteFrom Rattle.export_state.specs.Numbers.threadsFrom Rattle.export_state.specs.Numbers.heldThreads Rattle.export_state.specs.Numbers.isPairHeld Rattle.export_state.specs.Numbers.isEventHeld Rattle.export_state.specs.Numbers.isRecordHeld Rattle.export_state.specs.Numbers.isLogHeld Rattle.export_state.specs.Numbers.areRecordsHeld Rattle.export_state.specs.Numbers.areHeld Rattle.export_state.specs.Step.hasRoom Rattle.export_state.specs.Step.holding Rattle.export_state.specs.Step.freshNumber Rattle.export_state.specs.Step.freshKept Rattle.export_state.specs.Step.askedNumber Rattle.export_state.specs.Step.requestBy Rattle.export_state.specs.Step.requestNumber Rattle.export_state.specs.Step.requestKept Rattle.export_state.specs.Step.requestAnswer Rattle.export_state.specs.Step.replayNumber Rattle.export_state.specs.Step.replayKept Rattle.export_state.specs.Step.replayWords Rattle.export_state.specs.Step.replayAnswers
+unfolding Rattle.buffers.proofs.Computed.computed Rattle.early.proofs.Computed.computed Rattle.export_state.specs.Numbers.inTurn Rattle.export_state.specs.Numbers.logWords Rattle.export_state.specs.Numbers.pairAt Rattle.export_state.specs.Numbers.stateFrom Rattle.export_state.specs.Numbers.threadFrom Rattle.export_state.specs.Numbers.variablesFrom Rattle.export_state.specs.Numbers.placeFrom Rattle.export_state.specs.Numbers.siteFrom Rattle.export_state.specs.Numbers.threadsFrom Rattle.export_state.specs.Numbers.heldThreads Rattle.export_state.specs.Numbers.isPairHeld Rattle.export_state.specs.Numbers.isEventHeld Rattle.export_state.specs.Numbers.isRecordHeld Rattle.export_state.specs.Numbers.isLogHeld Rattle.export_state.specs.Numbers.areRecordsHeld Rattle.export_state.specs.Numbers.areHeld
 computed = tt

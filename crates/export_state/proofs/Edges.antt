@@ -1,20 +1,13 @@
--- Each comparison at, below and above its edge, where each number stands, and each call on a small file: closed examples.
+-- Each comparison at, below and above its edge, where each number stands: closed examples.
 use Prim.Native.Nat.{ℕ, _^_}
 use mathlib.Core.Path.{_≡_, refl}
 use mathlib.Core.Bool.{true, false}
 use mathlib.Core.List.{List, [], _∷_, _++_}
 use lib.ListN.{replicate, set}
-use Rattle.base.specs.Index.{orElse}
 use Rattle.clock.specs.Cycle.{cycleAt}
 use Rattle.model.specs.declared.State.the-variants.{Ended, Overrun, Ready, Waiting}
-use Rattle.reader.proofs.Computed as reader
-use Rattle.tables.specs.Outcome as tables
 use Rattle.early.proofs.EdgeModels.{note, inState}
-use Rattle.early_request.specs.Answers.{answersWords, grantedIn, isShort}
-use Rattle.order.specs.Claim.{afterList}
-use Rattle.replay.specs.Replay.{doneOn, numberOn, replayedOn, wordsOn, answersOn}
 use Rattle.export_state.specs.Numbers.{logWords, recordWords, pairAt, stateFrom, threadFrom, variablesFrom, placeFrom, siteFrom, threadsFrom, heldThreads, isPairHeld, isEventHeld, isRecordHeld, isLogHeld, areRecordsHeld, areHeld}
-use Rattle.export_state.specs.Step.{Kept, keeps, hasRoom, freshNumber, freshKept, askedNumber, requestNumber, requestKept, requestAnswer, replayNumber, replayKept, replayWords, replayAnswers}
 use Rattle.export_state.proofs.Computed.{computed}
 
 -- the count, then event, time, delta of each place
@@ -121,69 +114,3 @@ pub areHeld-edges :
     (areHeld 1 (replicate 64 0) (replicate 385 0) (replicate 4 0) ≡ false)
 unfolding computed
 areHeld-edges = (refl, refl, refl, refl)
-
--- case 1: "the 36-byte file of H = 10, V = E = 0, one ending segment, one thread"
-abbrev one : List ℕ
-one = 10 ∷ 0 ∷ 1 ∷ 0 ∷ 10 ∷ 0 ∷ 0 ∷ 0 ∷ 0 ∷ 0 ∷ 17 ∷ 0 ∷ 2 ∷ 0 ∷ 0 ∷ 0 ∷ 0 ∷ 0 ∷ 0 ∷ 0 ∷ 0 ∷ 0 ∷ 0 ∷ 0 ∷ 0 ∷ 0 ∷ 0 ∷ 5 ∷ 0 ∷ 3 ∷ 0 ∷ 0 ∷ 4 ∷ 0 ∷ 4 ∷ 0 ∷ []
-
--- buffers of so many words, all 7
-abbrev sevens : ℕ → ℕ → ℕ → Kept
-sevens v l r = keeps (replicate v 7) (replicate l 7) (replicate r 7)
-
--- the numbers of its fresh state: thread 0 ready at (0, 0)
-abbrev start : Kept
-start = keeps (replicate 64 0) (replicate 385 0) (0 ∷ 2 ∷ 0 ∷ 0 ∷ 0 ∷ [])
-
-pub hasRoom-edges :
-    (hasRoom 1 (sevens 64 385 5) ≡ true) × (hasRoom 1 (sevens 63 385 5) ≡ false) × (hasRoom 1 (sevens 64 384 5) ≡ false) × (hasRoom 1 (sevens 64 385 4) ≡ false) × (hasRoom 32 (sevens 65 386 159) ≡ false) × (hasRoom 32 (sevens 65 386 160) ≡ true)
-unfolding computed
-hasRoom-edges = (refl, refl, refl, refl, refl, refl)
-
--- the file's number first, then 11; else the fresh state, and no word past it
-pub fresh-edges :
-    (freshNumber [] (sevens 0 0 0) ≡ 1) ×
-    (freshNumber one (sevens 64 385 4) ≡ 11) ×
-    (freshKept one (sevens 64 385 4) ≡ sevens 64 385 4) ×
-    (freshNumber one (sevens 64 385 5) ≡ 0) ×
-    (freshKept one (sevens 64 385 5) ≡ start) ×
-    (freshKept one (sevens 65 385 6) .variables ≡ set (replicate 65 0) 64 7) ×
-    (freshKept one (sevens 65 385 6) .records ≡ 0 ∷ 2 ∷ 0 ∷ 0 ∷ 0 ∷ 7 ∷ [])
-unfolding reader.computed computed orElse
-fresh-edges = (refl, refl, refl, refl, refl, refl, refl)
-
--- the file's number first, then 11: a state of 4, an answer of 2 words
-pub asked-edges :
-    (askedNumber [] (sevens 0 0 0) [] ≡ 1) ×
-    (askedNumber one (keeps (replicate 64 0) (replicate 385 0) (0 ∷ 4 ∷ 0 ∷ 0 ∷ 0 ∷ [])) (7 ∷ 7 ∷ 7 ∷ []) ≡ 11) ×
-    (askedNumber one start (7 ∷ 7 ∷ []) ≡ 11) ×
-    (askedNumber one start (7 ∷ 7 ∷ 7 ∷ []) ≡ 0)
-unfolding reader.computed computed orElse
-asked-edges = (refl, refl, refl, refl)
-
--- thread 0 is granted segment 0 at (0, 0) and ends; a word past its record stays; thread 1 is refused with 10, and nothing is written
-pub request-edges :
-    (requestNumber one (0 ∷ []) start 0 (7 ∷ 7 ∷ 7 ∷ 7 ∷ []) ≡ 0) ×
-    (requestKept one (0 ∷ []) (keeps (replicate 64 0) (replicate 385 0) (0 ∷ 2 ∷ 0 ∷ 0 ∷ 0 ∷ 7 ∷ [])) 0 (7 ∷ 7 ∷ 7 ∷ 7 ∷ []) ≡ keeps (replicate 64 0) (replicate 385 0) (0 ∷ 0 ∷ 0 ∷ 0 ∷ 0 ∷ 7 ∷ [])) ×
-    (requestAnswer one (0 ∷ []) start 0 (7 ∷ 7 ∷ 7 ∷ 7 ∷ []) ≡ 0 ∷ 0 ∷ 0 ∷ 7 ∷ []) ×
-    (requestNumber one (0 ∷ []) start 1 (7 ∷ 7 ∷ 7 ∷ []) ≡ 10) ×
-    (requestKept one (0 ∷ []) start 1 (7 ∷ 7 ∷ 7 ∷ []) ≡ start) ×
-    (requestAnswer one (0 ∷ []) start 1 (7 ∷ 7 ∷ 7 ∷ []) ≡ 7 ∷ 7 ∷ 7 ∷ []) ×
-    (requestNumber one [] start 0 (7 ∷ 7 ∷ 7 ∷ []) ≡ 11)
-unfolding reader.computed computed orElse tables.conflictMarks
-request-edges = (refl, refl, refl, refl, refl, refl, refl)
-
--- the file's number first, then 11 for a short buffer of the state or of the answers, then 16; else the state that the list leaves
-pub replay-edges :
-    (replayNumber [] (5 ∷ []) (0 ∷ []) (7 ∷ 7 ∷ 7 ∷ 7 ∷ []) (sevens 64 385 4) ≡ 1) ×
-    (replayNumber one [] (0 ∷ []) (7 ∷ 7 ∷ 7 ∷ 7 ∷ []) (sevens 64 385 4) ≡ 11) ×
-    (replayNumber one [] (0 ∷ []) (7 ∷ 7 ∷ 7 ∷ []) (sevens 64 385 5) ≡ 11) ×
-    (replayNumber one [] (0 ∷ []) (7 ∷ 7 ∷ 7 ∷ 7 ∷ []) (sevens 64 385 5) ≡ 16) ×
-    (replayKept one [] (0 ∷ []) (7 ∷ 7 ∷ 7 ∷ 7 ∷ []) (sevens 64 385 5) ≡ sevens 64 385 5) ×
-    (replayNumber one (5 ∷ []) (0 ∷ []) (7 ∷ 7 ∷ 7 ∷ 7 ∷ []) (sevens 64 385 5) ≡ 0) ×
-    (replayKept one (5 ∷ []) (0 ∷ []) (7 ∷ 7 ∷ 7 ∷ 7 ∷ []) (sevens 64 385 6) ≡ keeps (replicate 64 0) (replicate 385 0) (0 ∷ 0 ∷ 0 ∷ 0 ∷ 0 ∷ 7 ∷ [])) ×
-    (replayWords one (5 ∷ []) (0 ∷ []) (7 ∷ 7 ∷ 7 ∷ 7 ∷ []) (sevens 64 385 5) ≡ 0 ∷ []) ×
-    (replayWords one (5 ∷ []) (0 ∷ []) (7 ∷ 7 ∷ 7 ∷ 7 ∷ []) (sevens 64 385 4) ≡ 5 ∷ []) ×
-    (replayAnswers one (5 ∷ []) (0 ∷ []) (7 ∷ 7 ∷ 7 ∷ 7 ∷ []) (sevens 64 385 5) ≡ 0 ∷ 0 ∷ 0 ∷ 0 ∷ []) ×
-    (replayAnswers one (5 ∷ []) (0 ∷ []) (7 ∷ 7 ∷ 7 ∷ 7 ∷ []) (sevens 64 385 4) ≡ 7 ∷ 7 ∷ 7 ∷ 7 ∷ [])
-unfolding reader.computed computed orElse tables.ifHeld tables.isShort tables.distancesNumber tables.distancesBuffer answersWords grantedIn isShort afterList doneOn numberOn replayedOn wordsOn answersOn
-replay-edges = (refl, refl, refl, refl, refl, refl, refl, refl, refl, refl, refl)

@@ -4,6 +4,5 @@ pub mod HeldLaws
 mod FromLaws
 pub mod RangeLaws
 pub mod RoundLaws
-pub mod StepLaws
 pub mod Computed
 pub mod Edges

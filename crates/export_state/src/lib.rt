@@ -1,19 +1,14 @@
-// For callers in C and Rust: a state and thread records as numbers in buffers, and the fresh state, one request or a whole list on them.
-// Words past those of a state are not looked at and not touched.
+// For callers in C and Rust: a state and thread records as numbers in buffers. Words past those of a state are not looked at and not touched.
 use clock::Cycle;
 use clock::Delta;
-use clock::ThreadNo;
 use clock::Time;
 use early::Answer;
 use early::Notification;
 use early::Site;
-use early_lent::Lent;
-use model::Model;
 use model::State;
 use model::Thread;
 use model::Threads;
 use model::Variables;
-use reader::Read;
 ghost use Prim.Native.Nat.{_+_, _<_, _≤_, _%_, _^_};
 ghost use mathlib.Core.Path.{_≡_};
 ghost use mathlib.Core.Bool.{cond, _&&_};
@@ -24,14 +19,9 @@ ghost use lib.Seq.{sets};
 ghost use Rattle.base.specs.Index.{tabulate};
 ghost use Rattle.clock.specs.Cycle.{cycleAt};
 ghost use Rattle.model.specs.Record.{noThread};
-ghost use Rattle.reader.specs.File.{readFile};
-ghost use Rattle.tables.specs.Outcome.{conflictMarks};
 ghost use Rattle.buffers.specs.Write.{placedIn};
 ghost use Rattle.early.specs.Answer.{valuesOf, numberOf};
-ghost use Rattle.early_request.specs.Fresh.{freshOf};
-ghost use Rattle.early_lent.specs.Answered.{requestFirst};
 ghost use Rattle.export_state.specs.Numbers.{pairWords, threadWords, inTurn, logWords, recordWords, pairAt, stateFrom, threadFrom, variablesFrom, placeFrom, siteFrom, heldThreads, isPairHeld, isEventHeld, isRecordHeld, isLogHeld, areRecordsHeld, areHeld};
-ghost use Rattle.export_state.specs.Step.{keeps, hasRoom, holding, freshNumber, askedNumber, keptBy, Freshens, Requests, Replays};
 
 // A word modulo 2 ^ 8, and modulo 2 ^ 32.
 fn byte_at(words: &[u64], i: usize) -> u8
@@ -295,21 +285,6 @@ pub fn threads_into(threads: Threads, t: u8, records: &mut [u64])
     }
 }
 
-// A state and the records of its t threads in the caller's buffers.
-fn put_state(
-    site: Site,
-    threads: Threads,
-    t: u8,
-    variables: &mut [u32],
-    log: &mut [u64],
-    records: &mut [u64],
-)
-    ensures { λ _. ⌜ keeps (now (variables .exit)) (now (log .exit)) (now (records .exit)) ≡ holding site (take t (threads .at)) (keeps (now (variables .entry)) (now (log .entry)) (now (records .entry))) ⌝ }
-{
-    site_into(site, variables, log);
-    threads_into(threads, t, records);
-}
-
 // Segment, time and delta of a grant.
 pub fn grant_into(s: u8, c: Cycle, answer: &mut [u64])
     ensures { λ _. ⌜ now (answer .exit) ≡ placedIn (valuesOf (Answer.Granted s c)) (now (answer .entry)) ⌝ }
@@ -319,33 +294,6 @@ pub fn grant_into(s: u8, c: Cycle, answer: &mut [u64])
     }
     let words = cycle_words(s, c);
     put_words(answer, 0, &words);
-}
-
-// The number of an answer, with segment, time and delta of a grant.
-fn put_answer(a: Answer, answer: &mut [u64]) -> u8
-    ensures number { λ r. ⌜ r ≡ numberOf a ⌝ }
-    ensures words { λ _. ⌜ now (answer .exit) ≡ placedIn (valuesOf a) (now (answer .entry)) ⌝ }
-{
-    match a {
-        Answer::Granted(s, c) => {
-            grant_into(s, c, answer);
-            0
-        }
-        Answer::Refused(n) => n,
-    }
-}
-
-// Whether the buffers of a state of t threads are long enough.
-fn has_room(variables: &[u32], log: &[u64], records: &[u64], t: u8) -> bool
-    ensures { λ r. ⌜ r ≡ hasRoom t (keeps (now (variables .entry)) (now (log .entry)) (now (records .entry))) ⌝ }
-{
-    if variables.len() < 64 {
-        return false;
-    }
-    if log.len() < 385 {
-        return false;
-    }
-    5 * buffers::wide(t) <= records.len()
 }
 
 fn is_pair_held(log: &[u64], i: usize) -> bool
@@ -436,158 +384,4 @@ pub fn are_held(variables: &[u32], log: &[u64], records: &[u64], t: u8) -> bool
         return are_records_held(records, t);
     }
     false
-}
-
-// Whether the numbers are those of a state, and the answer has room.
-fn may_ask(variables: &[u32], log: &[u64], records: &[u64], t: u8, answer: &[u64]) -> bool
-    ensures { λ r. ⌜ r ≡ areHeld t (now (variables .entry)) (now (log .entry)) (now (records .entry)) && leb 3 (length (now (answer .entry))) ⌝ }
-{
-    if are_held(variables, log, records, t) {
-        return 3 <= answer.len();
-    }
-    false
-}
-
-// The file, with 11 where it is accepted and a buffer of its state is too short.
-fn with_room(file: &[u8], variables: &[u32], log: &[u64], records: &[u64]) -> Read
-    ensures number { λ r. ⌜ r .number ≡ freshNumber (now (file .entry)) (keeps (now (variables .entry)) (now (log .entry)) (now (records .entry))) ⌝ }
-    ensures read { λ r. ⌜ (r .number ≡ 0 → r ≡ readFile (now (file .entry))) ⌝ }
-{
-    let mut read = reader_file::read_file(file);
-    if read.number != 0 {
-        return read;
-    }
-    if has_room(variables, log, records, read.model.t) {
-        return read;
-    }
-    read.number = 11;
-    read
-}
-
-// The file, with 11 where it is accepted and the numbers are not those of a state of it, or the answer has no room.
-fn with_state(file: &[u8], variables: &[u32], log: &[u64], records: &[u64], answer: &[u64]) -> Read
-    ensures number { λ r. ⌜ r .number ≡ askedNumber (now (file .entry)) (keeps (now (variables .entry)) (now (log .entry)) (now (records .entry))) (now (answer .entry)) ⌝ }
-    ensures read { λ r. ⌜ (r .number ≡ 0 → r ≡ readFile (now (file .entry))) ⌝ }
-{
-    let mut read = reader_file::read_file(file);
-    if read.number != 0 {
-        return read;
-    }
-    if may_ask(variables, log, records, read.model.t, answer) {
-        return read;
-    }
-    read.number = 11;
-    read
-}
-
-// The fresh state of a model, in the caller's buffers.
-fn put_fresh(m: Model, variables: &mut [u32], log: &mut [u64], records: &mut [u64])
-    ensures { λ _. ⌜ keeps (now (variables .exit)) (now (log .exit)) (now (records .exit)) ≡ holding (freshOf m .site) (take (m .t) (freshOf m .threads .at)) (keeps (now (variables .entry)) (now (log .entry)) (now (records .entry))) ⌝ }
-{
-    let fresh = early_request::fresh(m);
-    put_state(fresh.site, fresh.threads, m.t, variables, log, records);
-}
-
-// A file's fresh state in the caller's buffers: the number, 0 where it is there.
-pub fn fresh_into(file: &[u8], variables: &mut [u32], log: &mut [u64], records: &mut [u64]) -> u8
-    ensures { λ r. ⌜ Freshens (now (file .entry)) (keeps (now (variables .entry)) (now (log .entry)) (now (records .entry))) r (keeps (now (variables .exit)) (now (log .exit)) (now (records .exit))) ⌝ }
-{
-    let read = with_room(file, variables, log, records);
-    if read.number != 0 {
-        return read.number;
-    }
-    put_fresh(read.model, variables, log, records);
-    0
-}
-
-// A request on the state that the numbers say: the lent request, on as many records as there are threads.
-fn request_on(
-    m: Model,
-    words: &[u64],
-    variables: &[u32],
-    log: &[u64],
-    records: &[u64],
-    thread: u8,
-) -> Lent
-    ensures { λ r. ⌜ r ≡ requestFirst m (conflictMarks m) (now (words .entry)) (siteFrom (now (variables .entry)) (now (log .entry))) (heldThreads (now (records .entry)) (m .t)) (m .t) thread ⌝ }
-{
-    let t = m.t;
-    let marks = tables_conflict::conflict_marks(m);
-    let site = site_from(variables, log);
-    let held = threads_from(records, t);
-    early_lent::request_first(
-        m,
-        marks,
-        words,
-        site,
-        held,
-        buffers::wide(t),
-        ThreadNo(thread),
-    )
-}
-
-// What a request left, in the caller's buffers: on a refusal nothing is written.
-fn put_after(left: Lent, t: u8, variables: &mut [u32], log: &mut [u64], records: &mut [u64])
-    ensures { λ _. ⌜ keeps (now (variables .exit)) (now (log .exit)) (now (records .exit)) ≡ keptBy (left .asked .answer) (left .asked .site) (take t (take 32 (left .records))) (keeps (now (variables .entry)) (now (log .entry)) (now (records .entry))) ⌝ }
-{
-    let asked = left.asked;
-    let a = asked.answer;
-    match a {
-        Answer::Granted(_, _) => {
-            let held = left.records;
-            let threads = first_threads(held);
-            put_state(asked.site, threads, t, variables, log, records);
-        }
-        Answer::Refused(_) => {}
-    }
-}
-
-// One request of a thread on the state that the caller keeps, with the file's words: the number, 0 where it is granted, and then segment, time and delta in the answer.
-// On a refusal every buffer is as it was.
-pub fn request_into(
-    file: &[u8],
-    words: &[u64],
-    variables: &mut [u32],
-    log: &mut [u64],
-    records: &mut [u64],
-    thread: u8,
-    answer: &mut [u64],
-) -> u8
-    ensures { λ r. ⌜ Requests (now (file .entry)) (now (words .entry)) (keeps (now (variables .entry)) (now (log .entry)) (now (records .entry))) thread (now (answer .entry)) r (keeps (now (variables .exit)) (now (log .exit)) (now (records .exit))) (now (answer .exit)) ⌝ }
-{
-    let read = with_state(file, variables, log, records, answer);
-    if read.number != 0 {
-        return read.number;
-    }
-    let m = read.model;
-    let left = request_on(m, words, variables, log, records, thread);
-    let asked = left.asked;
-    let a = asked.answer;
-    put_after(left, m.t, variables, log, records);
-    put_answer(a, answer)
-}
-
-// A list of requests from the file's fresh state on, its answers in four words each and its tables in the words, and the state that it leaves in the caller's buffers.
-pub fn replay_into(
-    file: &[u8],
-    words: &mut [u64],
-    threads: &[u8],
-    answers: &mut [u64],
-    variables: &mut [u32],
-    log: &mut [u64],
-    records: &mut [u64],
-) -> u8
-    ensures { λ r. ⌜ Replays (now (file .entry)) (now (words .entry)) (now (threads .entry)) (now (answers .entry)) (keeps (now (variables .entry)) (now (log .entry)) (now (records .entry))) r (keeps (now (variables .exit)) (now (log .exit)) (now (records .exit))) (now (words .exit)) (now (answers .exit)) ⌝ }
-{
-    let read = with_room(file, variables, log, records);
-    if read.number != 0 {
-        return read.number;
-    }
-    let m = read.model;
-    let done = replay::replay_on(m, words, threads, answers);
-    if done.number != 0 {
-        return done.number;
-    }
-    put_state(done.site, done.threads, m.t, variables, log, records);
-    0
 }

@@ -5,11 +5,13 @@ ghost use mathlib.Core.Path.{_≡_};
 ghost use Prim.Native.Nat.{_≤_};
 ghost use lib.ListN.{length};
 ghost use Rattle.reader.specs.File.{readFile};
-ghost use Rattle.reader_load.specs.Load.{loadOf, loadBuffer};
+ghost use Rattle.reader_load.specs.Load.{loadOf, loadBuffer, loadByRows};
+ghost use Rattle.early.specs.ByRows.{LeftFree};
 ghost use Rattle.buffers.specs.Write.{Writes};
 ghost use Rattle.sheet.specs.Sheet.{longestSheet};
 ghost use Rattle.sheet_file.specs.Report.{printed};
-ghost use Rattle.export_state.specs.Step.{keeps, Freshens, Requests, Replays};
+ghost use Rattle.replay.specs.Replay.{replayedOn, wordsOn, answersOn, replayedByRows, answersByRows};
+ghost use Rattle.export_step.specs.Step.{keeps, requestBy, rowsBy, replayBuffer, Freshens, Requests, Replays};
 ghost use Rattle.export_write.specs.Call.{Models, Files};
 
 // The reader's number of a model file, 0 where it is accepted.
@@ -28,6 +30,15 @@ pub extern "C" fn teaselauger_load(file: &[u8], words: &mut [u64]) -> u8
 {
     let loaded = reader_load::load(file, words);
     loaded.number
+}
+
+// Document 02, slip 6, the entry by rows: the reader's number of a model file, then 16 below 64 words. None of them is read or written.
+#[no_mangle]
+pub extern "C" fn teaselauger_load_by_rows(file: &[u8], words: &[u64]) -> u8
+    ensures { λ r. ⌜ r ≡ loadByRows (now (file .entry)) (length (now (words .entry))) .number ⌝ }
+{
+    let read = reader_load::load_by_rows(file, words);
+    read.number
 }
 
 // The sheet of a file's plain run with a budget, or the line of its refusal: how many bytes of the buffer it takes. A buffer that is too short stays, and the answer is 0;
@@ -50,7 +61,7 @@ pub extern "C" fn teaselauger_fresh(
 ) -> u8
     ensures { λ r. ⌜ Freshens (now (file .entry)) (keeps (now (variables .entry)) (now (log .entry)) (now (records .entry))) r (keeps (now (variables .exit)) (now (log .exit)) (now (records .exit))) ⌝ }
 {
-    export_state::fresh_into(file, variables, log, records)
+    export_step::fresh_into(file, variables, log, records)
 }
 
 // One request of a thread on the state that the caller keeps, with the file's words: the number, 0 where it is granted, and then segment, time and delta in the answer.
@@ -65,9 +76,26 @@ pub extern "C" fn teaselauger_request(
     thread: u8,
     answer: &mut [u64],
 ) -> u8
-    ensures { λ r. ⌜ Requests (now (file .entry)) (now (words .entry)) (keeps (now (variables .entry)) (now (log .entry)) (now (records .entry))) thread (now (answer .entry)) r (keeps (now (variables .exit)) (now (log .exit)) (now (records .exit))) (now (answer .exit)) ⌝ }
+    ensures { λ r. ⌜ Requests (now (file .entry)) (requestBy (now (file .entry)) (now (words .entry)) (keeps (now (variables .entry)) (now (log .entry)) (now (records .entry))) thread) (keeps (now (variables .entry)) (now (log .entry)) (now (records .entry))) (now (answer .entry)) r (keeps (now (variables .exit)) (now (log .exit)) (now (records .exit))) (now (answer .exit)) ⌝ }
 {
-    export_state::request_into(file, words, variables, log, records, thread, answer)
+    export_step::request_into(file, words, variables, log, records, thread, answer)
+}
+
+// The same request by rows, in 64 words that are left free: 16 below 64, after 11.
+#[no_mangle]
+pub extern "C" fn teaselauger_request_by_rows(
+    file: &[u8],
+    row: &mut [u64],
+    variables: &mut [u32],
+    log: &mut [u64],
+    records: &mut [u64],
+    thread: u8,
+    answer: &mut [u64],
+) -> u8
+    ensures { λ _. ⌜ LeftFree (now (row .entry)) (now (row .exit)) ⌝ }
+    ensures { λ r. ⌜ Requests (now (file .entry)) (rowsBy (now (file .entry)) (length (now (row .entry))) (keeps (now (variables .entry)) (now (log .entry)) (now (records .entry))) thread) (keeps (now (variables .entry)) (now (log .entry)) (now (records .entry))) (now (answer .entry)) r (keeps (now (variables .exit)) (now (log .exit)) (now (records .exit))) (now (answer .exit)) ⌝ }
+{
+    export_step::request_by_rows_into(file, row, variables, log, records, thread, answer)
 }
 
 // A list of requests from the file's fresh state on, its answers in four words each and its tables in the words, and the state that it leaves in the caller's buffers.
@@ -81,9 +109,29 @@ pub extern "C" fn teaselauger_replay(
     log: &mut [u64],
     records: &mut [u64],
 ) -> u8
-    ensures { λ r. ⌜ Replays (now (file .entry)) (now (words .entry)) (now (threads .entry)) (now (answers .entry)) (keeps (now (variables .entry)) (now (log .entry)) (now (records .entry))) r (keeps (now (variables .exit)) (now (log .exit)) (now (records .exit))) (now (words .exit)) (now (answers .exit)) ⌝ }
+    ensures { λ r. ⌜ Replays (now (file .entry)) (now (threads .entry)) (replayedOn (readFile (now (file .entry)) .model) (now (words .entry)) (now (threads .entry)) (now (answers .entry))) (keeps (now (variables .entry)) (now (log .entry)) (now (records .entry))) r (keeps (now (variables .exit)) (now (log .exit)) (now (records .exit))) ⌝ }
+    ensures { λ _. ⌜ now (words .exit) ≡ replayBuffer (now (file .entry)) (keeps (now (variables .entry)) (now (log .entry)) (now (records .entry))) (wordsOn (readFile (now (file .entry)) .model) (now (words .entry)) (now (threads .entry)) (now (answers .entry))) (now (words .entry)) ⌝ }
+    ensures { λ _. ⌜ now (answers .exit) ≡ replayBuffer (now (file .entry)) (keeps (now (variables .entry)) (now (log .entry)) (now (records .entry))) (answersOn (readFile (now (file .entry)) .model) (now (words .entry)) (now (threads .entry)) (now (answers .entry))) (now (answers .entry)) ⌝ }
 {
-    export_state::replay_into(file, words, threads, answers, variables, log, records)
+    export_step::replay_into(file, words, threads, answers, variables, log, records)
+}
+
+// The same list by rows, in 64 words that are left free.
+#[no_mangle]
+pub extern "C" fn teaselauger_replay_by_rows(
+    file: &[u8],
+    row: &mut [u64],
+    threads: &[u8],
+    answers: &mut [u64],
+    variables: &mut [u32],
+    log: &mut [u64],
+    records: &mut [u64],
+) -> u8
+    ensures { λ _. ⌜ LeftFree (now (row .entry)) (now (row .exit)) ⌝ }
+    ensures { λ r. ⌜ Replays (now (file .entry)) (now (threads .entry)) (replayedByRows (readFile (now (file .entry)) .model) (length (now (row .entry))) (now (threads .entry)) (now (answers .entry))) (keeps (now (variables .entry)) (now (log .entry)) (now (records .entry))) r (keeps (now (variables .exit)) (now (log .exit)) (now (records .exit))) ⌝ }
+    ensures { λ _. ⌜ now (answers .exit) ≡ replayBuffer (now (file .entry)) (keeps (now (variables .entry)) (now (log .entry)) (now (records .entry))) (answersByRows (readFile (now (file .entry)) .model) (length (now (row .entry))) (now (threads .entry)) (now (answers .entry))) (now (answers .entry)) ⌝ }
+{
+    export_step::replay_by_rows_into(file, row, threads, answers, variables, log, records)
 }
 
 // A file's model as numbers at the front of a slice: the number, 0 where it is there.

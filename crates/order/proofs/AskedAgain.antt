@@ -25,7 +25,7 @@ use Rattle.early.specs.Log.{logOf}
 use Rattle.early.specs.Hazard.{hazard}
 use Rattle.early.specs.Deliver.{lookItems, settledItems}
 use Rattle.early.specs.Grant.{logAfter, closedThreads, threadsAfter}
-use Rattle.early.specs.Request.{Requested, grantedTo, requestOf, freshSite, Listed, requestsOf}
+use Rattle.early.specs.Request.{Requested, grantedTo, requestOf, freshSite, Listed, listedBy, requestsOf}
 use Rattle.early_laws.proofs.LookLaws.{heardAt-waits, Looked, unheard, hears, looked, lookItems-other, lookItems-none, lookItems-heard}
 use Rattle.early_laws.proofs.SettleLaws.{settled-carries}
 use Rattle.early_laws.proofs.NumberLaws.{ZeroOrFull}
@@ -59,7 +59,7 @@ module _ (m : Model) (marks : List (List Bool)) (ws : List ℕ) (i : ℕ) where
 
   pub list-kept : (c : Cycle) (ks : List ℕ) (site : Site) (ts : List Thread) → viewOf (threadAt ts i .state) ≡ view.ready c → runCount (requestsOf m marks ws site ts ks .history i) ≡ 0
       → threadAt (requestsOf m marks ws site ts ks .threads) i ≡ threadAt ts i
-  unfolding requestsOf
+  unfolding listedBy
   list-kept c [] site ts ready none = refl
   list-kept c (k ∷ ks) site ts ready none =
       let a = requestOf m marks ws site ts k in
@@ -92,7 +92,7 @@ module _ (m : Model) (marks : List (List Bool)) (ws : List ℕ) (i : ℕ) where
       go a (granted d g) = ap runCount (itemsAfter-other m site ts k d ws i other) ∙ delivered-none (logAfter m site ts k d) (closedThreads m site ts k d)
 
   list-unasked : (ks : List ℕ) (site : Site) (ts : List Thread) → (List·Memᴰ i ks → ⊥) → runCount (requestsOf m marks ws site ts ks .history i) ≡ 0
-  unfolding requestsOf ranItems
+  unfolding listedBy ranItems
   list-unasked [] site ts none = refl
   list-unasked (k ∷ ks) site ts none =
       let a = requestOf m marks ws site ts k in

@@ -16,7 +16,7 @@ use Rattle.plain.specs.Wake.{someReady}
 use Rattle.plain.specs.History.{Item, historyAt, itemsAt}
 use Rattle.plain_laws.proofs.HappenLaws.{historyAt-more}
 use Rattle.early.specs.declared.Site.{Site}
-use Rattle.early.specs.Request.{Requested, grantedTo, requestOf, requestsOf}
+use Rattle.early.specs.Request.{Requested, grantedTo, requestOf, listedBy, requestsOf}
 use Rattle.early_laws.proofs.GrantLaws.{itemsAfter-self}
 use Rattle.order.proofs.PlainFacts.{PlainFacts}
 use Rattle.order.proofs.KitLaws.{Begins, KitLaws}
@@ -108,7 +108,7 @@ module _ (m : Model) (pf : PlainFacts m) {marks : List (List Bool)} {ws : List �
   -- from a reached state whose histories can grow by at most n
   carried : (n : ℕ) (site : Site) (ts : List Thread) (h : ℕ → List Item) → Reached m site ts h → whole ≤ total (m .t) h + n
       → (more : List ℕ) × (someReady m (requestsOf m marks ws site ts more .threads) ≡ false)
-  unfolding requestsOf
+  unfolding listedBy
   carried zero site ts h r enough = go (someReady m ts) refl
     where
       go : (b : Bool) → someReady m ts ≡ b → (more : List ℕ) × (someReady m (requestsOf m marks ws site ts more .threads) ≡ false)

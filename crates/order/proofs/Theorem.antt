@@ -22,7 +22,7 @@ use Rattle.early.specs.declared.Answer.the-variants.{Refused}
 use Rattle.early.specs.Log.{places, logOf}
 use Rattle.early.specs.Fit.{isUnfit}
 use Rattle.early.specs.Answer.{numberOf}
-use Rattle.early.specs.Request.{Requested, grantedTo, requestOf, freshSite, Listed, requestsOf}
+use Rattle.early.specs.Request.{Requested, grantedTo, requestOf, freshSite, Listed, listedBy, requestsOf}
 use Rattle.early_laws.proofs.LogLaws.{siteOf-count}
 use Rattle.early_laws.proofs.OnceLaws.{Once}
 use Rattle.early_laws.proofs.RequestLaws.{requestOf-refused, requestOf-fit, requestsOf-append}
@@ -100,7 +100,7 @@ module _ (m : Model) (pf : PlainFacts m) {marks : List (List Bool)} {ws : List �
   -- nor does any request of a list
   answers-fit : (ks : List ℕ) (site : Site) (us : List Thread) (h : ℕ → List Item) → Reached m site us h
       → (a : Answer) → List·Memᴰ a (requestsOf m marks ws site us ks .answers) → a ≡ Refused unfit → ⊥
-  unfolding requestsOf
+  unfolding listedBy
   answers-fit [] site us h r a i e = List·Memᴰ·not-nil i
   answers-fit (k ∷ ks) site us h r a i e = go (List·Memᴰ·cases-cons i) (λ j. answers-fit ks (b .site) (b .threads) (λ j. h j ++ b .items j) (request-reached m pf kl site us h r k) a j e)
     where

@@ -7,7 +7,7 @@ use Rattle.model.specs.Values.{noModel, noSegment, noStart}
 use Rattle.model.specs.declared.Model.{Model}
 use Rattle.reader.specs.declared.Read.{Read}
 use Rattle.tables.specs.Outcome.{isShort}
-use Rattle.reader_load.specs.Load.{loadNumber}
+use Rattle.reader_load.specs.Load.{loadNumber, byRowsNumber}
 
 -- two segments
 abbrev two : Model
@@ -25,3 +25,9 @@ pub loadNumber-edges :
     (loadNumber (read 18) (0 ∷ 0 ∷ 0 ∷ []) ≡ 18)
 unfolding loadNumber isShort orElse
 loadNumber-edges = (refl, refl, refl, refl, refl, refl)
+
+-- by rows: 63, 64 and 65 words, whatever N is, after every number of the file
+pub byRowsNumber-edges :
+    (byRowsNumber (read 0) 63 ≡ 16) × (byRowsNumber (read 0) 64 ≡ 0) × (byRowsNumber (read 0) 65 ≡ 0) × (byRowsNumber (read 9) 63 ≡ 9) × (byRowsNumber (read 18) 63 ≡ 18)
+unfolding byRowsNumber orElse
+byRowsNumber-edges = (refl, refl, refl, refl, refl)

@@ -1,11 +1,11 @@
--- The exits of `load`, and the marks of what was loaded.
-use Prim.Native.Nat.{ℕ}
+-- The exits of `load` and `load_by_rows`, and the marks of what was loaded.
+use Prim.Native.Nat.{ℕ, _<_, _≤_}
 use mathlib.Core.Path.{_≡_, refl, sym, subst, ap, _∙_}
 use mathlib.Core.Bool.{Bool, true, false, cond}
 use mathlib.Core.List.{List}
 use native.Mathlib.Omega.{arith}
-use lib.Dec.{eqb}
-use borrow.Author.Tests.{eq-eqb, ne-eqb}
+use lib.Dec.{ltb, eqb}
+use borrow.Author.Tests.{eq-eqb, ne-eqb, lt-ltb, le-ltb}
 use Rattle.base.specs.Index.{orElse}
 use Rattle.base.proofs.IndexLaws.{orElse-none, orElse-some, orElse-zero}
 use Rattle.model.specs.Refusal.{accepted, shortTable}
@@ -19,7 +19,7 @@ use Rattle.tables.specs.Conflict.{marksOf, noMarks}
 use Rattle.tables.specs.Word.{stored}
 use Rattle.tables.specs.Outcome.{isShort, distancesNumber, distancesBuffer, conflictMarks}
 use Rattle.tables.proofs.OutcomeLaws.{ifHeld-yes, conflict-unfit, conflict-held}
-use Rattle.reader_load.specs.Load.{loadNumber, loadOf, loadBuffer, loadMarks}
+use Rattle.reader_load.specs.Load.{loadNumber, loadOf, loadBuffer, loadMarks, byRowsNumber, loadByRows}
 
 abbrev pub Loads : List ℕ → List ℕ → Read → List ℕ → Type 0
 Loads bytes ws r us = (r ≡ loadOf bytes ws) × (us ≡ loadBuffer bytes ws)
@@ -92,3 +92,24 @@ module _ (bytes ws : List ℕ) where
     where
       none : modelFault noModel ≡ 0 → ⊥
       none e = absurd (omega (arith, no-head))
+
+-- the entry by rows
+module _ (bytes : List ℕ) (lent : ℕ) (r : Read) (e : r ≡ readFile bytes) where
+  pub rows-refused : (r .number ≡ 0 → ⊥) → r ≡ loadByRows bytes lent
+  unfolding loadByRows byRowsNumber
+  rows-refused h =
+      let g : readFile bytes .number ≡ 0 → ⊥ = rw e at h in
+      rw (orElse-some (readFile bytes .number) (cond (ltb lent 64) shortTable accepted) g, readOr-some (readFile bytes .number) (readFile bytes .model) g, ← refused-zero bytes g, e) refl
+
+  module _ (z : r .number ≡ 0) where
+    number-rows : byRowsNumber (readFile bytes) lent ≡ cond (ltb lent 64) shortTable accepted
+    unfolding byRowsNumber
+    number-rows = orElse-none (readFile bytes .number) _ (rw e at z)
+
+    pub rows-short : lent < 64 → record { number = 16; model = noModel } ≡ loadByRows bytes lent
+    unfolding loadByRows
+    rows-short h = rw (number-rows, lt-ltb lent 64 h) refl
+
+    pub rows-done : 64 ≤ lent → r ≡ loadByRows bytes lent
+    unfolding loadByRows
+    rows-done h = rw (number-rows, le-ltb lent 64 h, ← e) (ap (λ (k : ℕ). record { number = k; model = r .model }) z)

@@ -3,13 +3,13 @@
 use Prim.Native.Nat.{ℕ}
 use mathlib.Core.Bool.{Bool, cond}
 use mathlib.Core.List.{List}
-use lib.Dec.{eqb}
+use lib.Dec.{ltb, eqb}
 use Rattle.base.specs.Index.{orElse}
 use Rattle.model.specs.Refusal.{accepted, shortTable}
 use Rattle.reader.specs.declared.Read.{Read}
 use Rattle.reader.specs.File.{readOr, readFile}
 use Rattle.tables.specs.Word.{stored}
-use Rattle.tables.specs.Outcome.{isShort, conflictMarks}
+use Rattle.tables.specs.Outcome.{isShort, rowWords, conflictMarks}
 
 -- the reader's number, then "table buffer below N × N words"
 unfoldable pub loadNumber : Read → List ℕ → ℕ
@@ -28,3 +28,10 @@ loadBuffer bytes buffer =
 -- the marks of what was loaded: unset beside a number
 unfoldable pub loadMarks : List ℕ → List ℕ → List (List Bool)
 loadMarks bytes buffer = conflictMarks (loadOf bytes buffer .model)
+
+-- Document 02, slip 6, with so many words lent: the reader's number, then "Here 16 applies below 64 words"
+unfoldable pub byRowsNumber : Read → ℕ → ℕ
+byRowsNumber r lent = orElse (r .number) (cond (ltb lent rowWords) shortTable accepted)
+
+unfoldable pub loadByRows : List ℕ → ℕ → Read
+loadByRows bytes lent = let r = readFile bytes in readOr (byRowsNumber r lent) (r .model)

@@ -1,7 +1,8 @@
 // Document 01, "Model file" and "Tables": a file's model with its tables.
 use reader::Read;
 ghost use mathlib.Core.Path.{_≡_};
-ghost use Rattle.reader_load.specs.Load.{loadOf, loadBuffer};
+ghost use lib.ListN.{length};
+ghost use Rattle.reader_load.specs.Load.{loadOf, loadBuffer, loadByRows};
 
 // The model that the bytes say, and its distances in the words: the reader's numbers, then 16 for a short buffer.
 // On a refusal the model is zero and no word is written. Its marks are `tables_conflict::conflict_marks` of the model.
@@ -19,4 +20,18 @@ pub fn load(bytes: &[u8], words: &mut [u64]) -> Read
         return reader_file::refused(number);
     }
     read
+}
+
+// Document 02, slip 6, the entry by rows: the reader's numbers, then 16 below 64 words, of which none is read or written.
+pub fn load_by_rows(bytes: &[u8], words: &[u64]) -> Read
+    ensures { λ r. ⌜ r ≡ loadByRows (now (bytes .entry)) (length (now (words .entry))) ⌝ }
+{
+    let said = reader_file::read_file(bytes);
+    if said.number != 0 {
+        return said;
+    }
+    if words.len() < 64 {
+        return reader_file::refused(16);
+    }
+    said
 }

@@ -6,7 +6,7 @@ use Rattle.base.specs.Index.{orElse}
 use Rattle.reader.proofs.Computed as reader
 use Rattle.tables.specs.Outcome as tables
 use Rattle.early.proofs.Computed as early
-use Rattle.early_request.specs.Answers.{answersWords, grantedIn, isShort}
+use Rattle.early_list.specs.Answers.{answersWords, grantedIn, isShort}
 use Rattle.order.specs.Claim.{afterList}
 use Rattle.replay.specs.Replay.{doneOn, numberOn, replayedOn, wordsOn, answersOn, replayedOf, wordsAfter, answersAfter}
 

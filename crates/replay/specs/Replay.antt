@@ -12,10 +12,10 @@ use Rattle.model.specs.Record.{noThread}
 use Rattle.reader.specs.File.{readFile}
 use Rattle.tables.specs.Conflict.{marksOf}
 use Rattle.tables.specs.Word.{wordsOf}
-use Rattle.tables.specs.Outcome.{distancesNumber, distancesBuffer}
+use Rattle.tables.specs.Outcome.{distancesNumber, distancesBuffer, rowsNumber}
 use Rattle.plain.specs.Start.{freshThreads}
 use Rattle.early.specs.Request.{freshSite}
-use Rattle.early_request.specs.Answers.{answersWords, grantedIn, isShort}
+use Rattle.early_list.specs.Answers.{answersWords, grantedIn, isShort}
 use Rattle.order.specs.Claim.{afterList, Claim}
 use Rattle.replay.specs.declared.Replayed.{Replayed}
 
@@ -30,23 +30,40 @@ doneOn m ks =
     let r = afterList m ks in
     record { number = accepted; granted = grantedIn (r .answers); v = m .v; t = m .t; site = r .site; threads = record { at = r .threads } }
 
--- of a held model: 11 for a short buffer of answers, then 11 and 16 of the tables
+-- of a held model, by the number of its tables: 11 for a short buffer of answers first
+abbrev pub numberWith : ℕ → List ℕ → List ℕ → ℕ
+numberWith tables ks answers = cond (isShort ks answers) unfit tables
+
+-- what is left by a number, and the answers: four words each; words past them are not touched, and none beside a number
+abbrev pub replayedBy : ℕ → Model → List ℕ → Replayed
+replayedBy n m ks = cond (eqb n accepted) (doneOn m ks) (refusedWith n)
+
+abbrev pub answersBy : ℕ → Model → List ℕ → List ℕ → List ℕ
+answersBy n m ks answers = cond (eqb n accepted) (answersWords (afterList m ks .answers) ++ drop (4 * length ks) answers) answers
+
+-- with a table buffer: then 11 and 16 of the tables
 unfoldable pub numberOn : Model → List ℕ → List ℕ → List ℕ → ℕ
-numberOn m words ks answers = cond (isShort ks answers) unfit (distancesNumber m words)
+numberOn m words ks answers = numberWith (distancesNumber m words) ks answers
 
 unfoldable pub replayedOn : Model → List ℕ → List ℕ → List ℕ → Replayed
-replayedOn m words ks answers =
-    let n = numberOn m words ks answers in
-    cond (eqb n accepted) (doneOn m ks) (refusedWith n)
+replayedOn m words ks answers = replayedBy (numberOn m words ks answers) m ks
 
 -- the table buffer at the end
 unfoldable pub wordsOn : Model → List ℕ → List ℕ → List ℕ → List ℕ
 wordsOn m words ks answers = cond (isShort ks answers) words (distancesBuffer m words)
 
--- the answers at the end, four words each; words past them are not touched, and none beside a number
 unfoldable pub answersOn : Model → List ℕ → List ℕ → List ℕ → List ℕ
-answersOn m words ks answers =
-    cond (eqb (numberOn m words ks answers) accepted) (answersWords (afterList m ks .answers) ++ drop (4 * length ks) answers) answers
+answersOn m words ks answers = answersBy (numberOn m words ks answers) m ks answers
+
+-- by rows, with so many words lent: then 11, and 16 below 64
+unfoldable pub numberByRows : Model → ℕ → List ℕ → List ℕ → ℕ
+numberByRows m lent ks answers = numberWith (rowsNumber m lent) ks answers
+
+unfoldable pub replayedByRows : Model → ℕ → List ℕ → List ℕ → Replayed
+replayedByRows m lent ks answers = replayedBy (numberByRows m lent ks answers) m ks
+
+unfoldable pub answersByRows : Model → ℕ → List ℕ → List ℕ → List ℕ
+answersByRows m lent ks answers = answersBy (numberByRows m lent ks answers) m ks answers
 
 -- of a file: its number, then the same of its model
 unfoldable pub replayedOf : List ℕ → List ℕ → List ℕ → List ℕ → Replayed

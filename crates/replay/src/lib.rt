@@ -3,8 +3,10 @@ use early::Site;
 use model::Model;
 use model::Threads;
 ghost use mathlib.Core.Path.{_≡_};
+ghost use lib.ListN.{length};
 ghost use Rattle.reader.specs.File.{readFile};
-ghost use Rattle.replay.specs.Replay.{refusedWith, replayedOn, wordsOn, answersOn, replayedOf, wordsAfter, answersAfter, Keeps};
+ghost use Rattle.early.specs.ByRows.{LeftFree};
+ghost use Rattle.replay.specs.Replay.{refusedWith, replayedOn, wordsOn, answersOn, replayedByRows, answersByRows, replayedOf, wordsAfter, answersAfter, Keeps};
 
 // What a replay leaves: the number of the refusal or 0, how many requests were granted, the counts of variables and threads, the state
 // and the records.
@@ -52,7 +54,7 @@ pub fn replay_on(m: Model, words: &mut [u64], ks: &[u8], answers: &mut [u64]) ->
     let marks = tables_conflict::conflict_marks(m);
     let n = buffers::wide(m.n);
     let size = n * n;
-    let left = early_request::requests(m, marks, &words[..size], site, threads, ks, answers);
+    let left = early_list::requests(m, marks, &words[..size], site, threads, ks, answers);
     let site = left.site;
     let threads = left.threads;
     Replayed {
@@ -65,7 +67,40 @@ pub fn replay_on(m: Model, words: &mut [u64], ks: &[u8], answers: &mut [u64]) ->
     }
 }
 
-// The same from a file's bytes: the file's number first.
+// Document 02, slip 6: the same by rows, in 64 words that are left free: 11 for a short buffer of answers, 11 for the model, then 16.
+pub fn replay_by_rows(m: Model, row: &mut [u64], ks: &[u8], answers: &mut [u64]) -> Replayed
+    ensures free { λ _. ⌜ LeftFree (now (row .entry)) (now (row .exit)) ⌝ }
+    ensures outcome { λ r. ⌜ r ≡ replayedByRows m (length (now (row .entry))) (now (ks .entry)) (now (answers .entry)) ⌝ }
+    ensures written { λ _. ⌜ now (answers .exit) ≡ answersByRows m (length (now (row .entry))) (now (ks .entry)) (now (answers .entry)) ⌝ }
+    ensures keeps { λ r. ⌜ (r .number ≡ 0 → Keeps m (now (ks .entry)) r) ⌝ }
+{
+    if answers.len() / 4 < ks.len() {
+        return refused(11);
+    }
+    let fresh = early_request::fresh(m);
+    if fresh.number != 0 {
+        return refused(11);
+    }
+    if row.len() < 64 {
+        return refused(16);
+    }
+    let site = fresh.site;
+    let threads = fresh.threads;
+    let marks = tables_conflict::conflict_marks(m);
+    let after = early_list::requests_by_rows(m, marks, row, site, threads, ks, answers);
+    let site = after.site;
+    let threads = after.threads;
+    Replayed {
+        number: 0,
+        granted: after.granted,
+        v: m.v,
+        t: m.t,
+        site,
+        threads,
+    }
+}
+
+// The same as `replay_on` from a file's bytes: the file's number first.
 pub fn replay(file: &[u8], words: &mut [u64], ks: &[u8], answers: &mut [u64]) -> Replayed
     ensures outcome { λ r. ⌜ r ≡ replayedOf (now (file .entry)) (now (words .entry)) (now (ks .entry)) (now (answers .entry)) ⌝ }
     ensures tables { λ _. ⌜ now (words .exit) ≡ wordsAfter (now (file .entry)) (now (words .entry)) (now (ks .entry)) (now (answers .entry)) ⌝ }

@@ -20,7 +20,7 @@ use Rattle.model.specs.Values.{noStatement, noModel, withHead, withSegment, wit
 use Rattle.tables.specs.Conflict.{conflict, mark, marksOf, noMarks, markAt}
 use Rattle.tables.specs.Distance.{stepOf, edge, cut, distanceOf}
 use Rattle.tables.specs.Word.{allOnes, wordOf, boundOf, wordsOf, stored, distanceIn}
-use Rattle.tables.specs.Outcome.{conflictNumber, conflictMarks, distancesNumber, distancesBuffer}
+use Rattle.tables.specs.Outcome.{conflictNumber, conflictMarks, distancesNumber, distancesBuffer, rowsNumber}
 use Rattle.tables.proofs.Computed.{computed}
 
 -- SMALL MODELS
@@ -309,6 +309,12 @@ pub distancesNumber-edges :
     (distancesNumber (kept 0) (5 ∷ []) ≡ 11)
 unfolding kept withSegments computed
 distancesNumber-edges = (refl, refl, refl, refl)
+
+-- "Here 16 applies below 64 words", whatever N is; 11 before it
+pub rowsNumber-edges :
+    (rowsNumber (kept 1) 63 ≡ 16) × (rowsNumber (kept 1) 64 ≡ 0) × (rowsNumber (kept 1) 65 ≡ 0) × (rowsNumber (kept 0) 63 ≡ 11) × (rowsNumber (kept 0) 64 ≡ 11)
+unfolding kept withSegments computed
+rowsNumber-edges = (refl, refl, refl, refl, refl)
 
 -- "the table buffer is not written" on a refusal
 unfoldable pub two : ℕ → Model

@@ -25,9 +25,17 @@ conflictMarks m = ifHeld m (marksOf m) noMarks
 unfoldable pub isShort : Model → List ℕ → Bool
 isShort m buffer = ltb (length buffer) (m .n * m .n)
 
+-- Document 02, slip 6: "Here 16 applies below 64 words", whatever N is
+abbrev pub rowWords : ℕ
+rowWords = 64
+
 unfoldable pub distancesNumber : Model → List ℕ → ℕ
 distancesNumber m buffer = ifHeld m (cond (isShort m buffer) shortTable accepted) unfit
 
 -- the buffer at the end
 unfoldable pub distancesBuffer : Model → List ℕ → List ℕ
 distancesBuffer m buffer = ifHeld m (cond (isShort m buffer) buffer (stored m buffer)) buffer
+
+-- Document 02, slip 6, with so many words lent: 11, then 16; there is no table to make
+unfoldable pub rowsNumber : Model → ℕ → ℕ
+rowsNumber m lent = ifHeld m (cond (ltb lent rowWords) shortTable accepted) unfit

@@ -3,7 +3,7 @@ use mathlib.Core.Path.{_≡_, refl}
 use mathlib.Core.List.{[], _∷_}
 use lib.ListN.{replicate}
 use Rattle.reader.proofs.Computed as reader
-use Rattle.early_request.specs.Answers.{answersWords}
+use Rattle.early_list.specs.Answers.{answersWords}
 use Rattle.order.specs.Claim.{afterList}
 use Rattle.transcript.proofs.Computed as transcript
 use Rattle.transcript_print.specs.Text.{replayText}

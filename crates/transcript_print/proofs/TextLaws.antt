@@ -18,8 +18,8 @@ use Rattle.reader_laws.proofs.Accepted.{accepted-kept}
 use Rattle.tables.specs.Outcome.{isShort, distancesNumber}
 use Rattle.tables.proofs.OutcomeLaws.{ifHeld-yes}
 use Rattle.sheet.specs.Sheet.{refusedLine}
-use Rattle.early_request.specs.Answers as list
-use Rattle.early_request.specs.Answers.{answersWords}
+use Rattle.early_list.specs.Answers as list
+use Rattle.early_list.specs.Answers.{answersWords}
 use Rattle.order.specs.Claim.{afterList}
 use Rattle.replay.specs.declared.Replayed.{Replayed}
 use Rattle.replay.specs.Replay.{doneOn, numberOn, replayedOn, answersOn, replayedOf, answersAfter}

@@ -7,7 +7,7 @@ use lib.ListN.{length}
 use Rattle.model.specs.Refusal.{accepted, unfit}
 use Rattle.reader.specs.File.{readFile}
 use Rattle.sheet.specs.Sheet.{refusedLine}
-use Rattle.early_request.specs.Answers.{answersWords}
+use Rattle.early_list.specs.Answers.{answersWords}
 use Rattle.order.specs.Claim.{afterList}
 use Rattle.transcript.specs.Label.{threadOf}
 use Rattle.transcript.specs.Transcript.{mostRequests, transcriptOf}

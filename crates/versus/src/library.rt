@@ -191,12 +191,59 @@ pub fn ask_all(
     let marks = tables_conflict::conflict_marks(m);
     let site = site_in(held);
     let threads = export_state::first_threads(export_state::threads_from(held, 32));
-    let o = early_request::requests(m, marks, words, site, threads, ks, answers);
+    let o = early_list::requests(m, marks, words, site, threads, ks, answers);
     let left = o.site;
     let records = o.threads;
     hold_state(held, left, records);
     held[layout::ANSWER] = number::wide(o.number);
     held[layout::RAN] = o.granted;
+}
+
+// The same by rows.
+fn ask_in(
+    file: &[u8],
+    row: &mut [u64],
+    held: &mut [u64; 640],
+    ks: &[u8],
+    answers: &mut [u64; 16384],
+) {
+    let m = model_in(file);
+    let marks = tables_conflict::conflict_marks(m);
+    let site = site_in(held);
+    let threads = export_state::first_threads(export_state::threads_from(held, 32));
+    let o = early_list::requests_by_rows(m, marks, row, site, threads, ks, answers);
+    let left = o.site;
+    let records = o.threads;
+    hold_state(held, left, records);
+    held[layout::ANSWER] = number::wide(o.number);
+    held[layout::RAN] = o.granted;
+}
+
+// In 66 words of junk. A number of 255 tells that one past the first 64 was written to.
+pub fn ask_all_by_rows(
+    file: &[u8],
+    junk: u64,
+    held: &mut [u64; 640],
+    ks: &[u8],
+    answers: &mut [u64; 16384],
+) {
+    let mut words = [junk; 66];
+    ask_in(file, &mut words, held, ks, answers);
+    if words[64] != junk || words[65] != junk {
+        held[layout::ANSWER] = 255;
+    }
+}
+
+// In one word too few.
+pub fn ask_few_by_rows(
+    file: &[u8],
+    junk: u64,
+    held: &mut [u64; 640],
+    ks: &[u8],
+    answers: &mut [u64; 16384],
+) {
+    let mut words = [junk; 63];
+    ask_in(file, &mut words, held, ks, answers);
 }
 
 // The fresh state.

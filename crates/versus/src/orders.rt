@@ -257,7 +257,22 @@ fn one_by_one(
     now
 }
 
-// The same list in one call, from the state that it started at: every answer again, how many were granted, and the state at its end.
+// What a list in one call left: every answer again, how many were granted, and the state at its end.
+fn hold_whole(
+    totals: &mut [u64; 16],
+    answers: &[u64; 16384],
+    out: &[u64; 16384],
+    desk: &[u64; 640],
+    held: &[u64; 640],
+    l: List,
+) {
+    let mut left = layout::words_of(desk);
+    left[layout::RAN] = l.granted;
+    compare::hold(totals, l.seed, l.number, l.made, held, &left, layout::ALL);
+    compare::hold_answers(totals, l.seed, l.number, l.made, out, answers);
+}
+
+// The same list in one call, from the state that it started at: with the table, and by rows.
 fn whole(
     totals: &mut [u64; 16],
     ks: &[u8; 4096],
@@ -265,16 +280,27 @@ fn whole(
     file: &[u8],
     words: &[u64; 4096],
     desk: &[u64; 640],
-    held: &mut [u64; 640],
+    first: &[u64; 640],
     l: List,
 ) {
-    let mut out = [0u64; 16384];
     let asked = number::first(ks, l.made as usize);
-    library::ask_all(file, words, held, asked, &mut out);
-    let mut left = layout::words_of(desk);
-    left[layout::RAN] = l.granted;
-    compare::hold(totals, l.seed, l.number, l.made, held, &left, layout::ALL);
-    compare::hold_answers(totals, l.seed, l.number, l.made, &out, answers);
+    let mut out = [0u64; 16384];
+    let mut held = *first;
+    library::ask_all(file, words, &mut held, asked, &mut out);
+    hold_whole(totals, answers, &out, desk, &held, l);
+    let mut again = [0u64; 16384];
+    let mut state = *first;
+    library::ask_all_by_rows(file, junk(l), &mut state, asked, &mut again);
+    hold_whole(totals, answers, &again, desk, &state, l);
+}
+
+// What the words of a row hold beforehand: nothing, all ones, or some distance.
+fn junk(l: List) -> u64 {
+    match number::sum(l.seed / 3, l.number) % 3 {
+        0 => 0,
+        1 => NEVER,
+        _ => 1025,
+    }
 }
 
 // Demand 3 at the end of a list that started fresh. Where no thread is ready up to the horizon, variables and records are the plain
@@ -327,7 +353,7 @@ fn hold_list(
     let mut desk = [0u64; 640];
     start::set_up(file, seed, number, &mut desk);
     let mut held = layout::words_of(&desk);
-    let mut first = held;
+    let first = held;
     let mut ks = [0u8; 4096];
     let mut answers = [0u64; 16384];
     let start = List {
@@ -349,7 +375,7 @@ fn hold_list(
         &mut held,
         start,
     );
-    whole(totals, &ks, &answers, file, words, &desk, &mut first, l);
+    whole(totals, &ks, &answers, file, words, &desk, &first, l);
     crate::add(totals, LISTS, 1);
     if number < 3 {
         hold_ending(totals, file, words, &desk, &mut held, l);
@@ -414,6 +440,39 @@ fn refuse(
     compare::hold(totals, seed, 6, 0, held, &same, layout::ALL);
 }
 
+// By rows: the answer of one request, and all stays.
+fn hold_refused(
+    totals: &mut [u64; 16],
+    seed: u64,
+    held: &[u64; 640],
+    left: &mut [u64; 640],
+    answer: u64,
+    number: u64,
+) {
+    compare::hold_number(totals, seed, 7, 0, answer, number);
+    left[layout::ANSWER] = held[layout::ANSWER];
+    left[layout::RAN] = held[layout::RAN];
+    compare::hold(totals, seed, 7, 0, left, held, layout::ALL);
+}
+
+// An unfit state is refused with 11 by rows too.
+fn refuse_by_rows(totals: &mut [u64; 16], seed: u64, file: &[u8], held: &[u64; 640], k: u64) {
+    let mut left = *held;
+    let mut out = [0u64; 16384];
+    let asked = [(k % 256) as u8; 1];
+    library::ask_all_by_rows(file, seed, &mut left, &asked, &mut out);
+    hold_refused(totals, seed, held, &mut left, out[0], 11);
+}
+
+// 63 words are refused with 16.
+fn refuse_few(totals: &mut [u64; 16], seed: u64, file: &[u8], held: &[u64; 640], k: u64) {
+    let mut left = *held;
+    let mut out = [0u64; 16384];
+    let asked = [(k % 256) as u8; 1];
+    library::ask_few_by_rows(file, seed, &mut left, &asked, &mut out);
+    hold_refused(totals, seed, held, &mut left, out[0], 16);
+}
+
 // A state that is not fit; for some seeds one beside distances that are out of range.
 fn hold_unfit(totals: &mut [u64; 16], seed: u64, file: &[u8], words: &[u64; 4096]) {
     let mut desk = [0u64; 640];
@@ -427,6 +486,7 @@ fn hold_unfit(totals: &mut [u64; 16], seed: u64, file: &[u8], words: &[u64; 4096
     let n = at(&desk, simulator::SEGMENTS, 0);
     spoil(&mut held, seed / 4, n, simulator::byte(file, 9, 0));
     refuse(totals, seed, file, words, &mut held, k, 40);
+    refuse_by_rows(totals, seed, file, &held, k);
 }
 
 // The fresh state with no thread records lent, or one too few.
@@ -437,6 +497,15 @@ fn hold_short(totals: &mut [u64; 16], seed: u64, file: &[u8], words: &[u64; 4096
     let few = if seed % 2 == 0 { 0 } else { number::less(t) };
     let k = any_thread(seed, t);
     refuse(totals, seed, file, words, &mut held, k, few as usize);
+}
+
+// The fresh state with 63 words lent, for a thread of the model or for none.
+fn hold_few(totals: &mut [u64; 16], seed: u64, file: &[u8]) {
+    let mut desk = [0u64; 640];
+    let t = start::set_up(file, seed, 0, &mut desk);
+    let held = layout::words_of(&desk);
+    let k = if seed % 2 == 0 { t } else { 0 };
+    refuse_few(totals, seed, file, &held, k);
 }
 
 // The fresh state.
@@ -468,5 +537,6 @@ pub fn hold_lists(totals: &mut [u64; 16], seed: u64, bytes: &[u8; 16384], size: 
     hold_fresh(totals, seed, file, &desk);
     hold_unfit(totals, seed, file, &words);
     hold_short(totals, seed, file, &words);
+    hold_few(totals, seed, file);
     hold_all(totals, seed, file, &words, &g);
 }

@@ -1,61 +1,20 @@
--- `early_fit::is_unfit` meets its contract: the model, then the state, then the words.
+-- `early_fit::is_unfit` meets its contract: the model and the state, then the words.
 use mathlib.Core.Path.{refl, sym, _∙_}
-use native.Mathlib.Omega.{arith}
-use Rattle.model_rules.proofs.RuleLaws.{modelFault-counts, parts-broken, lack-broken, parts-whole, parts-linked}
-use Rattle.early_fit.proofs.FitnessLaws.{isUnfit-model, isUnfit-state, isUnfit-words}
 use borrow.Author.Needs.{needs}
+use Rattle.early_fit.proofs.FitnessLaws.{isUnfit-state, isUnfit-words}
 use Rattle.early_fit.proofs.is_unfit.Statement.{statement}
 use Rattle.early_fit.proofs.is_unfit.Tie as tie
 
 returns : tie.Need-returns
 returns c =
     let x = c .before .before .before .args in
-    isUnfit-model (x .m) (x .words .now) (x .site) (x .threads .at) (parts-broken (x .m) (λ e. c .if1 .taken (c .before .parts-fault .ensures ∙ e)))
+    isUnfit-state (x .m) (x .site) (x .threads .at) (x .words .now) (sym (c .if1 .taken) ∙ c .before .is-unfit-state .ensures)
 
 returns-2 : tie.Need-returns-2
 returns-2 c =
-    let left = c .before .before .before .before in
+    let left = c .before in
     let x = left .before .before .before .args in
-    let none = sym (left .before .parts-fault .ensures) ∙ left .if1 .left in
-    isUnfit-model (x .m) (x .words .now) (x .site) (x .threads .at)
-    (lack-broken (x .m) (λ e. c .if2 .taken (c .before .lack-in .ensures (x .m) refl refl (parts-linked (x .m) none (c .before .before .before .lacks .ensures)) ∙ e)))
-
--- a model that keeps the rules
-is-unfit-state-requires : tie.Need-is-unfit-state-requires
-is-unfit-state-requires c κs =
-    let left = c .before .before .before .before in
-    let m = left .before .before .before .args .m in
-    let none = sym (left .before .parts-fault .ensures) ∙ left .if1 .left in
-    let fit = parts-whole m none (sym (c .before .lack-in .ensures m refl refl (parts-linked m none (c .before .before .before .lacks .ensures))) ∙ c .if2 .left) in
-    let counts = modelFault-counts m fit in
-    (counts .threads, counts .segments)
-
-returns-3 : tie.Need-returns-3
-returns-3 c =
-    let second = c .before .before in
-    let left = second .before .before .before .before in
-    let x = left .before .before .before .args in
-    let none = sym (left .before .parts-fault .ensures) ∙ left .if1 .left in
-    let lacks = second .before .before .before .lacks .ensures in
-    let fit = parts-whole (x .m) none (sym (second .before .lack-in .ensures (x .m) refl refl (parts-linked (x .m) none lacks)) ∙ second .if2 .left) in
-    isUnfit-state (x .m) (x .words .now) (x .site) (x .threads .at) fit
-    (sym (c .if3 .taken) ∙ c .before .is-unfit-state .ensures (x .m) refl refl refl lacks)
-
-returns-4 : tie.Need-returns-4
-returns-4 c =
-    let third = c .before in
-    let second = third .before .before in
-    let left = second .before .before .before .before in
-    let x = left .before .before .before .args in
-    let none = sym (left .before .parts-fault .ensures) ∙ left .if1 .left in
-    let lacks = second .before .before .before .lacks .ensures in
-    let fit = parts-whole (x .m) none (sym (second .before .lack-in .ensures (x .m) refl refl (parts-linked (x .m) none lacks)) ∙ second .if2 .left) in
-    isUnfit-words (x .m) (x .words .now) (x .site) (x .threads .at) _ fit
-    (sym (third .if3 .left) ∙ third .before .is-unfit-state .ensures (x .m) refl refl refl lacks)
-    (c .is-unfit-table .ensures (x .m) refl)
+    isUnfit-words (x .m) (x .site) (x .threads .at) (x .words .now) _ (sym (left .if1 .left) ∙ left .before .is-unfit-state .ensures) (c .is-unfit-table .ensures (x .m) refl)
 
 pub is-unfit-spec : {M : Type 1} → statement M
-is-unfit-spec =
-    tie.close
-    (tie.spec (λ c κs. search needs) returns (λ c κs. search needs) (λ c κs. search needs) returns-2 is-unfit-state-requires returns-3
-    (λ c κs. search needs) returns-4)
+is-unfit-spec = tie.close (tie.spec (λ c κs. search needs) returns (λ c κs. search needs) returns-2)

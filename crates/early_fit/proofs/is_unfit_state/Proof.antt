@@ -1,14 +1,46 @@
--- `early_fit::is_unfit_state` meets its contract: the records, then the log.
+-- `early_fit::is_unfit_state` meets its contract: the model, then the records and the log.
 use mathlib.Core.Path.{refl, sym, _∙_}
+use native.Mathlib.Omega.{arith}
+use Rattle.model_rules.proofs.RuleLaws.{modelFault-counts, parts-broken, lack-broken, parts-whole, parts-linked}
+use Rattle.early_fit.proofs.FitnessLaws.{isUnfitState-model, isUnfitState-kept}
 use borrow.Author.Needs.{needs}
 use Rattle.early_fit.proofs.is_unfit_state.Statement.{statement}
 use Rattle.early_fit.proofs.is_unfit_state.Tie as tie
 
 returns : tie.Need-returns
-returns c = λ m o p q w. rw (← c .before .is-unfit-threads .ensures m o p q w, c .if1 .taken) refl
+returns c =
+    let x = c .before .before .args in
+    isUnfitState-model (x .m) (x .site) (x .threads .at) (parts-broken (x .m) (λ e. c .if1 .taken (c .before .parts-fault .ensures ∙ e)))
 
 returns-2 : tie.Need-returns-2
-returns-2 c = λ m o p q w. rw (← c .before .before .is-unfit-threads .ensures m o p q w, c .before .if1 .left) (c .is-unfit-log .ensures m q)
+returns-2 c =
+    let left = c .before .before .before .before in
+    let x = left .before .before .args in
+    let none = sym (left .before .parts-fault .ensures) ∙ left .if1 .left in
+    isUnfitState-model (x .m) (x .site) (x .threads .at)
+    (lack-broken (x .m) (λ e. c .if2 .taken (c .before .lack-in .ensures (x .m) refl refl (parts-linked (x .m) none (c .before .before .before .lacks .ensures)) ∙ e)))
+
+-- a model that keeps the rules
+are-unfit-requires : tie.Need-are-unfit-requires
+are-unfit-requires c κs =
+    let left = c .before .before .before .before in
+    let m = left .before .before .args .m in
+    let none = sym (left .before .parts-fault .ensures) ∙ left .if1 .left in
+    let fit = parts-whole m none (sym (c .before .lack-in .ensures m refl refl (parts-linked m none (c .before .before .before .lacks .ensures))) ∙ c .if2 .left) in
+    let counts = modelFault-counts m fit in
+    (counts .threads, counts .segments)
+
+returns-3 : tie.Need-returns-3
+returns-3 c =
+    let second = c .before in
+    let left = second .before .before .before .before in
+    let x = left .before .before .args in
+    let none = sym (left .before .parts-fault .ensures) ∙ left .if1 .left in
+    let lacks = second .before .before .before .lacks .ensures in
+    let fit = parts-whole (x .m) none (sym (second .before .lack-in .ensures (x .m) refl refl (parts-linked (x .m) none lacks)) ∙ second .if2 .left) in
+    isUnfitState-kept (x .m) (x .site) (x .threads .at) _ fit (c .are-unfit .ensures (x .m) refl refl refl lacks)
 
 pub is-unfit-state-spec : {M : Type 1} → statement M
-is-unfit-state-spec = tie.close (tie.spec (λ c κs. search needs) returns (λ c κs. search needs) returns-2)
+is-unfit-state-spec =
+    tie.close
+    (tie.spec (λ c κs. search needs) returns (λ c κs. search needs) (λ c κs. search needs) returns-2 are-unfit-requires returns-3)

@@ -1,0 +1,3 @@
+pub mod After
+pub mod Answered
+pub mod Shown

@@ -1,0 +1,3 @@
+pub mod AnswerWordLaws
+pub mod GoingLaws
+pub mod Edges

@@ -1,0 +1,2 @@
+mod NoteLaws
+mod StoreLaws
