@@ -1,4 +1,4 @@
-// Lists of requests: the proved replay and plain loops, round by round in one run, with the cost of a request and the share of grants later than the floor.
+// Lists of requests: the proved replay, with its table and by rows, and plain loops, round by round in one run, with the cost of a request and the share of grants later than the floor.
 use std::hint::black_box;
 use std::time::Instant;
 
@@ -9,6 +9,12 @@ extern "C" {
     fn teaselauger_fresh(file: *const u8, n: usize, variables: *mut u32, v: usize, log: *mut u64, l: usize, records: *mut u64, r: usize) -> u8;
     fn teaselauger_request(
         file: *const u8, n: usize, words: *const u64, w: usize, variables: *mut u32, v: usize, log: *mut u64, l: usize, records: *mut u64, r: usize, thread: u8, answer: *mut u64, a: usize,
+    ) -> u8;
+    fn teaselauger_replay_by_rows(
+        file: *const u8, n: usize, row: *mut u64, w: usize, threads: *const u8, t: usize, answers: *mut u64, a: usize, variables: *mut u32, v: usize, log: *mut u64, l: usize, records: *mut u64, r: usize,
+    ) -> u8;
+    fn teaselauger_request_by_rows(
+        file: *const u8, n: usize, row: *mut u64, w: usize, variables: *mut u32, v: usize, log: *mut u64, l: usize, records: *mut u64, r: usize, thread: u8, answer: *mut u64, a: usize,
     ) -> u8;
     fn native_replay(file: *const u8, n: usize, threads: *const u8, t: usize, answers: *mut u64, granted: *mut u64, ahead: *mut u64) -> u8;
 }
@@ -62,6 +68,54 @@ fn sounders() -> Vec<u8> {
     b
 }
 
+// The words are the table's, or the 64 of a row.
+struct Entry {
+    words: Vec<u64>,
+    by_rows: bool,
+    variables: [u32; 64],
+    log: [u64; 385],
+    records: [u64; 160],
+    answers: Vec<u64>,
+}
+
+impl Entry {
+    fn new(words: usize, by_rows: bool, requests: usize) -> Entry {
+        Entry { words: vec![u64::MAX; words], by_rows, variables: [0; 64], log: [0; 385], records: [0; 160], answers: vec![0; 4 * requests] }
+    }
+
+    // The nanoseconds of a list.
+    fn list(&mut self, b: &[u8], ks: &[u8]) -> f64 {
+        let call = if self.by_rows { teaselauger_replay_by_rows } else { teaselauger_replay };
+        let Entry { words, variables: v, log: l, records: r, answers: x, .. } = self;
+        let start = Instant::now();
+        let number = unsafe {
+            call(black_box(b.as_ptr()), b.len(), words.as_mut_ptr(), words.len(), ks.as_ptr(), ks.len(), x.as_mut_ptr(), x.len(), v.as_mut_ptr(), v.len(), l.as_mut_ptr(), l.len(), r.as_mut_ptr(), r.len())
+        };
+        let took = start.elapsed().as_nanos() as f64;
+        assert_eq!(number, 0);
+        took
+    }
+
+    // The nanoseconds of the same requests one at a time; the list was made before.
+    fn one_at_a_time(&mut self, b: &[u8], ks: &[u8]) -> f64 {
+        let Entry { words, by_rows, variables: v, log: l, records: r, answers: x } = self;
+        let mut answer = [0; 3];
+        let start = Instant::now();
+        assert_eq!(unsafe { teaselauger_fresh(b.as_ptr(), b.len(), v.as_mut_ptr(), v.len(), l.as_mut_ptr(), l.len(), r.as_mut_ptr(), r.len()) }, 0);
+        for (i, &k) in ks.iter().enumerate() {
+            let number = unsafe {
+                if *by_rows {
+                    teaselauger_request_by_rows(b.as_ptr(), b.len(), words.as_mut_ptr(), words.len(), v.as_mut_ptr(), v.len(), l.as_mut_ptr(), l.len(), r.as_mut_ptr(), r.len(), k, answer.as_mut_ptr(), 3)
+                } else {
+                    teaselauger_request(b.as_ptr(), b.len(), words.as_ptr(), words.len(), v.as_mut_ptr(), v.len(), l.as_mut_ptr(), l.len(), r.as_mut_ptr(), r.len(), k, answer.as_mut_ptr(), 3)
+                }
+            };
+            assert_eq!(number as u64, x[4 * i]);
+        }
+        start.elapsed().as_nanos() as f64
+    }
+}
+
 fn main() {
     println!("| site | threads, segments | requests | granted | refused 14 | later than the floor | proved, ns a request | native, ns a request | proved / native | one at a time, ns a request |");
     println!("|---|---|---|---|---|---|---|---|---|---|");
@@ -69,42 +123,39 @@ fn main() {
         ("small, own variables", 2u8, 4, site(2, false)), ("small, shared", 2, 4, site(2, true)), ("medium, own", 8, 16, site(8, false)), ("medium, shared", 8, 16, site(8, true)),
         ("full, own", 32, 64, site(32, false)), ("full, shared", 32, 64, site(32, true)), ("slow sounders", 8, 20, sounders()),
     ];
+    let mut rows = String::new();
     for (name, t, segments, b) in sites {
         let n = 2000usize;
         let mut seed = 1u64;
         let ks: Vec<u8> = (0..n).map(|_| { seed = seed.wrapping_mul(6364136223846793005).wrapping_add(1442695040888963407); ((seed >> 33) % t as u64) as u8 }).collect();
-        let (mut x, mut y) = (vec![0u64; 4 * n], vec![0u64; 4 * n]);
-        let (mut words, mut vs, mut log, mut records) = (vec![0u64; 4096], vec![0u32; 64], vec![0u64; 385], vec![0u64; 160]);
+        let (mut full, mut by_rows, mut y) = (Entry::new(segments * segments, false, n), Entry::new(64, true, n), vec![0u64; 4 * n]);
         let (mut granted, mut ahead) = (0u64, 0u64);
-        let mut proved = |n: usize, x: &mut Vec<u64>| unsafe {
-            let start = Instant::now();
-            assert_eq!(teaselauger_replay(black_box(b.as_ptr()), b.len(), words.as_mut_ptr(), 4096, ks.as_ptr(), n, x.as_mut_ptr(), x.len(), vs.as_mut_ptr(), 64, log.as_mut_ptr(), 385, records.as_mut_ptr(), 160), 0);
-            start.elapsed().as_nanos() as f64
-        };
         let mut native = |n: usize, y: &mut Vec<u64>| unsafe {
             let start = Instant::now();
             assert_eq!(native_replay(black_box(b.as_ptr()), b.len(), ks.as_ptr(), n, y.as_mut_ptr(), &mut granted, &mut ahead), 0);
             start.elapsed().as_nanos() as f64
         };
-        let mut least = [f64::INFINITY; 4];
+        // Of each: no requests, then all.
+        let mut least = [f64::INFINITY; 6];
         for _ in 0..15 {
-            least[0] = least[0].min(proved(0, &mut x));
-            least[1] = least[1].min(native(0, &mut y));
-            least[2] = least[2].min(proved(n, &mut x));
-            least[3] = least[3].min(native(n, &mut y));
+            let took = [full.list(&b, &[]), native(0, &mut y), by_rows.list(&b, &[]), full.list(&b, &ks), native(n, &mut y), by_rows.list(&b, &ks)];
+            least = std::array::from_fn(|i| least[i].min(took[i]));
         }
-        assert!(x == y, "the answers of {name} differ");
-        let (start, mut answer) = (Instant::now(), [0u64; 3]);
-        unsafe {
-            assert_eq!(teaselauger_fresh(b.as_ptr(), b.len(), vs.as_mut_ptr(), 64, log.as_mut_ptr(), 385, records.as_mut_ptr(), 160), 0);
-            for (i, &k) in ks.iter().enumerate() {
-                let number = teaselauger_request(b.as_ptr(), b.len(), words.as_ptr(), 4096, vs.as_mut_ptr(), 64, log.as_mut_ptr(), 385, records.as_mut_ptr(), 160, k, answer.as_mut_ptr(), 3);
-                assert_eq!(number as u64, x[4 * i]);
-            }
+        assert!(full.answers == y && full.answers == by_rows.answers, "the answers of {name} differ");
+        let mut ones = [f64::INFINITY; 2];
+        for _ in 0..5 {
+            let took = [full.one_at_a_time(&b, &ks), by_rows.one_at_a_time(&b, &ks)];
+            ones = std::array::from_fn(|i| ones[i].min(took[i]));
         }
-        let one = start.elapsed().as_nanos() as f64 / n as f64;
-        let (p, q) = ((least[2] - least[0]) / n as f64, (least[3] - least[1]) / n as f64);
-        let held = (0..n).filter(|i| x[4 * i] == 14).count();
+        let [p, q, z] = std::array::from_fn(|i| (least[3 + i] - least[i]) / n as f64);
+        let [one, one_by_rows] = ones.map(|x| x / n as f64);
+        let held = (0..n).filter(|i| y[4 * i] == 14).count();
         println!("| {name} | {t}, {segments} | {n} | {granted} | {held} | {:.0} % | {p:.0} | {q:.0} | {:.2} | {one:.0} |", 100.0 * ahead as f64 / granted as f64, p / q);
+        let lent = [&full, &by_rows].map(|entry| 8 * entry.words.len());
+        rows += &format!("| {name} | {} | {} | {p:.0} | {z:.0} | {:.2} | {one:.0} | {one_by_rows:.0} | {:.2} |\n", lent[0], lent[1], z / p, one_by_rows / one);
     }
+    println!("\nBy rows:\n");
+    println!("| site | bytes lent, full | by rows | in a list, ns a request, full | by rows | by rows / full | one at a time, ns a request, full | by rows | by rows / full |");
+    println!("|---|---|---|---|---|---|---|---|---|");
+    print!("{rows}");
 }

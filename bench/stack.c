@@ -1,4 +1,5 @@
-/* The deepest stack that each call of the library needs, in KB, over the model files named: a call runs on a stack that was painted before. */
+/* The deepest stack that each call of the library needs, in KB, over the model files named: a call runs on a stack that was painted before, and
+   on the fresh state. */
 #include "teaselauger.h"
 #include <pthread.h>
 #include <stdio.h>
@@ -9,7 +10,7 @@ enum { STACK = 1 << 22, PAINT = 0xa5, LIST = 256 };
 
 static uint8_t file[65536], out[TEASELAUGER_SHEET], threads[LIST], *stack;
 static size_t n;
-static uint64_t words[TEASELAUGER_WORDS], log_words[TEASELAUGER_LOG], records[TEASELAUGER_RECORDS], answers[4 * LIST];
+static uint64_t words[TEASELAUGER_WORDS], row[TEASELAUGER_ROW], log_words[TEASELAUGER_LOG], records[TEASELAUGER_RECORDS], answers[4 * LIST];
 static uint32_t variables[TEASELAUGER_VARIABLES], numbers[TEASELAUGER_MODEL];
 static uint8_t again[TEASELAUGER_FILE];
 
@@ -26,6 +27,15 @@ static void call_request(void) {
 static void call_replay(void) {
   teaselauger_replay(file, n, words, TEASELAUGER_WORDS, threads, LIST, answers, 4 * LIST, variables, TEASELAUGER_VARIABLES, log_words, TEASELAUGER_LOG,
                      records, TEASELAUGER_RECORDS);
+}
+static void call_load_by_rows(void) { teaselauger_load_by_rows(file, n, row, TEASELAUGER_ROW); }
+static void call_request_by_rows(void) {
+  teaselauger_request_by_rows(file, n, row, TEASELAUGER_ROW, variables, TEASELAUGER_VARIABLES, log_words, TEASELAUGER_LOG, records,
+                              TEASELAUGER_RECORDS, 0, answers, 3);
+}
+static void call_replay_by_rows(void) {
+  teaselauger_replay_by_rows(file, n, row, TEASELAUGER_ROW, threads, LIST, answers, 4 * LIST, variables, TEASELAUGER_VARIABLES, log_words,
+                             TEASELAUGER_LOG, records, TEASELAUGER_RECORDS);
 }
 static void call_model(void) { teaselauger_model(file, n, numbers, TEASELAUGER_MODEL); }
 static void call_write(void) { teaselauger_write(numbers, TEASELAUGER_MODEL, again, sizeof again, answers, 1); }
@@ -50,8 +60,22 @@ static size_t depth(void (*call)(void)) {
 }
 
 int main(int argc, char **argv) {
-  static void (*const calls[])(void) = {call_read, call_load, call_sheet, call_fresh, call_request, call_replay, call_model, call_write};
-  static const char *const names[] = {"read", "load", "sheet", "fresh", "request", "replay", "model", "write"};
+  static const struct {
+    const char *name;
+    void (*call)(void);
+  } calls[] = {
+      {"read", call_read},
+      {"load", call_load},
+      {"load_by_rows", call_load_by_rows},
+      {"sheet", call_sheet},
+      {"fresh", call_fresh},
+      {"request", call_request},
+      {"request_by_rows", call_request_by_rows},
+      {"replay", call_replay},
+      {"replay_by_rows", call_replay_by_rows},
+      {"model", call_model},
+      {"write", call_write},
+  };
   enum { CALLS = sizeof calls / sizeof *calls };
   size_t most[CALLS] = {0};
   stack = aligned_alloc(4096, STACK);
@@ -63,9 +87,10 @@ int main(int argc, char **argv) {
     n = fread(file, 1, sizeof file, f);
     fclose(f);
     for (int i = 0; i < CALLS; i++) {
-      size_t d = depth(calls[i]) - none;
+      call_fresh();
+      size_t d = depth(calls[i].call) - none;
       if (d > most[i]) most[i] = d;
     }
   }
-  for (int i = 0; i < CALLS; i++) printf("| %s | %zu |\n", names[i], (most[i] + 1023) / 1024);
+  for (int i = 0; i < CALLS; i++) printf("| %s | %zu |\n", calls[i].name, (most[i] + 1023) / 1024);
 }

@@ -4,24 +4,32 @@
  * Every call answers for every argument. A number of refusal is 1 to 18 (docs/REFUSALS.md lists them, docs/RULES.md says exactly
  * when each applies); 0 says that there is none. Of several that apply the first is answered, in one order in all calls: the reader's
  * number of the file (1 to 9, 17, 18); 11 for a buffer of the state, of the answer or of the answers that is too short, or for numbers that are
- * none of a state; 16 for too few words of a table that is to be made; then a request's own numbers, 11, 10, 12, 13, 14, 15. Beside
- * each call stands after the word ORDER which of these it has. On a refusal every buffer holds what it held.
+ * none of a state; 16 for too few words of a table that is to be made, or, reading a file or making a list by rows, of a row; then a
+ * request's own numbers, 11, by rows 16 for too few words of a row, 10, 12, 13, 14, 15. Beside each call stands after the word ORDER which of
+ * these it has. On a refusal every buffer holds what it held, but for the words of a row.
+ *
+ * There are two entries. The full one keeps a file's distance table, N x N words: 8 x N x N bytes, 32,768 at most. The entry by rows
+ * (teaselauger_load_by_rows, teaselauger_request_by_rows, teaselauger_replay_by_rows) keeps none: it asks for 64 words, 512 bytes, and
+ * works out in them the distances from one segment when they are needed, which takes time (bench/requests.rs measures it). Numbers, answers
+ * and the state after a request are the same, and a state of the one entry is a state of the other. The 64 words ARE LEFT FREE: they may hold
+ * anything before and after every call, a refused one included, and nothing hangs on what they hold.
  *
  * +-----------------------------------------------------------------------------------------------------------------------------+
  * | WORDS AND A STATE ARE USED AS GIVEN. A request does NOT know which file they were made from: of words and state it tests    |
  * | ranges alone (11). Words or a state of ANOTHER MODEL that are in range get AN ANSWER FOR THAT MIXTURE, NOT AN ERROR; so do  |
  * | words or a state that the caller has written to. To keep file, words and state together is THE CALLER'S PART.               |
  * |                                                                                                                             |
- * | Demand 3 (docs/RULES.md, 8: every order ends alike) speaks ONLY of words that teaselauger_load made of THE SAME FILE and of |
- * | a state that BEGAN WITH teaselauger_fresh OF THE SAME FILE and that NOTHING BUT teaselauger_request, with that file and     |
- * | those words, has changed. teaselauger_replay makes words and state itself.                                                  |
+ * | Demand 3 (docs/RULES.md, 8: every order ends alike) speaks ONLY of a state that BEGAN WITH teaselauger_fresh OF THE SAME    |
+ * | FILE and that NOTHING BUT requests with that file have changed: teaselauger_request with words that teaselauger_load made   |
+ * | of THE SAME FILE, or teaselauger_request_by_rows, which needs no words of the file; the two may take turns.                 |
+ * | teaselauger_replay makes words and state itself, and teaselauger_replay_by_rows the state.                                  |
  * +-----------------------------------------------------------------------------------------------------------------------------+
  *
  * The caller keeps every buffer. A pointer is never null and points to as many elements as the count beside it says; no two
  * buffers that a call is given overlap. Words past those that a call speaks of are neither read nor written.
  *
  * The library holds no state, uses no heap, and reads and writes nothing but the buffers: several threads may call it at once,
- * each with its own buffers. A call needs at most 186 KB of stack (bench/stack.sh measures it).
+ * each with its own buffers. A call needs at most 216 KB of stack (bench/stack.sh measures it).
  *
  * Link target/staticlib/libexports.a (`rt staticlib exports` makes it), x86-64.
  */
@@ -38,6 +46,8 @@ extern "C" {
 /* Words of the distance table for the largest model. A model of N segments needs N x N; the word from segment r to s is at
  * r * N + s: time * 1,024 + delta, or all ones for never. */
 #define TEASELAUGER_WORDS 4096
+/* Words of a row, whatever the model; those past them are not touched. */
+#define TEASELAUGER_ROW 64
 /* Variables, whatever their number in the model; those past it are 0 in a fresh state and are not touched. */
 #define TEASELAUGER_VARIABLES 64
 /* The log: the count, then 128 places of three words: event, time, delta. Places past the count are not looked at, and are 0 after a
@@ -73,6 +83,10 @@ uint8_t teaselauger_read(const uint8_t *file, size_t file_count);
  * ORDER: the reader's number; 16 for fewer than N x N words. */
 uint8_t teaselauger_load(const uint8_t *file, size_t file_count, uint64_t *words, size_t words_count);
 
+/* Whether a model file can be used by rows, with so many words of a row: 0 where it can. No word is read or written.
+ * ORDER: the reader's number; 16 for fewer than 64 words. */
+uint8_t teaselauger_load_by_rows(const uint8_t *file, size_t file_count, const uint64_t *row, size_t row_count);
+
 /* The sheet of the plain run with a budget, or the line `refused NUMBER`, as the program plainrun prints it: how many bytes of out
  * it takes. If out is too short it is not written, and the answer is 0. It is never a number of refusal. */
 size_t teaselauger_sheet(const uint8_t *file, size_t file_count, uint64_t budget, uint8_t *out, size_t out_count);
@@ -93,6 +107,14 @@ uint8_t teaselauger_request(const uint8_t *file, size_t file_count, const uint64
                             size_t variables_count, uint64_t *log, size_t log_count, uint64_t *records, size_t records_count,
                             uint8_t thread, uint64_t *answer, size_t answer_count);
 
+/* The same request by rows: as teaselauger_request with the words that teaselauger_load made of the file, but with no words of the file.
+ * The 64 words of the row are left free, also on a refusal. THE STATE IS USED AS GIVEN (see above).
+ * ORDER: the reader's number; 11 as teaselauger_request has it for buffers and numbers; the request's own 11, with no words to test; 16 for
+ * fewer than 64 words; 10, 12, 13, 14, 15. */
+uint8_t teaselauger_request_by_rows(const uint8_t *file, size_t file_count, uint64_t *row, size_t row_count, uint32_t *variables,
+                                    size_t variables_count, uint64_t *log, size_t log_count, uint64_t *records, size_t records_count,
+                                    uint8_t thread, uint64_t *answer, size_t answer_count);
+
 /* A list of requests from the fresh state on. 0 where the list was made: answers has 4 words for each request (its number, 0 where it
  * was granted, then segment, time and delta, 0 where it was refused), words the distance table, and the other buffers the state after
  * the list.
@@ -101,6 +123,14 @@ uint8_t teaselauger_request(const uint8_t *file, size_t file_count, const uint64
 uint8_t teaselauger_replay(const uint8_t *file, size_t file_count, uint64_t *words, size_t words_count, const uint8_t *threads,
                            size_t threads_count, uint64_t *answers, size_t answers_count, uint32_t *variables,
                            size_t variables_count, uint64_t *log, size_t log_count, uint64_t *records, size_t records_count);
+
+/* The same list by rows: the same answers and the same state after it, and no distance table. The 64 words of the row are left free, also
+ * on a refusal.
+ * ORDER: the reader's number; 11 for a buffer of the state that is too short, or for fewer than 4 words of answers for each request;
+ * 16 for fewer than 64 words. */
+uint8_t teaselauger_replay_by_rows(const uint8_t *file, size_t file_count, uint64_t *row, size_t row_count, const uint8_t *threads,
+                                   size_t threads_count, uint64_t *answers, size_t answers_count, uint32_t *variables,
+                                   size_t variables_count, uint64_t *log, size_t log_count, uint64_t *records, size_t records_count);
 
 /* The model of a file as numbers, TEASELAUGER_NUMBERS(N, T) of them, zero past each n, with TEASELAUGER_UNUSED for each unused port: 0
  * where they are there.

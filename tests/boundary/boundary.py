@@ -5,6 +5,8 @@
 
 Of each file: the sheet and the line of a refusal (teaselauger_sheet, teaselauger_read), the distance table (teaselauger_load), and a
 list of requests, as a list (teaselauger_replay) and one at a time (teaselauger_fresh, teaselauger_request), against what replayrun prints.
+Each list and each request is made by rows too (teaselauger_replay_by_rows, teaselauger_request_by_rows), in 64 words of junk, and must answer and
+leave the same; of those 64 words nothing is asked.
 
 Of each call on it: every buffer exactly long enough, longer, one element short and empty, and every two one element short, with the number
 that the header's ORDER has for them. Of a request also: numbers that no state has, numbers that just fit the model and that just do
@@ -32,8 +34,13 @@ PARAMETERS = {
     "fresh": ["file", "variables", "log", "records"],
     "request": ["file", "words", "variables", "log", "records", "thread", "answer"],
     "replay": ["file", "words", "threads", "answers", "variables", "log", "records"],
+    "load_by_rows": ["file", "row"],
+    "request_by_rows": ["file", "row", "variables", "log", "records", "thread", "answer"],
+    "replay_by_rows": ["file", "row", "threads", "answers", "variables", "log", "records"],
 }
-ONLY_READ = {"request": ["file", "words"], "replay": ["file", "threads"]}
+ONLY_READ = {"request": ["file", "words"], "replay": ["file", "threads"], "load_by_rows": ["file", "row"], "replay_by_rows": ["file", "threads"]}
+# the calls that leave the first 64 words of the row free
+LEAVE_FREE = {"request_by_rows", "replay_by_rows"}
 SCALARS = {"budget": ctypes.c_uint64, "thread": ctypes.c_uint8}
 ELEMENTS = {"file": "B", "variables": "I", "threads": "B", "out": "B"}
 
@@ -45,7 +52,11 @@ ORDER = {
     "fresh": [FILE, (STATE, 11)],
     "request": [FILE, (STATE + ("answer", "words"), 11)],
     "replay": [FILE, (STATE + ("answers",), 11), (("words",), 16)],
+    "load_by_rows": [FILE, (("row",), 16)],
+    "request_by_rows": [FILE, (STATE + ("answer",), 11), (("row",), 16)],
+    "replay_by_rows": [FILE, (STATE + ("answers",), 11), (("row",), 16)],
 }
+REQUESTS = ["request", "request_by_rows"]
 
 
 def filled(p, value, size):
@@ -54,7 +65,9 @@ def filled(p, value, size):
 
 
 # what the buffers hold before a call that writes to them
-UNUSED = {p: filled(p, 9, size) for p, size in [("words", 4096), ("variables", 64), ("log", 385), ("records", 160), ("answer", 3)]}
+UNUSED = {p: filled(p, 9, size) for p, size in [("words", 4096), ("row", 64), ("variables", 64), ("log", 385), ("records", 160), ("answer", 3)]}
+# what a row may hold before a call, beside what the last one left: all ones, distances of another model, numbers that are no distance
+JUNK = [filled("row", NEVER, 64), array("Q", [1024 * i for i in range(64)]), array("Q", [(2 * i + 1) * 0x9E3779B97F4A7C15 % 2**64 for i in range(64)])]
 
 
 def library():
@@ -85,10 +98,11 @@ class Lent:
 
 
 class Calls:
-    """The calls on one file. Each gives its number and what its buffers hold after it."""
+    """The calls on one file. Each gives its number and what its buffers hold after it; a row that is left free is not among them."""
 
     def __init__(self, lib, file):
         self.lib, self.file = lib, array("B", file)
+        self.left, self.turn = JUNK[0], 0
 
     def call(self, name, given):
         arguments, lent, given = [], {}, {"file": self.file, **given}
@@ -102,7 +116,26 @@ class Calls:
         after = {p: x.values() for p, x in lent.items()}
         assert all(after[p] == given[p] for p in ONLY_READ.get(name, ["file"])), "%s: what is only read is written to" % name
         after.pop("file", None)
+        if name in LEAVE_FREE:
+            row = after.pop("row")
+            assert row[64:] == given["row"][64:], "%s: words past the 64 are written to" % name
+            self.left = row[:64] if len(row) >= 64 else self.left
         return number, after
+
+    def junk(self):
+        """64 words, in turn of each kind."""
+        self.turn += 1
+        return [*JUNK, self.left][self.turn % 4]
+
+    def same_by_rows(self, name, number, given, after, what):
+        """The call by rows, in 64 words of junk and in 65, must answer the number and leave the same; in 63 it must answer 11 or 16. How many calls."""
+        name += "_by_rows"
+        for more in [0, 1]:
+            answered, left = self.call(name, {**given, "row": self.junk() + filled("row", 5, more)})
+            assert answered == number, "%s, %s: %d, must be %d" % (name, what, answered, number)
+            assert all(left[p] == after[p] for p in left), "%s, %s: not what the full entry leaves" % (name, what)
+        self.refused(name, 11 if number == 11 else 16, {**given, "row": self.left[:63]}, what + ", 63 words")
+        return 3
 
     def refused(self, name, number, given, what):
         """The call must answer the number and leave every buffer as it was."""
@@ -213,23 +246,27 @@ def check_refused(c, number, threads):
 
 def check_longer(c, name, exact, after):
     """With longer buffers a call makes the same, and leaves what lies past it."""
-    past = {p: filled(p, 3, 0 if p == "threads" else 5) for p in after}
-    longer = c.made(name, {**exact, **{p: exact[p] + past[p] for p in after}}, "longer buffers")
-    for p in after:
+    past = {p: filled(p, 3, 0 if p == "threads" else 5) for p in PARAMETERS[name] if p in after or p == "row"}
+    longer = c.made(name, {**exact, **{p: exact[p] + past[p] for p in past}}, "longer buffers")
+    for p in longer:
         assert longer[p] == after[p] + past[p], "%s: longer %s" % (name, p)
 
 
 def check_replay(c, file, t, threads):
-    """A list against replayrun, and the words against load: the buffers, exactly long enough, before and after."""
+    """A list against replayrun, by rows against the list, and the words against load: the buffers, exactly long enough, before and after."""
     exact = {**UNUSED, "words": filled("words", 9, segments(file) ** 2), "records": filled("records", 9, 5 * t), "threads": threads}
     exact["answers"] = filled("answers", 9, 4 * len(threads))
     after = c.made("replay", exact, "exact buffers")
     lines = [*answer_lines(threads, after["answers"]), *state_lines(file[8], t, *[after[p] for p in STATE])]
     assert "\n".join(lines + [""]).encode() == program("replayrun", file, *map(str, threads)), "replay"
     check_longer(c, "replay", exact, after)
+    for _ in JUNK:
+        c.same_by_rows("replay", 0, exact, after, "exact buffers")
+    check_longer(c, "replay_by_rows", exact, c.made("replay_by_rows", exact, "exact buffers"))
     words = c.made("load", exact, "exact words")
     assert words["words"] == after["words"], "load"
     check_longer(c, "load", exact, words)
+    check_longer(c, "load_by_rows", exact, c.made("load_by_rows", exact, "64 words"))
     return exact, after
 
 
@@ -237,13 +274,14 @@ def check_fresh(c, exact):
     """The fresh state, which a list of no requests leaves too."""
     after = c.made("fresh", exact, "exact buffers")
     check_longer(c, "fresh", exact, after)
-    nothing = c.made("replay", {**exact, "threads": filled("threads", 0, 0), "answers": filled("answers", 0, 0)}, "no requests")
-    assert all(nothing[p] == after[p] for p in STATE), "a list of no requests"
+    for name in ["replay", "replay_by_rows"]:
+        nothing = c.made(name, {**exact, "threads": filled("threads", 0, 0), "answers": filled("answers", 0, 0)}, "no requests")
+        assert all(nothing[p] == after[p] for p in STATE), "%s, no requests" % name
     return after
 
 
 def check_requests(c, words, fresh, threads, after):
-    """The list's requests one at a time: the answers and the state of the list. The states on the way, and the numbers."""
+    """The list's requests one at a time, by rows too: the answers and the state of the list. The states on the way, and the numbers."""
     state, states, numbers = fresh, [], []
     for i, k in enumerate(threads):
         states.append(state)
@@ -251,11 +289,14 @@ def check_requests(c, words, fresh, threads, after):
         number, *grant = after["answers"][4 * i:4 * i + 4]
         if number:
             c.refused("request", number, given, "request %d" % i)
+            c.same_by_rows("request", number, given, given, "request %d" % i)
         else:
             made = c.made("request", given, "request %d" % i)
             assert list(made["answer"]) == grant, "request %d" % i
+            c.same_by_rows("request", 0, given, made, "request %d" % i)
             state = {p: made[p] for p in STATE}
-            check_longer(c, "request", given, made)
+            for name in REQUESTS:
+                check_longer(c, name, given, made)
         numbers.append(number)
     assert all(state[p] == after[p] for p in STATE), "state after requests"
     return states, numbers
@@ -311,38 +352,47 @@ def changed(given, p, at, value):
 
 
 def check_out_of_range(c, r, file, t, given):
-    """What is refused with 11 whatever the thread; just below it a number is used as given. How many calls."""
+    """What is refused with 11 whatever the thread and the row; just below it a number is used as given. How many calls."""
     least, unused = [*edges(r, file, segments(file), t, given)], [("records", 5 * k, s) for k, s in lacking(file)]
     wrong = [*no_states(r, t, given), *least, ("log", 0, 255), ("words", r.randrange(segments(file) ** 2), NEVER - 1)]
     wrong += r.sample(unused, min(len(unused), 9))
+    calls = 0
     for p, at, value in wrong:
         for k in [given["thread"], 255]:
-            c.refused("request", 11, {**changed(given, p, at, value), "thread": k}, "%s %d is %d" % (p, at, value))
+            spoilt, what = {**changed(given, p, at, value), "thread": k}, "%s %d is %d" % (p, at, value)
+            c.refused("request", 11, spoilt, what)
+            calls += 1 + (c.same_by_rows("request", 11, spoilt, spoilt, what) if p != "words" else 0)
     fits = [x for x in least if (x[0], x[1], x[2] - 1) not in unused]
     for p, at, value in fits:
-        number, _ = c.call("request", changed(given, p, at, value - 1))
-        assert number != 11, "request, %s %d is %d: 11" % (p, at, value - 1)
-        c.refused("request", 10, {**changed(given, p, at, value - 1), "thread": t}, "%s %d is %d, thread T" % (p, at, value - 1))
-    return 2 * len(wrong) + 2 * len(fits)
+        fitting, what = changed(given, p, at, value - 1), "%s %d is %d" % (p, at, value - 1)
+        number, after = c.call("request", fitting)
+        assert number != 11, "request, %s: 11" % what
+        calls += 1 + (c.same_by_rows("request", number, fitting, after, what) if p != "words" else 0)
+        beyond, what = {**fitting, "thread": t}, what + ", thread T"
+        c.refused("request", 10, beyond, what)
+        calls += 1 + c.same_by_rows("request", 10, beyond, beyond, what)
+    return calls
 
 
 def check_unjudged(c, r, file, t, given):
     """What lies past the model's own changes no answer, and stays; a grant alone sets places past the log's count. How many calls."""
     given = {**given, "words": given["words"] + filled("words", 0, 1), "records": given["records"] + filled("records", 0, 5)}
-    (number, after), trials = c.call("request", given), [*unjudged(r, segments(file), t, given)]
+    (number, after), trials, calls = c.call("request", given), [*unjudged(r, segments(file), t, given)], 1
     for p, at, value in trials:
-        answered, left = c.call("request", changed(given, p, at, value))
+        trial, what = changed(given, p, at, value), "%s %d is %d" % (p, at, value)
+        answered, left = c.call("request", trial)
         expected = after if p == "log" and number == 0 else changed(after, p, at, value)
-        assert answered == number, "request, %s %d is %d: %d, must be %d" % (p, at, value, answered, number)
-        assert left == expected, "request, %s %d is %d: not left as it was" % (p, at, value)
-    return 1 + len(trials)
+        assert answered == number, "request, %s: %d, must be %d" % (what, answered, number)
+        assert left == expected, "request, %s: not left as it was" % what
+        calls += 1 + (c.same_by_rows("request", number, trial, expected, what) if p != "words" else 0)
+    return calls
 
 
 def check_short(c, r, file, t, exact, given):
     """Short buffers and refused calls on an accepted file, the requests on a given state. How many calls."""
     calls = check_out_of_range(c, r, file, t, given) + check_unjudged(c, r, file, t, given)
     for name in ORDER:
-        calls += check_lengths(c, name, 0, given if name == "request" else exact)
+        calls += check_lengths(c, name, 0, given if name in REQUESTS else exact)
     return calls + check_refused(Calls(c.lib, file[:-1]), 1, exact["threads"])
 
 

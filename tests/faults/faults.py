@@ -32,16 +32,16 @@ FAULTS = [
     (PLAIN, "the limit counted in", "plain_execute/src/lib.rt", "if x < next / 16777216 {", "if x <= next / 16777216 {"),
     (PLAIN, "the ports of thread 0", "plain_rows/src/lib.rt", "code[2176 + 8 * turn + p] % 256", "code[2176 + p] % 256"),
     (PLAIN, "a row keeps the first segment with a port", "plain_rows/src/lib.rt", "if held[turn] == s {", "if held[turn] < 64 {"),
-    (EARLY, "a hazard of the segments that threads are in now alone", "early_ahead/src/lib.rt", "        if conflicts_at(row, own, names, ports, s) {", "        if conflicts_at(row, own, names, ports, s) && s == q {"),
+    (EARLY, "a hazard of the segments that threads are in now alone", "early_hazard/src/lib.rt", "        if conflicts_at(marked, own, names, ports, s) {", "        if conflicts_at(marked, own, names, ports, s) && s * k == p {"),
     (EARLY, "the first notification logged, not the least", "early_log/src/lib.rt", "best = clock::least_of(Bound::At(c), best);", "best = Bound::At(c);"),
     (EARLY, "a notification in the cycle of the wait is lost", "early_log/src/lib.rt", "return !clock::is_before(c, since);", "return clock::is_before(since, c);"),
     (EARLY, "a forecast equal to the logged cycle", "early_deliver/src/lib.rt", "xs, t, e) < early_ahead::limit_of(c) {", "xs, t, e) <= early_ahead::limit_of(c) {"),
-    (EARLY, "96 counted in", "early_request/src/lib.rt", "    if n <= 96 {", "    if n < 96 {"),
+    (EARLY, "96 counted in", "early_answer/src/lib.rt", "    if n <= 96 {", "    if n < 96 {"),
     (EARLY, "notifications at the floor dropped", "early_log/src/lib.rt", "    clock::is_before(c, f)\n", "    !clock::is_before(f, c)\n"),
     (EARLY, "equal cycles are no hazard", "early_ahead/src/lib.rt", "        return j < i;\n", "        return false;\n"),
     (EARLY, "a conflict through a port only if both use one", "early_ports/src/lib.rt", "(a.ported | b.ported)", "(a.ported & b.ported)"),
     (EARLY, "a wait raises no bound", "early_ahead/src/lib.rt", "raised_limit(since, forecast(", "raised_limit(0, forecast("),
-    (EARLY, "a granted segment with ports not mapped", "early_request/src/lib.rt", "run_grant(reach, t, own, ", "run_grant(reach, t, g, "),
+    (EARLY, "a granted segment with ports not mapped", "early_answer/src/lib.rt", "run_grant(reach, t, own, ", "run_grant(reach, t, g, "),
 ]
 
 

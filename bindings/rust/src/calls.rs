@@ -2,6 +2,7 @@
 //! taken from, and no two that are written to overlap, as they come from exclusive borrows.
 
 const WORDS: usize = 4096;
+pub const ROW: usize = 64;
 pub const VARIABLES: usize = 64;
 pub const LOG: usize = 385;
 pub const RECORDS: usize = 160;
@@ -30,6 +31,17 @@ impl Kept {
     pub fn zero() -> Kept {
         Kept { variables: [0; VARIABLES], log: [0; LOG], records: [0; RECORDS] }
     }
+
+    pub fn lent(&mut self) -> Lent<'_> {
+        Lent { variables: &mut self.variables, log: &mut self.log, records: &mut self.records }
+    }
+}
+
+/// The buffers of a state, of any length.
+pub struct Lent<'a> {
+    pub variables: &'a mut [u32],
+    pub log: &'a mut [u64],
+    pub records: &'a mut [u64],
 }
 
 // Pointer, then count, as bindings/c/teaselauger.h has them.
@@ -48,6 +60,15 @@ mod c {
         ) -> u8;
         pub fn teaselauger_replay(
             file: *const u8, n: usize, words: *mut u64, w: usize, threads: *const u8, t: usize, answers: *mut u64, a: usize,
+            variables: *mut u32, v: usize, log: *mut u64, l: usize, records: *mut u64, r: usize,
+        ) -> u8;
+        pub fn teaselauger_load_by_rows(file: *const u8, n: usize, row: *const u64, w: usize) -> u8;
+        pub fn teaselauger_request_by_rows(
+            file: *const u8, n: usize, row: *mut u64, w: usize, variables: *mut u32, v: usize, log: *mut u64, l: usize,
+            records: *mut u64, r: usize, thread: u8, answer: *mut u64, a: usize,
+        ) -> u8;
+        pub fn teaselauger_replay_by_rows(
+            file: *const u8, n: usize, row: *mut u64, w: usize, threads: *const u8, t: usize, answers: *mut u64, a: usize,
             variables: *mut u32, v: usize, log: *mut u64, l: usize, records: *mut u64, r: usize,
         ) -> u8;
         pub fn teaselauger_model(file: *const u8, n: usize, numbers: *mut u32, m: usize) -> u8;
@@ -112,6 +133,37 @@ pub fn replay(file: &[u8], words: &mut Words, threads: &[u8], kept: &mut Kept) -
     let number = unsafe {
         c::teaselauger_replay(
             file.as_ptr(), file.len(), words.as_mut_ptr(), words.len(), threads.as_ptr(), threads.len(),
+            answers.as_mut_ptr(), answers.len(), variables.as_mut_ptr(), variables.len(), log.as_mut_ptr(), log.len(),
+            records.as_mut_ptr(), records.len(),
+        )
+    };
+    (number, answers)
+}
+
+pub fn load_by_rows(file: &[u8], row: &[u64]) -> u8 {
+    unsafe { c::teaselauger_load_by_rows(file.as_ptr(), file.len(), row.as_ptr(), row.len()) }
+}
+
+/// A row of any length is taken here, as are the buffers of the state: a short one is refused.
+#[rustfmt::skip]
+pub fn request_by_rows(file: &[u8], row: &mut [u64], lent: Lent, thread: u8, answer: &mut [u64; ANSWER]) -> u8 {
+    let Lent { variables, log, records } = lent;
+    unsafe {
+        c::teaselauger_request_by_rows(
+            file.as_ptr(), file.len(), row.as_mut_ptr(), row.len(), variables.as_mut_ptr(), variables.len(),
+            log.as_mut_ptr(), log.len(), records.as_mut_ptr(), records.len(), thread, answer.as_mut_ptr(), answer.len(),
+        )
+    }
+}
+
+/// With the answers, as `replay`.
+#[rustfmt::skip]
+pub fn replay_by_rows(file: &[u8], row: &mut [u64], threads: &[u8], lent: Lent) -> (u8, Vec<u64>) {
+    let Lent { variables, log, records } = lent;
+    let mut answers = vec![0; 4 * threads.len()];
+    let number = unsafe {
+        c::teaselauger_replay_by_rows(
+            file.as_ptr(), file.len(), row.as_mut_ptr(), row.len(), threads.as_ptr(), threads.len(),
             answers.as_mut_ptr(), answers.len(), variables.as_mut_ptr(), variables.len(), log.as_mut_ptr(), log.len(),
             records.as_mut_ptr(), records.len(),
         )

@@ -1,8 +1,8 @@
 //! Safe wrappers of the Teaselauger scheduler library. `docs/REFUSALS.md` has the numbers of refusal, `docs/RULES.md` every rule.
 //!
 //! The library itself uses words and a state as it is given them, of whatever model they are. Here a [`Site`] owns a file's bytes and
-//! the words made of them, a [`State`] knows its site and can be read but not written to, and a request with a state of another site
-//! is [`RequestError::OtherSite`]. So every answer is one that demand 3 (`docs/RULES.md`, 8) speaks of.
+//! the words made of them (opened by rows it has none and needs none), a [`State`] knows its site and can be read but not written to, and
+//! a request with a state of another site is [`RequestError::OtherSite`]. So every answer is one that demand 3 (`docs/RULES.md`, 8) speaks of.
 //!
 //! Every buffer is an array of the length that the library asks, so that a buffer that is too short (11 or 16) cannot be handed in.
 //! The library holds no state: any thread may call it, on a stack of 256 KB or more.
@@ -22,7 +22,7 @@ mod calls;
 #[cfg(test)]
 mod tests;
 
-use calls::{Kept, Words, ANSWER, FILE, LOG, MODEL, RECORDS, SHEET, VARIABLES};
+use calls::{Kept, Words, ANSWER, FILE, LOG, MODEL, RECORDS, ROW, SHEET, VARIABLES};
 use std::{error, fmt, sync::Arc};
 
 /// A number of refusal, 1 to 18.
@@ -102,6 +102,11 @@ pub struct Grant {
 // The library writes a segment and a delta that are in range.
 fn grant(segment: u64, time: u64, delta: u64) -> Grant {
     Grant { segment: segment as u8, time, delta: delta as u32 }
+}
+
+// Of the four words of a list's answer.
+fn answered(a: &[u64]) -> Result<Grant, Refused> {
+    checked(a[0] as u8).map(|()| grant(a[1], a[2], a[3]))
 }
 
 /// Whether a model file keeps the rules.
@@ -243,17 +248,19 @@ impl Drawing {
     }
 }
 
+// By rows there are no words.
 struct Opened {
     file: Box<[u8]>,
-    words: Box<Words>,
+    words: Option<Box<Words>>,
 }
 
-/// A model file that was accepted, with its distance table. A clone is the same site and costs nothing.
+/// A model file that was accepted, with its distance table or, for small machines, without it ([`Site::by_rows`]). A clone is the same
+/// site and costs nothing.
 ///
-/// Sites of equal bytes are equal, also where they were opened apart, and a state of the one is a state of the other: the library
-/// keeps nothing between calls and its words follow from the bytes, so that both give the same answers. Whoever opens a file
-/// once for each thread, or again later, expects to go on with the state at hand; to tell the openings apart would refuse that
-/// and rule out no wrong answer.
+/// Sites of equal bytes are equal, also where they were opened apart or the one by rows, and a state of the one is a state of the other:
+/// the library keeps nothing between calls, its words follow from the bytes, and by rows it works out the same distances, so that both
+/// give the same answers. Whoever opens a file once for each thread, or again later, expects to go on with the state at hand; to tell
+/// the openings apart would refuse that and rule out no wrong answer.
 ///
 /// ```
 /// use teaselauger::Site;
@@ -275,7 +282,7 @@ impl Eq for Site {}
 
 impl fmt::Debug for Site {
     fn fmt(&self, f: &mut fmt::Formatter) -> fmt::Result {
-        write!(f, "Site({} bytes)", self.0.file.len())
+        write!(f, "Site({} bytes{})", self.0.file.len(), if self.0.words.is_some() { "" } else { ", by rows" })
     }
 }
 
@@ -290,7 +297,27 @@ impl Site {
     pub fn new(file: &[u8]) -> Result<Site, Refused> {
         let mut words = calls::no_words();
         checked(calls::load(file, &mut words))?;
-        Ok(Site(Arc::new(Opened { file: file.into(), words })))
+        Ok(Site(Arc::new(Opened { file: file.into(), words: Some(words) })))
+    }
+
+    /// Reads a model file and makes no table: a request or a list works out one segment's distances at a time, when they are needed, in 512
+    /// bytes of stack. A site of [`Site::new`] keeps 32,768 bytes, a list on it takes as many again while it is made, and requests on
+    /// large sites are faster.
+    ///
+    /// ```
+    /// use teaselauger::{Refused, Site};
+    /// let file = std::fs::read("../../models/m.model")?;
+    /// let (small, full) = (Site::by_rows(&file)?, Site::new(&file)?);
+    /// assert_eq!(small.replay(&[1, 0, 0]), full.replay(&[1, 0, 0]));
+    /// // The same bytes: a state goes from the one to the other.
+    /// let mut state = full.fresh();
+    /// assert!(small == full && small.request(&mut state, 1).is_ok() && full.request(&mut state, 0).is_ok());
+    /// assert_eq!(Site::by_rows(&[]), Err(Refused(1)));
+    /// # Ok::<(), Box<dyn std::error::Error>>(())
+    /// ```
+    pub fn by_rows(file: &[u8]) -> Result<Site, Refused> {
+        checked(calls::load_by_rows(file, &[0; ROW]))?;
+        Ok(Site(Arc::new(Opened { file: file.into(), words: None })))
     }
 
     // Of an accepted file, in buffers of full length, the library refuses neither a fresh state nor a list.
@@ -326,8 +353,11 @@ impl Site {
         if state.site != *self {
             return Err(RequestError::OtherSite);
         }
-        let mut answer = [0; ANSWER];
-        checked(calls::request(&self.0.file, &self.0.words, &mut state.kept, thread, &mut answer))?;
+        let (file, mut answer) = (&self.0.file, [0; ANSWER]);
+        checked(match &self.0.words {
+            Some(words) => calls::request(file, words, &mut state.kept, thread, &mut answer),
+            None => calls::request_by_rows(file, &mut [0; ROW], state.kept.lent(), thread, &mut answer),
+        })?;
         let [segment, time, delta] = answer;
         Ok(grant(segment, time, delta))
     }
@@ -342,9 +372,11 @@ impl Site {
     /// # Ok::<(), Box<dyn std::error::Error>>(())
     /// ```
     pub fn replay(&self, threads: &[u8]) -> (Vec<Result<Grant, Refused>>, State) {
-        let (mut words, mut kept) = (calls::no_words(), Box::new(Kept::zero()));
-        let (number, answers) = calls::replay(&self.0.file, &mut words, threads, &mut kept);
-        let answered = |a: &[u64]| checked(a[0] as u8).map(|()| grant(a[1], a[2], a[3]));
+        let (file, mut kept) = (&self.0.file, Box::new(Kept::zero()));
+        let (number, answers) = match self.0.words {
+            Some(_) => calls::replay(file, &mut calls::no_words(), threads, &mut kept),
+            None => calls::replay_by_rows(file, &mut [0; ROW], threads, kept.lent()),
+        };
         (answers.chunks(4).map(answered).collect(), self.state(number, kept))
     }
 }

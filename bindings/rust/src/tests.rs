@@ -1,4 +1,5 @@
 use super::*;
+use calls::Lent;
 
 fn file(name: &str) -> Vec<u8> {
     std::fs::read(format!("{}/../../models/{name}.model", env!("CARGO_MANIFEST_DIR"))).expect("a model file")
@@ -6,6 +7,15 @@ fn file(name: &str) -> Vec<u8> {
 
 fn site(name: &str) -> Site {
     Site::new(&file(name)).expect("an accepted file")
+}
+
+/// With its table, and by rows.
+fn both_of(bytes: &[u8]) -> [Site; 2] {
+    [Site::new(bytes), Site::by_rows(bytes)].map(|site| site.expect("an accepted file"))
+}
+
+fn both(name: &str) -> [Site; 2] {
+    both_of(&file(name))
 }
 
 fn refused(number: u8) -> Result<Grant, RequestError> {
@@ -27,48 +37,51 @@ fn issue(site: &Site, state: &mut State) -> Vec<u8> {
 
 #[test]
 fn fresh_is_the_start() {
-    let m = site("m");
-    let state = m.fresh();
-    assert_eq!(state.variables(), &[0; 64]);
-    assert_eq!(state.log(), &[0; 385]);
-    assert_eq!(state.records()[..10], [0, 2, 0, 0, 0, 2, 2, 0, 0, 0]);
-    assert!(state.records()[10..].iter().all(|&word| word == 0));
-    assert_eq!(state, m.fresh());
+    for m in both("m") {
+        let state = m.fresh();
+        assert_eq!(state.variables(), &[0; 64]);
+        assert_eq!(state.log(), &[0; 385]);
+        assert_eq!(state.records()[..10], [0, 2, 0, 0, 0, 2, 2, 0, 0, 0]);
+        assert!(state.records()[10..].iter().all(|&word| word == 0));
+        assert_eq!(state, m.fresh());
+    }
 }
 
 #[test]
 fn request_grants_or_leaves_the_state() {
-    let m = site("m");
-    let mut state = m.fresh();
-    assert_eq!(m.request(&mut state, 0), granted(0, 0, 0));
-    let before = state.clone();
-    assert_eq!(m.request(&mut state, 0), refused(14));
-    assert_eq!(m.request(&mut state, 2), refused(10));
-    assert_eq!(m.request(&mut state, 255), refused(10));
-    assert_eq!(state, before);
-    assert_eq!(m.request(&mut state, 1), granted(2, 0, 0));
-    assert_eq!(m.request(&mut state, 1), granted(3, 0, 1));
+    for m in both("m") {
+        let mut state = m.fresh();
+        assert_eq!(m.request(&mut state, 0), granted(0, 0, 0));
+        let before = state.clone();
+        assert_eq!(m.request(&mut state, 0), refused(14));
+        assert_eq!(m.request(&mut state, 2), refused(10));
+        assert_eq!(m.request(&mut state, 255), refused(10));
+        assert_eq!(state, before);
+        assert_eq!(m.request(&mut state, 1), granted(2, 0, 0));
+        assert_eq!(m.request(&mut state, 1), granted(3, 0, 1));
+    }
 }
 
 #[test]
 fn requests_end_as_the_plain_run() {
-    let m = site("m");
-    let mut state = m.fresh();
-    assert_eq!(issue(&m, &mut state).len(), 254);
-    assert_eq!(state.variables()[..3], [126; 3]);
-    assert_eq!(state.records()[..10], [1, 0, 0, 1260, 0, 3, 3, 0, 1250, 1]);
-    assert_eq!([m.request(&mut state, 0), m.request(&mut state, 1)], [refused(12), refused(12)]);
-
-    let sooner = site("case02");
-    let mut state = sooner.fresh();
-    issue(&sooner, &mut state);
-    assert_eq!(sooner.request(&mut state, 0), refused(13));
+    for m in both("m") {
+        let mut state = m.fresh();
+        assert_eq!(issue(&m, &mut state).len(), 254);
+        assert_eq!(state.variables()[..3], [126; 3]);
+        assert_eq!(state.records()[..10], [1, 0, 0, 1260, 0, 3, 3, 0, 1250, 1]);
+        assert_eq!([m.request(&mut state, 0), m.request(&mut state, 1)], [refused(12), refused(12)]);
+    }
+    for sooner in both("case02") {
+        let mut state = sooner.fresh();
+        issue(&sooner, &mut state);
+        assert_eq!(sooner.request(&mut state, 0), refused(13));
+    }
 }
 
 #[test]
 fn replay_is_the_requests_in_turn() {
-    for name in ["m", "case06", "case07", "case08", "calls"] {
-        let (site, threads) = (site(name), [1, 0, 0, 3, 1, 0, 2, 1, 0, 0, 1, 40]);
+    for site in ["m", "case06", "case07", "case08", "calls"].into_iter().flat_map(both) {
+        let threads = [1, 0, 0, 3, 1, 0, 2, 1, 0, 0, 1, 40];
         let (answers, replayed) = site.replay(&threads);
         let mut state = site.fresh();
         let asked: Vec<_> = threads.iter().map(|&k| site.request(&mut state, k)).collect();
@@ -80,11 +93,13 @@ fn replay_is_the_requests_in_turn() {
 
 #[test]
 fn a_state_goes_on_after_a_replay() {
-    let m = site("m");
-    let (_, mut state) = m.replay(&[0, 1]);
-    let rest = issue(&m, &mut state);
-    let whole: Vec<u8> = [0, 1].into_iter().chain(rest).collect();
-    assert_eq!(m.replay(&whole).1, state);
+    let [full, rows] = &both("m");
+    for (one, other) in [(full, full), (rows, rows), (full, rows), (rows, full)] {
+        let (_, mut state) = one.replay(&[0, 1]);
+        let rest = issue(other, &mut state);
+        let whole: Vec<u8> = [0, 1].into_iter().chain(rest).collect();
+        assert_eq!(one.replay(&whole).1, state);
+    }
 }
 
 #[test]
@@ -93,7 +108,7 @@ fn refused_files_have_no_site() {
     longer.push(0);
     let shorter = file("m")[..115].to_vec();
     for (bytes, number) in [(vec![], 1), (shorter, 1), (vec![4, 0, 4, 0], 2), (file("refused7"), 7), (longer, 9)] {
-        assert_eq!(Site::new(&bytes), Err(Refused(number)));
+        assert_eq!([Site::new(&bytes), Site::by_rows(&bytes)], [Err(Refused(number)), Err(Refused(number))]);
         assert_eq!(read(&bytes), Err(Refused(number)));
         assert_eq!(sheet(&bytes, 1_000_000), format!("refused {number}\n"));
     }
@@ -102,17 +117,23 @@ fn refused_files_have_no_site() {
 
 #[test]
 fn a_state_of_another_site_is_an_error() {
-    let (one, other) = (site("case06"), site("case07"));
-    assert_ne!(one, other);
-    for mut state in [one.fresh(), one.replay(&[0]).1, one.replay(&[0, 0, 1, 1]).1] {
-        let before = state.clone();
-        // Every number of the state is in range for the other model: the library itself answers for the mixture.
-        assert_ne!(calls::request(&other.0.file, &other.0.words, &mut state.kept.clone(), 1, &mut [0; ANSWER]), 11);
-        for thread in 0..=255 {
-            assert_eq!(other.request(&mut state, thread), Err(RequestError::OtherSite));
+    let (other, mut words) = (file("case07"), calls::no_words());
+    assert_eq!(calls::load(&other, &mut words), 0);
+    for one in both("case06") {
+        for mut state in [one.fresh(), one.replay(&[0]).1, one.replay(&[0, 0, 1, 1]).1] {
+            let before = state.clone();
+            // Every number of the state is in range for the other model: the library itself answers for the mixture.
+            assert_ne!(calls::request(&other, &words, &mut state.kept.clone(), 1, &mut [0; ANSWER]), 11);
+            assert_ne!(calls::request_by_rows(&other, &mut [0; ROW], state.kept.clone().lent(), 1, &mut [0; ANSWER]), 11);
+            for site in both("case07") {
+                assert_ne!(site, one);
+                for thread in 0..=255 {
+                    assert_eq!(site.request(&mut state, thread), Err(RequestError::OtherSite));
+                }
+            }
+            assert_eq!(state, before);
+            assert_eq!(state.site(), &one);
         }
-        assert_eq!(state, before);
-        assert_eq!(state.site(), &one);
     }
     // The same numbers are not the same state.
     assert_eq!(site("case02").fresh().records(), site("case03").fresh().records());
@@ -121,17 +142,19 @@ fn a_state_of_another_site_is_an_error() {
 
 #[test]
 fn sites_of_equal_bytes_are_the_same() {
-    let (one, again) = (site("m"), site("m"));
-    let mut state = one.fresh();
-    assert_eq!(state, again.fresh());
-    for k in [0, 1, 1, 0] {
-        let (mut a, mut b) = (state.clone(), state.clone());
-        assert_eq!(one.request(&mut a, k), again.request(&mut b, k));
-        assert_eq!(a, b);
-        state = b;
+    let one = site("m");
+    for again in both("m") {
+        let mut state = one.fresh();
+        assert_eq!(state, again.fresh());
+        for k in [0, 1, 1, 0] {
+            let (mut a, mut b) = (state.clone(), state.clone());
+            assert_eq!(one.request(&mut a, k), again.request(&mut b, k));
+            assert_eq!(a, b);
+            state = b;
+        }
+        assert_eq!(one.clone(), again);
+        assert_eq!(issue(&one, &mut state), issue(&again, &mut again.replay(&[0, 1, 1, 0]).1));
     }
-    assert_eq!(one.clone(), again);
-    assert_eq!(issue(&one, &mut state), issue(&again, &mut again.replay(&[0, 1, 1, 0]).1));
 }
 
 #[test]
@@ -166,15 +189,22 @@ fn a_drawing_has_the_ports_of_its_threads() {
 
 #[test]
 fn threads_conflict_through_ports() {
-    let own = site("loops");
-    assert_eq!(own.replay(&[1, 1, 1]).0, [(0, 0), (0, 3), (1, 6)].map(|(segment, time)| Ok(Grant { segment, time, delta: 0 })));
+    for own in both("loops") {
+        assert_eq!(own.replay(&[1, 1, 1]).0, [(0, 0), (0, 3), (1, 6)].map(|(segment, time)| Ok(Grant { segment, time, delta: 0 })));
+    }
     // With one counter for both, thread 1 has to wait for thread 0.
+    for one in both_of(&one_counter()) {
+        let (answers, state) = one.replay(&[1, 0, 1]);
+        assert_eq!(answers.into_iter().map(Result::err).collect::<Vec<_>>(), [Some(Refused(14)), None, None]);
+        assert_eq!(state.variables()[..2], [2, 0]);
+    }
+}
+
+/// The loops, with one counter for both.
+fn one_counter() -> Vec<u8> {
     let mut drawing = Drawing::open(&file("loops")).expect("an accepted file");
     drawing.set_ports(1, drawing.ports(0));
-    let one = Site::new(&drawing.save().expect("a file")).expect("an accepted file");
-    let (answers, state) = one.replay(&[1, 0, 1]);
-    assert_eq!(answers.into_iter().map(Result::err).collect::<Vec<_>>(), [Some(Refused(14)), None, None]);
-    assert_eq!(state.variables()[..2], [2, 0]);
+    drawing.save().expect("a file")
 }
 
 /// 64 segments of 32 statements, 32 threads with ports, 64 variables, 32 events: the largest model.
@@ -205,39 +235,164 @@ fn no_buffer_is_too_short() {
     let drawing = Drawing::open(&bytes).expect("16 is for too few numbers");
     assert_eq!(drawing.numbers.len(), 6_949);
     assert_eq!(drawing.save(), Ok(bytes.clone()));
-    let site = Site::new(&bytes).expect("16 is for a short table");
-    let mut state = site.fresh();
-    for k in 0..32 {
-        assert_eq!(site.request(&mut state, k), granted(2 * k + 1, 0, 0));
+    for site in both_of(&bytes) {
+        let mut state = site.fresh();
+        for k in 0..32 {
+            assert_eq!(site.request(&mut state, k), granted(2 * k + 1, 0, 0));
+        }
+        for k in 0..32 {
+            assert_eq!(site.request(&mut state, k), granted((2 * k + 2) % 64, 1_000_000_000, 0));
+            assert_eq!(site.request(&mut state, k), refused(13));
+        }
+        let threads: Vec<u8> = (0..10_000u32).map(|i| (i % 256) as u8).collect();
+        let (answers, replayed) = site.replay(&threads);
+        assert_eq!(answers.len(), threads.len());
+        assert!(answers.iter().all(|a| !matches!(a, Err(Refused(11 | 16)))));
+        assert_eq!(replayed, state);
     }
-    for k in 0..32 {
-        assert_eq!(site.request(&mut state, k), granted((2 * k + 2) % 64, 1_000_000_000, 0));
-        assert_eq!(site.request(&mut state, k), refused(13));
-    }
-    let threads: Vec<u8> = (0..10_000u32).map(|i| (i % 256) as u8).collect();
-    let (answers, replayed) = site.replay(&threads);
-    assert_eq!(answers.len(), threads.len());
-    assert!(answers.iter().all(|a| !matches!(a, Err(Refused(11 | 16)))));
-    assert_eq!(replayed, state);
     let text = sheet(&bytes, 1_000_000);
     assert_eq!((text.lines().count(), text.lines().last()), (64 + 32 + 1, Some("n 64")));
 }
 
 #[test]
 fn any_thread_may_call_on_256_kb_of_stack() {
-    let work = || {
-        let site = Site::new(&largest()).expect("an accepted file");
+    let work = |open: fn(&[u8]) -> Result<Site, Refused>| {
+        let site = open(&largest()).expect("an accepted file");
         let mut state = site.fresh();
         (issue(&site, &mut state), site.replay(&[0; 100]).1, sheet(&largest(), 100), state)
     };
-    let small = || std::thread::Builder::new().stack_size(256 * 1024).spawn(work).expect("a thread");
-    let (one, other) = (small(), small());
-    assert_eq!(one.join().expect("enough stack"), other.join().expect("enough stack"));
+    let small = |open| std::thread::Builder::new().stack_size(256 * 1024).spawn(move || work(open)).expect("a thread");
+    let [one, other, rows] = [Site::new, Site::new, Site::by_rows].map(small).map(|thread| thread.join().expect("enough stack"));
+    assert_eq!(one, other);
+    assert_eq!(one, rows);
+}
+
+/// What the 64 words may hold before a call: all ones, a pattern, what the last call left.
+fn junk(turn: usize, left: Vec<u64>) -> Vec<u64> {
+    match turn % 3 {
+        0 => vec![u64::MAX; ROW],
+        1 => (1..=ROW as u64).map(|i| i.wrapping_mul(0x9e37_79b9_7f4a_7c15)).collect(),
+        _ => left,
+    }
+}
+
+/// A list by rows, as a list and one at a time, in 64 words of junk: the answers and the states of the table.
+fn same_by_rows(bytes: &[u8], threads: &[u8]) {
+    let site = Site::new(bytes).expect("an accepted file");
+    let (expected, after) = site.replay(threads);
+    let mut row = vec![0; ROW];
+    for turn in 0..3 {
+        row = junk(turn, row);
+        let mut kept = Kept::zero();
+        let (number, answers) = calls::replay_by_rows(bytes, &mut row, threads, kept.lent());
+        assert_eq!((number, answers.chunks(4).map(answered).collect()), (0, expected.clone()));
+        assert_eq!(kept, *after.kept);
+    }
+    for first in 0..3 {
+        let mut state = site.fresh();
+        let mut kept = state.kept.clone();
+        for (i, &k) in threads.iter().enumerate() {
+            row = junk(first + i, row);
+            let mut answer = [0; ANSWER];
+            let number = calls::request_by_rows(bytes, &mut row, kept.lent(), k, &mut answer);
+            assert_eq!(answered(&[number as u64, answer[0], answer[1], answer[2]]), expected[i]);
+            assert_eq!(site.request(&mut state, k), expected[i].map_err(RequestError::from));
+            assert_eq!(kept, state.kept);
+        }
+        assert_eq!(kept, after.kept);
+    }
+}
+
+#[test]
+fn nothing_hangs_on_the_words_of_a_row() {
+    for name in ["m", "case02", "case06", "case07", "case08", "calls", "loops"] {
+        let bytes = file(name);
+        for threads in [&[][..], &[0], &[0, 0, 1, 1], &[0, 1, 1, 0], &[1, 1, 1], &[1, 0, 1], &[0, 0, 2, 255, 1, 1]] {
+            same_by_rows(&bytes, threads);
+        }
+        same_by_rows(&bytes, &[1, 0, 0, 3, 1, 0, 2, 1, 0, 0, 1, 40]);
+        let site = site(name);
+        let whole = issue(&site, &mut site.fresh());
+        same_by_rows(&bytes, &whole);
+        same_by_rows(&bytes, &whole.iter().flat_map(|&k| [k ^ 1, k]).collect::<Vec<u8>>());
+    }
+    same_by_rows(&one_counter(), &[1, 0, 1]);
+    same_by_rows(&largest(), &(0..32).chain((0..32).flat_map(|k| [k, k])).collect::<Vec<u8>>());
+    same_by_rows(&largest(), &[0; 100]);
+}
+
+/// A request by rows on M's fresh state, with so many words of a row and of records. A refusal leaves the state, and no call touches words
+/// past the 64.
+fn ask_m(words: usize, records: usize, thread: u8) -> u8 {
+    let mut kept = site("m").fresh().kept;
+    let (before, mut row, mut answer) = (kept.clone(), vec![7; words], [9; ANSWER]);
+    let lent = kept.lent();
+    let lent = Lent { records: &mut lent.records[..records], ..lent };
+    let number = calls::request_by_rows(&file("m"), &mut row, lent, thread, &mut answer);
+    assert!(row.iter().skip(ROW).all(|&word| word == 7));
+    assert!(number == 0 || kept == before && answer == [9; ANSWER]);
+    number
+}
+
+#[test]
+fn a_row_has_64_words() {
+    // M has two threads, and so ten words of records.
+    for (words, records, thread, number) in [
+        (64, 160, 1, 0),
+        (65, 160, 1, 0),
+        (64, 10, 1, 0),
+        (63, 160, 1, 16),
+        (0, 160, 1, 16),
+        (63, 160, 9, 16),
+        (63, 10, 255, 16),
+        (64, 160, 9, 10),
+        (65, 160, 2, 10),
+        (63, 0, 1, 11),
+        (63, 0, 9, 11),
+        (0, 9, 1, 11),
+        (64, 0, 9, 11),
+        (65, 9, 1, 11),
+    ] {
+        assert_eq!(ask_m(words, records, thread), number, "{words} words, {records} words of records, thread {thread}");
+    }
+    // 12 comes after it.
+    let mut waits = site("m").replay(&[1]).1.kept;
+    for (words, number) in [(63, 16), (64, 12)] {
+        assert_eq!(calls::request_by_rows(&file("m"), &mut vec![0; words], waits.lent(), 1, &mut [0; ANSWER]), number);
+    }
+    // A number that no state has, and one that does not fit the model, before it.
+    for (place, value) in [(1, 4), (0, 4)] {
+        let mut kept = site("m").fresh().kept;
+        kept.records[place] = value;
+        for words in [63, 64] {
+            assert_eq!(calls::request_by_rows(&file("m"), &mut vec![0; words], kept.lent(), 9, &mut [0; ANSWER]), 11);
+        }
+    }
+}
+
+#[test]
+fn a_file_or_a_list_by_rows_takes_64_words() {
+    let mut longer = file("m");
+    longer.push(0);
+    let files = [(vec![], 1), (vec![4, 0, 4, 0], 2), (file("refused7"), 7), (longer, 9), (file("m"), 0), (largest(), 0)];
+    for (bytes, number) in files {
+        for (words, short) in [(0, true), (63, true), (64, false), (65, false)] {
+            let (mut kept, mut row) = (Kept::zero(), vec![7; words]);
+            let expected = if number == 0 && short { 16 } else { number };
+            assert_eq!(calls::load_by_rows(&bytes, &row), expected);
+            assert_eq!(calls::replay_by_rows(&bytes, &mut row, &[0, 9], kept.lent()).0, expected);
+            assert!(row.iter().skip(ROW).all(|&word| word == 7));
+            assert!(expected == 0 || kept == Kept::zero());
+            // 11 for no records after the reader's number, and before 16.
+            let lent = Lent { records: &mut [], ..kept.lent() };
+            assert_eq!(calls::replay_by_rows(&bytes, &mut row, &[0, 9], lent).0, if number == 0 { 11 } else { number });
+        }
+    }
 }
 
 #[test]
 fn errors_say_what_happened() {
     assert_eq!(RequestError::from(Refused(15)).to_string(), "refused 15");
     assert_eq!(RequestError::OtherSite.to_string(), "the state belongs to another site");
-    assert_eq!(format!("{:?}", site("m")), "Site(116 bytes)");
+    assert_eq!(both("m").map(|site| format!("{site:?}")), ["Site(116 bytes)", "Site(116 bytes, by rows)"]);
 }
