@@ -11,7 +11,7 @@ use Rattle.clock.specs.Cycle.{cycleAt, isSame}
 use Rattle.clock.specs.Advance.{_⊕_}
 use Rattle.model.specs.declared.Model.{Model}
 use Rattle.model.specs.declared.State.{State}
-use Rattle.model.specs.declared.State.the-variants.{Ended, Overrun, Ready, Waiting}
+use Rattle.model.specs.declared.State.the-variants.{Ended, Overrun, Ready, Waiting, Running}
 use Rattle.model.specs.declared.Thread.{Thread}
 use Rattle.model.specs.Record.{threadAt}
 use Rattle.model.specs.Effect.{effectOf}
@@ -49,24 +49,28 @@ isEnded c (Ended d) = isSame c d
 isEnded c (Overrun d) = false
 isEnded c (Ready d) = false
 isEnded c (Waiting e d) = false
+isEnded c (Running d) = false
 
 abbrev pub isOverrun : Cycle → State → Bool
 isOverrun c (Ended d) = false
 isOverrun c (Overrun d) = isSame c d
 isOverrun c (Ready d) = false
 isOverrun c (Waiting e d) = false
+isOverrun c (Running d) = false
 
 abbrev pub isReady : Cycle → State → Bool
 isReady c (Ended d) = false
 isReady c (Overrun d) = false
 isReady c (Ready d) = isSame c d
 isReady c (Waiting e d) = false
+isReady c (Running d) = false
 
 abbrev pub isWaiting : ℕ → Cycle → State → Bool
 isWaiting w c (Ended d) = false
 isWaiting w c (Overrun d) = false
 isWaiting w c (Ready d) = false
 isWaiting w c (Waiting e d) = eqb w e && isSame c d
+isWaiting w c (Running d) = false
 
 abbrev pub isBound : Cycle → Bound → Bool
 isBound c Never = false

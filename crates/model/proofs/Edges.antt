@@ -19,13 +19,13 @@ use Rattle.model.specs.declared.Closer.the-variants.{End, Time, Event}
 use Rattle.model.specs.declared.Segment.{Segment}
 use Rattle.model.specs.declared.Start.{Start}
 use Rattle.model.specs.declared.Model.{Model}
-use Rattle.model.specs.declared.State.the-variants.{Ended, Overrun, Ready, Waiting}
+use Rattle.model.specs.declared.State.the-variants.{Ended, Overrun, Ready, Waiting, Running}
 use Rattle.model.specs.Refusal as refusal
 use Rattle.model.specs.Limits.{largestTime, cutTime, recordTime, isUpToHorizon, isBoundUpToHorizon}
 use Rattle.model.specs.Port.{noPorts, mapSegment, mapStatements, mapped, isPort}
 use Rattle.model.specs.Values.{noStatement, noSegment, noStart, noModel, segmentAt, segmentFor, startAt, bodyOf, withHead, withSegment, withStart, portsAt}
 use Rattle.model.specs.Statement.{executeOp, execute, notifiedBy}
-use Rattle.model.specs.Record.{threadAt, isLive, readyCycle, nothing, awaits, awaitedBy, cycleOf}
+use Rattle.model.specs.Record.{threadAt, isLive, isRunning, readyCycle, liveCycle, nothing, awaits, awaitedBy, cycleOf}
 use Rattle.model.specs.Effect.{nextOf, closedAt, effectIn, effectOf, heldState, heldEvents, withOp}
 use Rattle.model.specs.Footprint.{writesOp, readsOp, writes, reads, testsNext, tests, writesOf, usesOf, writesIn, usesIn, has, listedIn, notifiesIn, namesPort}
 use Rattle.model.specs.Rules.{headFault, choiceFault, testFault, closerFault, opFault, statementsFault, segmentFault, segmentsFault, countsFault, leavesModel, anySegmentLeaves, anyStartLeaves, targetsFault, modelFault, isName, startsFault, portsFault, linksFault, lackFault}
@@ -170,37 +170,56 @@ events-in-order = (refl, refl)
 
 -- Records
 
--- ready and waiting threads
+-- ready, waiting and running threads
 live :
     (isLive (Ended (cycleAt 1 2)) ≡ false) ×
     (isLive (Overrun (cycleAt 1 2)) ≡ false) ×
     (isLive (Ready (cycleAt 1 2)) ≡ true) ×
-    (isLive (Waiting 0 (cycleAt 1 2)) ≡ true)
-live = (refl, refl, refl, refl)
+    (isLive (Waiting 0 (cycleAt 1 2)) ≡ true) ×
+    (isLive (Running (cycleAt 1 2)) ≡ true)
+live = (refl, refl, refl, refl, refl)
 
--- the cycle of a ready thread alone
+-- the cycle of a ready or a running thread alone
 ready-cycles :
     (readyCycle (Ended (cycleAt 1 2)) ≡ Never) ×
     (readyCycle (Overrun (cycleAt 1 2)) ≡ Never) ×
     (readyCycle (Ready (cycleAt 1 2)) ≡ At (cycleAt 1 2)) ×
-    (readyCycle (Waiting 0 (cycleAt 1 2)) ≡ Never)
-ready-cycles = (refl, refl, refl, refl)
+    (readyCycle (Waiting 0 (cycleAt 1 2)) ≡ Never) ×
+    (readyCycle (Running (cycleAt 1 2)) ≡ At (cycleAt 1 2))
+ready-cycles = (refl, refl, refl, refl, refl)
 
 -- the event and the cycle of a waiting thread alone
 awaited :
     (awaitedBy (Ended (cycleAt 1 2)) ≡ nothing) ×
     (awaitedBy (Overrun (cycleAt 1 2)) ≡ nothing) ×
     (awaitedBy (Ready (cycleAt 1 2)) ≡ nothing) ×
-    (awaitedBy (Waiting 5 (cycleAt 1 2)) ≡ awaits 5 (cycleAt 1 2))
-awaited = (refl, refl, refl, refl)
+    (awaitedBy (Waiting 5 (cycleAt 1 2)) ≡ awaits 5 (cycleAt 1 2)) ×
+    (awaitedBy (Running (cycleAt 1 2)) ≡ nothing)
+awaited = (refl, refl, refl, refl, refl)
 
 -- whichever the state
 cycles :
     (cycleOf (Ended (cycleAt 1 2)) ≡ cycleAt 1 2) ×
     (cycleOf (Overrun (cycleAt 3 4)) ≡ cycleAt 3 4) ×
     (cycleOf (Ready (cycleAt 5 6)) ≡ cycleAt 5 6) ×
-    (cycleOf (Waiting 0 (cycleAt 7 8)) ≡ cycleAt 7 8)
-cycles = (refl, refl, refl, refl)
+    (cycleOf (Waiting 0 (cycleAt 7 8)) ≡ cycleAt 7 8) ×
+    (cycleOf (Running (cycleAt 9 10)) ≡ cycleAt 9 10)
+cycles = (refl, refl, refl, refl, refl)
+
+-- what a live thread counts at, and which thread is running
+live-cycles :
+    (liveCycle (Ready (cycleAt 1 2)) ≡ At (cycleAt 1 2)) ×
+    (liveCycle (Running (cycleAt 1 2)) ≡ At (cycleAt 1 2)) ×
+    (liveCycle (Waiting 0 (cycleAt 1 2)) ≡ Never)
+live-cycles = (refl, refl, refl)
+
+running :
+    (isRunning (Ended (cycleAt 1 2)) ≡ false) ×
+    (isRunning (Overrun (cycleAt 1 2)) ≡ false) ×
+    (isRunning (Ready (cycleAt 1 2)) ≡ false) ×
+    (isRunning (Waiting 0 (cycleAt 1 2)) ≡ false) ×
+    (isRunning (Running (cycleAt 1 2)) ≡ true)
+running = (refl, refl, refl, refl, refl)
 
 -- past the records: ended at (0, 0)
 threads :

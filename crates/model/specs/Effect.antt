@@ -17,7 +17,7 @@ use Rattle.model.specs.declared.Closer.the-variants.{End, Time, Event}
 use Rattle.model.specs.declared.Segment.{Segment}
 use Rattle.model.specs.declared.Model.{Model}
 use Rattle.model.specs.declared.State.{State}
-use Rattle.model.specs.declared.State.the-variants.{Ended, Overrun, Ready, Waiting}
+use Rattle.model.specs.declared.State.the-variants.{Ended, Overrun, Ready, Waiting, Running}
 use Rattle.model.specs.declared.Thread.{Thread}
 use Rattle.model.specs.declared.Events.{Events}
 use Rattle.model.specs.declared.Ran.{Ran}
@@ -60,6 +60,7 @@ heldState (Ended c) = Ended c
 heldState (Overrun c) = Overrun c
 heldState (Ready c) = Ready (cycleAt (c .time .0 % 2 ^ 64) (c .delta .0))
 heldState (Waiting e c) = Waiting e c
+heldState (Running c) = Running c
 
 unfoldable pub heldThread : Thread → Thread
 heldThread t = record { segment = t .segment; state = heldState (t .state) }

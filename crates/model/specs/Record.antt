@@ -11,7 +11,7 @@ use Rattle.clock.specs.declared.Bound.{Bound}
 use Rattle.clock.specs.declared.Bound.the-variants.{Never, At}
 use Rattle.clock.specs.Cycle.{cycleAt}
 use Rattle.model.specs.declared.State.{State}
-use Rattle.model.specs.declared.State.the-variants.{Ended, Overrun, Ready, Waiting}
+use Rattle.model.specs.declared.State.the-variants.{Ended, Overrun, Ready, Waiting, Running}
 use Rattle.model.specs.declared.Thread.{Thread}
 
 abbrev pub noThread : Thread
@@ -20,7 +20,8 @@ noThread = record { segment = 0; state = Ended (cycleAt 0 0) }
 unfoldable pub threadAt : List Thread → ℕ → Thread
 threadAt ts k = getD ts k noThread
 
--- what a state is to the rest of a site: not live, ready at a cycle, or waiting on an event since a cycle
+-- What a state is to the rest of a site: not live, ready at a cycle, or waiting on an event since a cycle. Document 02, slip 7: a running
+-- thread "counts as live at its cycle for hazards, earliest, forecasts and the floor", as a ready one does.
 pub data View : Type 0 where
   idle : View
   ready : Cycle → View
@@ -31,6 +32,15 @@ viewOf (Ended c) = idle
 viewOf (Overrun c) = idle
 viewOf (Ready c) = ready c
 viewOf (Waiting e c) = waits e c
+viewOf (Running c) = ready c
+
+-- granted and not yet finished
+abbrev pub isRunning : State → Bool
+isRunning (Ended c) = false
+isRunning (Overrun c) = false
+isRunning (Ready c) = false
+isRunning (Waiting e c) = false
+isRunning (Running c) = true
 
 -- "Ready and waiting threads are live."
 abbrev pub isLiveView : View → Bool
@@ -41,7 +51,7 @@ isLiveView (waits e c) = true
 abbrev pub isLive : State → Bool
 isLive s = isLiveView (viewOf s)
 
--- its cycle, if it is ready
+-- its cycle, if it is ready or running
 abbrev pub readyCycleOf : View → Bound
 readyCycleOf idle = Never
 readyCycleOf (ready c) = At c
@@ -50,7 +60,7 @@ readyCycleOf (waits e c) = Never
 abbrev pub readyCycle : State → Bound
 readyCycle s = readyCycleOf (viewOf s)
 
--- the cycle that a live thread counts at in earliest and in the floor: a ready thread's own
+-- the cycle that a live thread counts at in earliest and in the floor: its own, if it is ready or running
 abbrev pub liveCycle : State → Bound
 liveCycle s = readyCycle s
 
@@ -73,6 +83,7 @@ cycleOf (Ended c) = c
 cycleOf (Overrun c) = c
 cycleOf (Ready c) = c
 cycleOf (Waiting e c) = c
+cycleOf (Running c) = c
 
 -- the state at the end of a wait
 abbrev pub stateAfter : Step → State

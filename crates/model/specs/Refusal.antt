@@ -76,3 +76,7 @@ wrongPort = 17
 -- "a thread can reach a segment naming a port it leaves unused"
 abbrev pub lackedPort : ℕ
 lackedPort = 18
+
+-- "a thread already running is granted or one not running is finished"
+abbrev pub outOfTurn : ℕ
+outOfTurn = 19

@@ -71,12 +71,14 @@ pub struct Variables {
     pub at: [u32; 64],
 }
 
-// Document 01: "ready at a cycle, waiting on an event since a cycle, ended at a cycle, or overrun at a cycle".
+// Document 01: "ready at a cycle, waiting on an event since a cycle, ended at a cycle, or overrun at a cycle"; and document 02, slip 7:
+// "Until its finish a thread is running, a new state of its record".
 pub enum State {
     Ended(Cycle),
     Overrun(Cycle),
     Ready(Cycle),
     Waiting(u8, Cycle),
+    Running(Cycle),
 }
 
 // Document 01: "A thread record holds its segment and its state".

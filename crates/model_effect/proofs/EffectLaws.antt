@@ -33,7 +33,7 @@ use Rattle.model.specs.declared.Events.{Events}
 use Rattle.model.specs.declared.Segment.{Segment}
 use Rattle.model.specs.declared.Variables.{Variables}
 use Rattle.model.specs.declared.State.{State}
-use Rattle.model.specs.declared.State.the-variants.{Ended, Overrun, Ready, Waiting}
+use Rattle.model.specs.declared.State.the-variants.{Ended, Overrun, Ready, Waiting, Running}
 use Rattle.model.specs.declared.Thread.{Thread}
 use Rattle.model.specs.Values.{bodyOf}
 use Rattle.model.specs.Statement.{execute, notifiedByOp, notifiedBy}
@@ -92,6 +92,7 @@ heldState-small s (Ended c) h = refl
 heldState-small s (Overrun c) h = refl
 heldState-small s (Ready c) h = let e : c .time .0 % 2 ^ 64 ≡ c .time .0 = mod-eq-of-lt h in rw e refl
 heldState-small s (Waiting e c) h = refl
+heldState-small s (Running c) h = refl
 
 pub heldThread-small : (t : Thread) → cycleOf (t .state) .time .0 < 2 ^ 64 → heldThread t ≡ t
 heldThread-small t h = heldState-small (t .segment) (t .state) h

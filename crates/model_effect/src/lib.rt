@@ -211,17 +211,21 @@ pub fn cycle_of(s: State) -> Cycle
         State::Overrun(c) => c,
         State::Ready(c) => c,
         State::Waiting(_, c) => c,
+        State::Running(c) => c,
     }
 }
 
-// The cycle of a ready thread; never for any other.
+// The cycle of a ready or running thread; never for any other.
 pub fn ready_cycle(s: State) -> Bound
     ensures { λ r. ⌜ r ≡ readyCycle s ⌝ }
 {
-    let State::Ready(c) = s else {
-        return Bound::Never;
-    };
-    Bound::At(c)
+    match s {
+        State::Ended(_) => Bound::Never,
+        State::Overrun(_) => Bound::Never,
+        State::Ready(c) => Bound::At(c),
+        State::Waiting(_, _) => Bound::Never,
+        State::Running(c) => Bound::At(c),
+    }
 }
 
 // 32 thread records, all zero.

@@ -1,5 +1,5 @@
 -- A model that keeps the file rules stays in range: segments below N, events below E, times below 2,000,000,000, deltas to 1,023,
--- no way to a port that the thread leaves unused, and the cycle that runs now is not later than the horizon. What a run uses of the rules is gathered in Keeps.
+-- no way to a port that the thread leaves unused, none running, and the cycle that runs now is not later than the horizon. What a run uses of the rules is gathered in Keeps.
 --     Keeps     what a model that keeps the rules promises of a run
 --     InRange, in-range     at every place
 --     now-before, record-time, ready-time     the times of records, as numbers
@@ -20,13 +20,13 @@ use Rattle.model.specs.declared.Thread.{Thread}
 use Rattle.model.specs.Limits.{endTime, largestTime, recordTime, isUpToHorizon}
 use Rattle.model.specs.Values.{startAt}
 use Rattle.model.specs.Record as view
-use Rattle.model.specs.Record.{cycleOf, viewOf}
+use Rattle.model.specs.Record.{cycleOf, isRunning, viewOf}
 use Rattle.model.specs.Effect.{effectOf}
 use Rattle.model.specs.Footprint.{has}
 use Rattle.model.specs.Reach.{lacksFrom}
 use Rattle.plain.specs.Start.{Place, started, startOf}
 use Rattle.plain.specs.Step.{stepped, placeAt}
-use Rattle.plain_laws.proofs.RecordLaws.{ready-cycle, stateAfter-not-waits, horizon→<, <→horizon, has-append, has-none, heard-time, heard-delta}
+use Rattle.plain_laws.proofs.RecordLaws.{ready-cycle, stateAfter-not-waits, stateAfter-unbegun, effectOf-unbegun, horizon→<, <→horizon, has-append, has-none, heard-time, heard-delta}
 use Rattle.plain_laws.proofs.WakeLaws.{floorOf-attained}
 use Rattle.plain_laws.proofs.StepLaws.{recordOf, stateOf, wokenAt, effectAt, Sees, sees, sees-ran, sees-passed, sees-begun, sees-rested, stepped-threads-length}
 use Rattle.plain_laws.proofs.StartLaws.{startOf-record, startOf-now, startOf-notified, startOf-length, shape}
@@ -54,6 +54,7 @@ pub record Fits (m : Model) (k : ℕ) (t : Thread) : Type 0 where
   pub event : (e : ℕ) (c : Cycle) → viewOf (t .state) ≡ view.waits e c → e < m .e
   pub time : cycleOf (t .state) .time .0 < endTime m + largestTime
   pub delta : cycleOf (t .state) .delta .0 ≤ lastDelta
+  pub unbegun : isRunning (t .state) ≡ false
 
 pub record InRange (m : Model) (p : Place) : Type 0 where
   pub fits : (k : ℕ) → k < m .t → Fits m k (recordOf p k)
@@ -69,7 +70,7 @@ module _ (m : Model) (kept : Keeps m) where
       fits : (k : ℕ) → k < m .t → Fits m k (recordOf (startOf m) k)
       fits k h =
           subst (Fits m k) (sym (startOf-record m k h))
-          (record { segment = kept .first k h; lacks = kept .first-lacks k h; event = λ e c w. absurd (let z : _≡_ {A = ℕ} 0 1 = cc in omega arith); time = omega arith; delta = omega arith })
+          (record { segment = kept .first k h; lacks = kept .first-lacks k h; event = λ e c w. absurd (let z : _≡_ {A = ℕ} 0 1 = cc in omega arith); time = omega arith; delta = omega arith; unbegun = refl })
 
   fits-step : (p : Place) → m .t ≤ length (p .threads) → InRange m p → (k : ℕ) → k < m .t → Fits m k (recordOf (stepped m p) k)
   fits-step p enough g k h = go (happens m p k enough)
@@ -87,6 +88,7 @@ module _ (m : Model) (kept : Keeps m) where
             event = λ e c w. kept .event k (recordOf p k .segment) (p .now) (p .variables) e c (old .segment) w;
             time = omega (arith, kept .time k (recordOf p k .segment) (p .now) (p .variables) (old .segment), g .now-time);
             delta = kept .delta k (recordOf p k .segment) (p .now) (p .variables) (g .now-delta);
+            unbegun = effectOf-unbegun m k (recordOf p k .segment) (p .now) (p .variables);
           })
       go (hears v n s i) =
           subst (Fits m k) (sym s)
@@ -96,6 +98,7 @@ module _ (m : Model) (kept : Keeps m) where
             event = λ e c w. absurd (stateAfter-not-waits (waitEnds wait.Event (p .now)) e c w);
             time = omega (arith, heard-time (p .now), g .now-time);
             delta = heard-delta (p .now) (g .now-delta);
+            unbegun = stateAfter-unbegun (waitEnds wait.Event (p .now));
           })
 
   range-step : (p : Place) → m .t ≤ length (p .threads) → InRange m p → InRange m (stepped m p)

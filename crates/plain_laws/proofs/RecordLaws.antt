@@ -2,6 +2,7 @@
 -- They are opened here and in no later file.
 --     thread-path, threadAt-at, threadAt-set, threadAt-other, threadAt-past, threadAt-map     one record of a list
 --     readyCycle→ready, ready→state, waits→state, stateAfter-ready, stateAfter-not-waits     which state it is
+--     running-cycle, stateAfter-unbegun, effectOf-unbegun     which are running
 --     goesTo-next, closedAt-next     the next segment is a step of the graph
 --     effectOf-later, effectOf-waits     a thread that has run is ready later, or waits since now
 --     stateAfter-delta, heard-time, heard-delta     what stays in range
@@ -10,7 +11,7 @@
 use Prim.Native.Nat.{ℕ, _<_, _≤_}
 use mathlib.Core.Path.{_≡_, refl, ap, sym, _∙_, subst}
 use mathlib.Core.Logic.{_⊎_, inl, inr}
-use mathlib.Core.Bool.{not, _||_}
+use mathlib.Core.Bool.{true, false, not, _||_}
 use mathlib.Core.List.{List, [], _∷_, _++_, map}
 use native.Mathlib.Omega.{arith}
 use lib.Dec.{T, eqb, ltb→lt, lt→ltb}
@@ -31,11 +32,11 @@ use Rattle.model.specs.declared.Closer.{Closer}
 use Rattle.model.specs.declared.Closer.the-variants.{End, Time, Event}
 use Rattle.model.specs.declared.Model.{Model}
 use Rattle.model.specs.declared.State.{State}
-use Rattle.model.specs.declared.State.the-variants.{Ended, Overrun, Ready, Waiting}
+use Rattle.model.specs.declared.State.the-variants.{Ended, Overrun, Ready, Waiting, Running}
 use Rattle.model.specs.declared.Thread.{Thread}
 use Rattle.model.specs.Limits.{endTime, isUpToHorizon, isBoundUpToHorizon}
 use Rattle.model.specs.Record as view
-use Rattle.model.specs.Record.{awaits, noThread, threadAt, cycleOf, stateAfter, View, viewOf, readyCycleOf, isLiveView, awaitedOf}
+use Rattle.model.specs.Record.{awaits, noThread, threadAt, cycleOf, isRunning, stateAfter, View, viewOf, readyCycle, readyCycleOf, isLiveView, awaitedOf}
 use Rattle.model.specs.Values.{segmentFor}
 use Rattle.model.specs.Effect.{nextOf, closedAt, effectIn, effectOf}
 use Rattle.model.specs.Footprint.{has}
@@ -94,22 +95,28 @@ not-live→idle view.idle t = refl
 not-live→idle (view.ready c) t = absurd t
 not-live→idle (view.waits e c) t = absurd t
 
--- a ready state, and a waiting one, are those that their view shows
-pub ready→state : (s : State) (c : Cycle) → viewOf s ≡ view.ready c → s ≡ Ready c
-ready→state (Ended d) c e = absurd (let z : _≡_ {A = ℕ} 0 1 = cc in omega arith)
-ready→state (Overrun d) c e = absurd (let z : _≡_ {A = ℕ} 0 1 = cc in omega arith)
-ready→state (Ready d) c e = cc
-ready→state (Waiting f d) c e = absurd (let z : _≡_ {A = ℕ} 0 1 = cc in omega arith)
+-- a ready state that is not running, and a waiting one, are those that their view shows
+pub ready→state : (s : State) (c : Cycle) → isRunning s ≡ false → viewOf s ≡ view.ready c → s ≡ Ready c
+ready→state (Ended d) c r e = absurd (let z : _≡_ {A = ℕ} 0 1 = cc in omega arith)
+ready→state (Overrun d) c r e = absurd (let z : _≡_ {A = ℕ} 0 1 = cc in omega arith)
+ready→state (Ready d) c r e = cc
+ready→state (Waiting f d) c r e = absurd (let z : _≡_ {A = ℕ} 0 1 = cc in omega arith)
+ready→state (Running d) c r e = absurd (subst T r tt)
 
 pub waits→state : (s : State) (f : ℕ) (c : Cycle) → viewOf s ≡ view.waits f c → s ≡ Waiting f c
 waits→state (Ended d) f c e = absurd (let z : _≡_ {A = ℕ} 0 1 = cc in omega arith)
 waits→state (Overrun d) f c e = absurd (let z : _≡_ {A = ℕ} 0 1 = cc in omega arith)
 waits→state (Ready d) f c e = absurd (let z : _≡_ {A = ℕ} 0 1 = cc in omega arith)
 waits→state (Waiting g d) f c e = cc
+waits→state (Running d) f c e = absurd (let z : _≡_ {A = ℕ} 0 1 = cc in omega arith)
 
 -- the cycle that such a state carries
 pub ready-cycle : (s : State) (c : Cycle) → viewOf s ≡ view.ready c → cycleOf s ≡ c
-ready-cycle s c e = ap cycleOf (ready→state s c e)
+ready-cycle (Ended d) c e = absurd (let z : _≡_ {A = ℕ} 0 1 = cc in omega arith)
+ready-cycle (Overrun d) c e = absurd (let z : _≡_ {A = ℕ} 0 1 = cc in omega arith)
+ready-cycle (Ready d) c e = cc
+ready-cycle (Waiting f d) c e = absurd (let z : _≡_ {A = ℕ} 0 1 = cc in omega arith)
+ready-cycle (Running d) c e = cc
 
 pub waits-cycle : (s : State) (f : ℕ) (c : Cycle) → viewOf s ≡ view.waits f c → cycleOf s ≡ c
 waits-cycle s f c e = ap cycleOf (waits→state s f c e)
@@ -121,6 +128,25 @@ stateAfter-ready (step.Overrun d) c e = absurd (let z : _≡_ {A = ℕ} 0 1 = cc
 pub stateAfter-not-waits : (z : Step) (e : ℕ) (c : Cycle) → viewOf (stateAfter z) ≡ view.waits e c → ⊥
 stateAfter-not-waits (step.Ready d) v c e = let z : _≡_ {A = ℕ} 0 1 = cc in omega arith
 stateAfter-not-waits (step.Overrun d) v c e = let z : _≡_ {A = ℕ} 0 1 = cc in omega arith
+
+-- a running thread is ready at the cycle that it carries
+pub running-cycle : (s : State) → isRunning s ≡ true → readyCycle s ≡ At (cycleOf s)
+running-cycle (Ended d) r = absurd (subst T (sym r) tt)
+running-cycle (Overrun d) r = absurd (subst T (sym r) tt)
+running-cycle (Ready d) r = refl
+running-cycle (Waiting f d) r = absurd (subst T (sym r) tt)
+running-cycle (Running d) r = refl
+
+-- no wait, and no closer, leaves a thread running
+pub stateAfter-unbegun : (z : Step) → isRunning (stateAfter z) ≡ false
+stateAfter-unbegun (step.Ready d) = refl
+stateAfter-unbegun (step.Overrun d) = refl
+
+closedAt-unbegun : (s : ℕ) (g : Closer) (c : Cycle) (v : List ℕ) → isRunning (closedAt s g c v .state) ≡ false
+unfolding closedAt
+closedAt-unbegun s End c v = refl
+closedAt-unbegun s (Time k x) c v = stateAfter-unbegun (waitEnds (wait.Time k) c)
+closedAt-unbegun s (Event w x) c v = refl
 
 pub goesTo-next : (x : Next) (v : List ℕ) → T (goesTo x (nextOf x v))
 unfolding goesTo
@@ -171,6 +197,10 @@ module _ (m : Model) (k s : ℕ) (c : Cycle) (v : List ℕ) where
   pub effectOf-thread : effectOf m k s c v .thread ≡ closedAt s (segmentFor m k s .closer) c (effectOf m k s c v .variables)
   unfolding effectOf effectIn
   effectOf-thread = refl
+
+  -- a thread that has run is not running
+  pub effectOf-unbegun : isRunning (effectOf m k s c v .thread .state) ≡ false
+  effectOf-unbegun = rw effectOf-thread (closedAt-unbegun s (segmentFor m k s .closer) c (effectOf m k s c v .variables))
 
   -- a thread that has run is ready in a later cycle
   pub effectOf-later : (d : Cycle) → viewOf (effectOf m k s c v .thread .state) ≡ view.ready d → Before c d

@@ -23,15 +23,16 @@ use Rattle.model.specs.declared.State.{State}
 use Rattle.model.specs.declared.State.the-variants.{Ready}
 use Rattle.model.specs.declared.Thread.{Thread}
 use Rattle.model.specs.Limits.{isUpToHorizon, isBoundUpToHorizon}
+use Rattle.model.specs.Record as view
 use Rattle.model.specs.Record.{threadAt, viewOf, readyCycle}
 use Rattle.plain.specs.Wake.{floorBelow, floorOf}
 use Rattle.plain_words.proofs.ReachLaws.{lesserOf-≤}
 use Rattle.plain_state.specs.Words.{span, keyOf, limitOf, wordOf, leastWord}
-use Rattle.plain_laws.proofs.RecordLaws.{readyCycle→ready, ready→state}
+use Rattle.plain_laws.proofs.RecordLaws.{readyCycle→ready}
 use Rattle.plain_laws.proofs.WakeLaws.{floorOf-≼}
 use Rattle.plain_state.proofs.LimitLaws.{horizon→limit, limit→horizon}
 use Rattle.plain_state.proofs.FloorLaws.{floorOf-one}
-use Rattle.plain_state.proofs.WordLaws.{Small, InRange, word-ready}
+use Rattle.plain_state.proofs.WordLaws.{Small, InRange, range-small, word-ready, word-cycle}
 
 leastWord-below : (k : ℕ) (ws : List ℕ) → (leastWord (suc k) ws ≤ getD ws k 0) × (leastWord (suc k) ws ≤ leastWord k ws)
 unfolding leastWord
@@ -71,8 +72,8 @@ key-⊑ c d h l k = go (decLt (c .time .0) (d .time .0))
 module _ (m : Model) (small : limitOf m ≤ span) (ws : List ℕ) (us : List Thread)
     (words : (k : ℕ) → k < m .t → getD ws k 0 ≡ wordOf (threadAt us k .state))
     (ranges : (k : ℕ) → k < m .t → InRange (threadAt us k .state)) where
-  ready-range : (k : ℕ) → k < m .t → (c : Cycle) → threadAt us k .state ≡ Ready c → Small c
-  ready-range k h c e = rw e at (ranges k h)
+  ready-range : (k : ℕ) → k < m .t → (c : Cycle) → viewOf (threadAt us k .state) ≡ view.ready c → Small c
+  ready-range k h c e = range-small (threadAt us k .state) c (ranges k h) e
 
   least-≼ : (c : Cycle) → c .delta .0 ≤ 1023 → keyOf c ≡ leastWord (m .t) ws → (k : ℕ) → k < m .t → At c ≼ readyCycle (threadAt us k .state)
   least-≼ c d e k h = go (readyCycle (threadAt us k .state)) refl
@@ -80,8 +81,8 @@ module _ (m : Model) (small : limitOf m ≤ span) (ws : List ℕ) (us : List Thr
       go : (b : Bound) → readyCycle (threadAt us k .state) ≡ b → At c ≼ b
       go Never f = tt
       go (At x) f =
-          let r = ready→state (threadAt us k .state) x (readyCycle→ready (viewOf (threadAt us k .state)) x f) in
-          let g : getD ws k 0 ≡ keyOf x = words k h ∙ ap wordOf r in
+          let r = readyCycle→ready (viewOf (threadAt us k .state)) x f in
+          let g : getD ws k 0 ≡ keyOf x = words k h ∙ word-cycle (threadAt us k .state) x r in
           key-⊑ c x d (ready-range k h x r .delta) (omega (arith, leastWord-≤ (m .t) ws k h))
 
   pub floor-word : leastWord (m .t) ws < limitOf m →
@@ -93,7 +94,7 @@ module _ (m : Model) (small : limitOf m ≤ span) (ws : List ℕ) (us : List Thr
           (c : Cycle) × (floorOf m us ≡ At c) × (keyOf c ≡ leastWord (m .t) ws) × Small c × T (isUpToHorizon m c)
       found k l e (c, f) =
           let g : keyOf c ≡ leastWord (m .t) ws = sym (e ∙ (words k l ∙ ap wordOf f)) in
-          let s = ready-range k l c f in
+          let s = ready-range k l c (ap viewOf f) in
           let below : floorOf m us ≼ At c = subst (λ (x : State). floorOf m us ≼ readyCycle x) f (floorOf-≼ m us k l) in
           let above : At c ≼ floorOf m us = leastBelow-glb (At c) (m .t) (λ j. readyCycle (threadAt us j .state)) (least-≼ c (s .delta) g) in
           (c, ≼-antisym (floorOf m us) (At c) below above, g, s, limit→horizon m c (omega arith))
@@ -101,7 +102,7 @@ module _ (m : Model) (small : limitOf m ≤ span) (ws : List ℕ) (us : List Thr
       go : (leastWord (m .t) ws ≡ 18446744073709551615) ⊎ ((k : ℕ) × (k < m .t) × (leastWord (m .t) ws ≡ getD ws k 0)) →
           (c : Cycle) × (floorOf m us ≡ At c) × (keyOf c ≡ leastWord (m .t) ws) × Small c × T (isUpToHorizon m c)
       go (inl e) = absurd (omega arith)
-      go (inr (k, l, e)) = let w = words k l in found k l e (word-ready (threadAt us k .state) (omega arith))
+      go (inr (k, l, e)) = let w = words k l in found k l e (word-ready (threadAt us k .state) (ranges k l) (omega arith))
 
   pub floor-late : limitOf m ≤ leastWord (m .t) ws → T (not (isBoundUpToHorizon m (floorOf m us)))
   unfolding isBoundUpToHorizon
@@ -114,8 +115,8 @@ module _ (m : Model) (small : limitOf m ≤ span) (ws : List ℕ) (us : List Thr
       late : (k : ℕ) → k < m .t → (b : Bound) → readyCycle (threadAt us k .state) ≡ b → T (not (isBoundUpToHorizon m b))
       late k l Never f = tt
       late k l (At x) f =
-          let r = ready→state (threadAt us k .state) x (readyCycle→ready (viewOf (threadAt us k .state)) x f) in
-          let g : getD ws k 0 ≡ keyOf x = words k l ∙ ap wordOf r in
+          let r = readyCycle→ready (viewOf (threadAt us k .state)) x f in
+          let g : getD ws k 0 ≡ keyOf x = words k l ∙ word-cycle (threadAt us k .state) x r in
           past x (ready-range k l x r .delta) (omega (arith, leastWord-≤ (m .t) ws k l)) (T-case (isUpToHorizon m x))
 
       go : (floorOf m us ≡ Never) ⊎ ((k : ℕ) × (k < m .t) × (floorOf m us ≡ readyCycle (threadAt us k .state))) → T (not (isBoundUpToHorizon m (floorOf m us)))

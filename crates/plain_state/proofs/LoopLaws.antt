@@ -321,7 +321,7 @@ module _ (m : Model) (fit : modelFault m ≡ 0) (budget : ℕ) where
 
     -- every thread that was looked at is ahead
     word-ahead : (k : ℕ) → k < m .t → k < turn → now < getD (x .state) k 0
-    word-ahead k h l = rw (loop .key, loop .words k h) (word-after (loop .cycle) (threadAt (loop .threads) k .state) (small .key) (λ d e. key-later (sound .ahead k d l (ap viewOf e)) (small .delta)))
+    word-ahead k h l = rw (loop .key, loop .words k h) (word-after (loop .cycle) (threadAt (loop .threads) k .state) (small .key) (λ d e. key-later (sound .ahead k d l e) (small .delta)))
 
     pub loop-ahead : m .t ≤ turn → now < leastWord (m .t) (x .state)
     loop-ahead h = go (leastWord-one (m .t) (x .state))

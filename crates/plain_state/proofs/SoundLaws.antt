@@ -2,7 +2,7 @@
 --     Ranged     every state is in a word's range, and past a model's threads the records are zero
 --     Sound, sound-at     segments in the model and no port lacking, deltas in range, and the threads that were looked at ahead of the cycle that runs
 use Prim.Native.Nat.{ℕ, _<_, _≤_}
-use mathlib.Core.Path.{_≡_, refl}
+use mathlib.Core.Path.{_≡_, refl, subst}
 use mathlib.Core.Bool.{false}
 use native.Mathlib.Omega.{arith}
 use lib.Dec.{T}
@@ -12,11 +12,11 @@ use Rattle.clock.specs.declared.Cycle.{Cycle}
 use Rattle.clock.specs.Order.{Before}
 use Rattle.model.specs.declared.Model.{Model}
 use Rattle.model.specs.declared.State.{State}
-use Rattle.model.specs.declared.State.the-variants.{Ended, Overrun, Ready, Waiting}
+use Rattle.model.specs.declared.State.the-variants.{Ended, Overrun, Ready, Waiting, Running}
 use Rattle.model.specs.declared.Thread.{Thread}
 use Rattle.model.specs.Limits.{recordTime, isUpToHorizon}
 use Rattle.model.specs.Record as view
-use Rattle.model.specs.Record.{noThread, threadAt, viewOf, cycleOf}
+use Rattle.model.specs.Record.{noThread, threadAt, viewOf, cycleOf, isRunning}
 use Rattle.model.specs.Reach.{lacksFrom}
 use Rattle.model.specs.Rules.{modelFault}
 use Rattle.model_rules.proofs.RuleLaws.{modelFault-counts}
@@ -44,11 +44,12 @@ pub record Sound (m : Model) (p : Place) : Type 0 where
   pub later : m .t ≤ p .turn → (k : ℕ) (c : Cycle) → viewOf (threadAt (wokenAt p) k .state) ≡ view.ready c → Before (p .now) c
   pub ranged : Ranged (m .t) (p .threads)
 
-state-range : (s : State) → cycleOf s .time .0 < recordTime → cycleOf s .delta .0 ≤ 1023 → ((e : ℕ) (c : Cycle) → viewOf s ≡ view.waits e c → e < 32) → InRange s
-state-range (Ended c) t d w = record { key = omega arith; delta = d }
-state-range (Overrun c) t d w = record { key = omega arith; delta = d }
-state-range (Ready c) t d w = record { key = omega arith; delta = d }
-state-range (Waiting e c) t d w = (w e c refl, record { key = omega arith; delta = d })
+state-range : (s : State) → isRunning s ≡ false → cycleOf s .time .0 < recordTime → cycleOf s .delta .0 ≤ 1023 → ((e : ℕ) (c : Cycle) → viewOf s ≡ view.waits e c → e < 32) → InRange s
+state-range (Ended c) u t d w = record { key = omega arith; delta = d }
+state-range (Overrun c) u t d w = record { key = omega arith; delta = d }
+state-range (Ready c) u t d w = record { key = omega arith; delta = d }
+state-range (Waiting e c) u t d w = (w e c refl, record { key = omega arith; delta = d })
+state-range (Running c) u t d w = absurd (subst T u tt)
 
 pub sound-at : (m : Model) → modelFault m ≡ 0 → (i : ℕ) → Sound m (placeAt m i)
 sound-at m fit i =
@@ -65,7 +66,7 @@ sound-at m fit i =
       ahead = steady m i .looked;
       later = woken-later m (placeAt m i) (shape m i) (steady m i);
       ranged = record {
-        range = λ k h. state-range (threadAt (placeAt m i .threads) k .state) (record-time m kept i k h) (fits k h .delta) (λ e c w. omega (arith, fits k h .event e c w));
+        range = λ k h. state-range (threadAt (placeAt m i .threads) k .state) (fits k h .unbegun) (record-time m kept i k h) (fits k h .delta) (λ e c w. omega (arith, fits k h .event e c w));
         rest = shape m i .past;
       };
     }

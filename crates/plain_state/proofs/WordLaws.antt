@@ -1,12 +1,12 @@
 -- Thread states as words: each is read back, compared, closed and woken as its state is.
 --     InRange     a cycle below 2 ^ 44 with its delta in range, an event below 32
 --     cycleFrom-key, stateFrom-word     a cycle's number, and a state's word, is read back
---     word-ready, word-after     a word is a ready thread's cycle, or after every cycle
+--     word-ready, word-cycle, word-after     a word is a ready thread's cycle, or after every cycle
 --     word-due, word-not-due     a word is the cycle's own exactly where its thread is due
 --     closeWord-mark     the mark of a segment that names a port is not seen
 --     nextWord-event, closeWord-closed, wakeWord-woken     the next delta; a segment closes; a thread wakes
 use Prim.Native.Nat.{ℕ, _+_, _-_, _*_, _/_, _%_, _<_, _≤_}
-use mathlib.Core.Path.{_≡_, refl, ap, sym, _∙_}
+use mathlib.Core.Path.{_≡_, refl, ap, sym, _∙_, subst}
 use mathlib.Core.Logic.{_⊎_, inl, inr}
 use mathlib.Core.Bool.{Bool, true, false, cond, not, _&&_}
 use mathlib.Core.List.{List}
@@ -26,7 +26,8 @@ use Rattle.clock.proofs.OrderLaws.{cycle-path}
 use Rattle.model.specs.declared.Closer.{Closer}
 use Rattle.model.specs.declared.Closer.the-variants.{End, Time, Event}
 use Rattle.model.specs.declared.State.{State}
-use Rattle.model.specs.declared.State.the-variants.{Ended, Overrun, Ready, Waiting}
+use Rattle.model.specs.declared.State.the-variants.{Ended, Overrun, Ready, Waiting, Running}
+use Rattle.model.specs.Record as view
 use Rattle.model.specs.Record.{viewOf, readyCycle, Awaited, nothing, awaits, awaitedBy, stateAfter}
 use Rattle.model.specs.Effect.{closedAt}
 use Rattle.plain_words.specs.Pack.{few, packEnd}
@@ -36,7 +37,7 @@ use Rattle.plain_words.proofs.MarkLaws.{Tells}
 use Rattle.plain_words.proofs.CodeLaws.{end-kind, end-load, mark-kind, mark-delay, mark-event}
 use Rattle.plain.specs.Wake.{isWoken, wokenState}
 use Rattle.plain.specs.Step.{isAt}
-use Rattle.plain_laws.proofs.RecordLaws.{readyCycle→ready, ready→state}
+use Rattle.plain_laws.proofs.RecordLaws.{readyCycle→ready, ready-same}
 use Rattle.plain_state.specs.Words.{waiting, ended, overrun, span, keyOf, cycleFrom, wordOf, stateFrom, nextWord, endedBy, closeWord, isTold, wakeWord}
 
 -- the units that a closer waits for
@@ -55,6 +56,15 @@ InRange (Ended c) = Small c
 InRange (Overrun c) = Small c
 InRange (Ready c) = Small c
 InRange (Waiting e c) = (e < 32) × Small c
+InRange (Running c) = ⊥
+
+-- a ready state in range
+pub range-small : (s : State) (c : Cycle) → InRange s → viewOf s ≡ view.ready c → Small c
+range-small (Ready d) c r e = subst Small (ready-same e) r
+range-small (Running d) c r e = absurd r
+range-small (Ended d) c r e = absurd (let z : _≡_ {A = ℕ} 0 1 = cc in omega arith)
+range-small (Overrun d) c r e = absurd (let z : _≡_ {A = ℕ} 0 1 = cc in omega arith)
+range-small (Waiting f d) c r e = absurd (let z : _≡_ {A = ℕ} 0 1 = cc in omega arith)
 
 -- the mark of a segment that names a port is not seen
 pub closeWord-mark : (b : Bool) (e now : ℕ) → closeWord (markedIf b e) now ≡ closeWord e now
@@ -91,24 +101,35 @@ stateFrom-word (Waiting e c) (l, r) =
     let g : (waiting + span * e + keyOf c - waiting) / span % 32 ≡ e = omega arith in
     rw (le-ltb (waiting + span * e + keyOf c) waiting (omega arith), lt-ltb (waiting + span * e + keyOf c) ended (omega arith), g)
     (ap (Waiting e) (key-time c (waiting + span * e + keyOf c) r f))
+stateFrom-word (Running c) r = absurd r
 
 -- two states of one word
 word-same : (s t : State) → InRange s → InRange t → wordOf s ≡ wordOf t → s ≡ t
 word-same s t r q e = sym (stateFrom-word s r) ∙ (ap stateFrom e ∙ stateFrom-word t q)
 
 -- a word below those that wait is a ready thread's
-pub word-ready : (s : State) → wordOf s < waiting → (c : Cycle) × (s ≡ Ready c)
-word-ready (Ready c) h = (c, refl)
-word-ready (Ended c) h = absurd (omega arith)
-word-ready (Overrun c) h = absurd (omega arith)
-word-ready (Waiting e c) h = absurd (omega arith)
+pub word-ready : (s : State) → InRange s → wordOf s < waiting → (c : Cycle) × (s ≡ Ready c)
+word-ready (Ready c) r h = (c, refl)
+word-ready (Ended c) r h = absurd (omega arith)
+word-ready (Overrun c) r h = absurd (omega arith)
+word-ready (Waiting e c) r h = absurd (omega arith)
+word-ready (Running c) r h = absurd r
+
+-- a ready thread's word is its cycle
+pub word-cycle : (s : State) (c : Cycle) → viewOf s ≡ view.ready c → wordOf s ≡ keyOf c
+word-cycle (Ready d) c e = ap keyOf (ready-same e)
+word-cycle (Running d) c e = ap keyOf (ready-same e)
+word-cycle (Ended d) c e = absurd (let z : _≡_ {A = ℕ} 0 1 = cc in omega arith)
+word-cycle (Overrun d) c e = absurd (let z : _≡_ {A = ℕ} 0 1 = cc in omega arith)
+word-cycle (Waiting f d) c e = absurd (let z : _≡_ {A = ℕ} 0 1 = cc in omega arith)
 
 -- all others are after every cycle
-pub word-after : (c : Cycle) (s : State) → keyOf c < span → ((d : Cycle) → s ≡ Ready d → keyOf c < keyOf d) → keyOf c < wordOf s
+pub word-after : (c : Cycle) (s : State) → keyOf c < span → ((d : Cycle) → viewOf s ≡ view.ready d → keyOf c < keyOf d) → keyOf c < wordOf s
 word-after c (Ready d) k h = h d refl
 word-after c (Ended d) k h = omega arith
 word-after c (Overrun d) k h = omega arith
 word-after c (Waiting e d) k h = omega arith
+word-after c (Running d) k h = h d refl
 
 module _ (c : Cycle) (small : Small c) where
   pub word-due : (s : State) → InRange s → wordOf s ≡ keyOf c → isAt c (readyCycle s) ≡ true
@@ -124,7 +145,7 @@ module _ (c : Cycle) (small : Small c) where
       go (At d) e = T-elim (T-case (isSame d c))
         where
           T-elim : T (isSame d c) ⊎ T (not (isSame d c)) → isSame d c ≡ false
-          T-elim (inl t) = absurd (n (ap wordOf (ready→state s d (readyCycle→ready (viewOf s) d e)) ∙ ap keyOf (isSame→≡ d c t)))
+          T-elim (inl t) = absurd (n (word-cycle s d (readyCycle→ready (viewOf s) d e) ∙ ap keyOf (isSame→≡ d c t)))
           T-elim (inr t) = T→false (isSame d c) t
 
   here : cycleFrom (keyOf c) ≡ c

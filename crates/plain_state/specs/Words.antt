@@ -13,7 +13,7 @@ use Rattle.clock.specs.Cycle.{cycleAt, isBefore}
 use Rattle.clock.specs.Wait.{waitEnds}
 use Rattle.model.specs.declared.Model.{Model}
 use Rattle.model.specs.declared.State.{State}
-use Rattle.model.specs.declared.State.the-variants.{Ended, Overrun, Ready, Waiting}
+use Rattle.model.specs.declared.State.the-variants.{Ended, Overrun, Ready, Waiting, Running}
 use Rattle.model.specs.declared.Thread.{Thread}
 use Rattle.model.specs.Limits.{endTime}
 use Rattle.model.specs.Record.{noThread, Awaited, nothing, awaits, awaitedBy, stateAfter}
@@ -44,11 +44,13 @@ cycleFrom k = cycleAt (k / 1024) (k % 1024)
 abbrev pub limitOf : Model → ℕ
 limitOf m = 1024 * endTime m
 
+-- no thread of the plain run is running; to a cycle it would be as a ready one
 abbrev pub wordOf : State → ℕ
 wordOf (Ended c) = ended + keyOf c
 wordOf (Overrun c) = overrun + keyOf c
 wordOf (Ready c) = keyOf c
 wordOf (Waiting e c) = waiting + span * e + keyOf c
+wordOf (Running c) = keyOf c
 
 -- the state of a word
 unfoldable pub stateFrom : ℕ → State

@@ -6,7 +6,7 @@ use mathlib.Core.List.{List, [], _∷_}
 use lib.ListN.{length}
 use Rattle.clock.specs.Cycle.{cycleAt}
 use Rattle.model.specs.declared.State.{State}
-use Rattle.model.specs.declared.State.the-variants.{Ended, Overrun, Ready, Waiting}
+use Rattle.model.specs.declared.State.the-variants.{Ended, Overrun, Ready, Waiting, Running}
 use Rattle.model.specs.declared.Thread.{Thread}
 use Rattle.plain.specs.declared.PlainRun.{PlainRun}
 use Rattle.sheet.specs.Sheet.{vLine, tLine, nLine, spentLine, refusedLine, sheetOf}
@@ -28,14 +28,15 @@ unfolding computed
 vLine-edges = (refl, refl)
 
 -- "t: thread, segment, state, then the cycle (for wait: event, cycle begun); other states are ready and overrun": `t 0 1 ended 1260 0`,
--- `t 1 3 wait 0 1250 1`, `t 0 1 ready 1260 0`, `t 31 63 overrun 5 1023`
+-- `t 1 3 wait 0 1250 1`, `t 0 1 ready 1260 0`, `t 31 63 overrun 5 1023`; and `t 0 0 running 0 0`
 pub tLine-edges :
     (tLine 0 (thread 1 (Ended (cycleAt 1260 0))) ≡ 116 ∷ 32 ∷ 48 ∷ 32 ∷ 49 ∷ 32 ∷ 101 ∷ 110 ∷ 100 ∷ 101 ∷ 100 ∷ 32 ∷ 49 ∷ 50 ∷ 54 ∷ 48 ∷ 32 ∷ 48 ∷ 10 ∷ []) ×
     (tLine 1 (thread 3 (Waiting 0 (cycleAt 1250 1))) ≡ 116 ∷ 32 ∷ 49 ∷ 32 ∷ 51 ∷ 32 ∷ 119 ∷ 97 ∷ 105 ∷ 116 ∷ 32 ∷ 48 ∷ 32 ∷ 49 ∷ 50 ∷ 53 ∷ 48 ∷ 32 ∷ 49 ∷ 10 ∷ []) ×
     (tLine 0 (thread 1 (Ready (cycleAt 1260 0))) ≡ 116 ∷ 32 ∷ 48 ∷ 32 ∷ 49 ∷ 32 ∷ 114 ∷ 101 ∷ 97 ∷ 100 ∷ 121 ∷ 32 ∷ 49 ∷ 50 ∷ 54 ∷ 48 ∷ 32 ∷ 48 ∷ 10 ∷ []) ×
-    (tLine 31 (thread 63 (Overrun (cycleAt 5 1023))) ≡ 116 ∷ 32 ∷ 51 ∷ 49 ∷ 32 ∷ 54 ∷ 51 ∷ 32 ∷ 111 ∷ 118 ∷ 101 ∷ 114 ∷ 114 ∷ 117 ∷ 110 ∷ 32 ∷ 53 ∷ 32 ∷ 49 ∷ 48 ∷ 50 ∷ 51 ∷ 10 ∷ [])
+    (tLine 31 (thread 63 (Overrun (cycleAt 5 1023))) ≡ 116 ∷ 32 ∷ 51 ∷ 49 ∷ 32 ∷ 54 ∷ 51 ∷ 32 ∷ 111 ∷ 118 ∷ 101 ∷ 114 ∷ 114 ∷ 117 ∷ 110 ∷ 32 ∷ 53 ∷ 32 ∷ 49 ∷ 48 ∷ 50 ∷ 51 ∷ 10 ∷ []) ×
+    (tLine 0 (thread 0 (Running (cycleAt 0 0))) ≡ 116 ∷ 32 ∷ 48 ∷ 32 ∷ 48 ∷ 32 ∷ 114 ∷ 117 ∷ 110 ∷ 110 ∷ 105 ∷ 110 ∷ 103 ∷ 32 ∷ 48 ∷ 32 ∷ 48 ∷ 10 ∷ [])
 unfolding computed
-tLine-edges = (refl, refl, refl, refl)
+tLine-edges = (refl, refl, refl, refl, refl)
 
 -- "n: segments run.": `n 254`, `n 0`
 pub nLine-edges :

@@ -6,7 +6,7 @@ use lib.Dec.{eqb}
 use lib.ListN.{getD}
 use Rattle.clock.specs.declared.Cycle.{Cycle}
 use Rattle.model.specs.declared.State.{State}
-use Rattle.model.specs.declared.State.the-variants.{Ended, Overrun, Ready, Waiting}
+use Rattle.model.specs.declared.State.the-variants.{Ended, Overrun, Ready, Waiting, Running}
 use Rattle.model.specs.declared.Thread.{Thread}
 use Rattle.model.specs.Refusal.{accepted}
 use Rattle.model.specs.Record.{threadAt}
@@ -19,12 +19,13 @@ unfoldable pub cycleWords : Cycle → List (List ℕ)
 cycleWords c = digitsOf (c .time .0) ∷ digitsOf (c .delta .0) ∷ []
 
 -- "state, then the cycle (for wait: event, cycle begun); other states are ready and overrun": the words are
--- `ended`, `overrun`, `ready` and `wait`
+-- `ended`, `overrun`, `ready` and `wait`, and after document 02, slip 7, `running`
 unfoldable pub stateWords : State → List (List ℕ)
 stateWords (Ended c) = (101 ∷ 110 ∷ 100 ∷ 101 ∷ 100 ∷ []) ∷ cycleWords c
 stateWords (Overrun c) = (111 ∷ 118 ∷ 101 ∷ 114 ∷ 114 ∷ 117 ∷ 110 ∷ []) ∷ cycleWords c
 stateWords (Ready c) = (114 ∷ 101 ∷ 97 ∷ 100 ∷ 121 ∷ []) ∷ cycleWords c
 stateWords (Waiting e c) = (119 ∷ 97 ∷ 105 ∷ 116 ∷ []) ∷ digitsOf e ∷ cycleWords c
+stateWords (Running c) = (114 ∷ 117 ∷ 110 ∷ 110 ∷ 105 ∷ 110 ∷ 103 ∷ []) ∷ cycleWords c
 
 -- "v: variable, value."
 unfoldable pub vLine : ℕ → ℕ → List ℕ

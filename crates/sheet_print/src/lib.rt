@@ -42,6 +42,10 @@ fn put_state(out: &mut [u8], at: usize, s: State) -> usize
             let b = buffers::put_number(out, a, buffers::long_byte(e));
             put_cycle(out, b, c)
         }
+        State::Running(c) => {
+            let a = buffers::put_word(out, at, b" running");
+            put_cycle(out, a, c)
+        }
     }
 }
 
