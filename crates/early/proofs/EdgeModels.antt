@@ -16,7 +16,7 @@ use Rattle.model.specs.declared.Closer.the-variants.{End, Time, Event}
 use Rattle.model.specs.declared.Segment.{Segment}
 use Rattle.model.specs.declared.Model.{Model}
 use Rattle.model.specs.declared.State.{State}
-use Rattle.model.specs.declared.State.the-variants.{Ended, Overrun, Ready, Waiting}
+use Rattle.model.specs.declared.State.the-variants.{Ended, Overrun, Ready, Waiting, Running}
 use Rattle.model.specs.declared.Thread.{Thread}
 use Rattle.model.specs.Port.{noPorts}
 use Rattle.model.specs.Values.{noStatement, noModel, withHead, withSegment, withStart}
@@ -46,6 +46,9 @@ endedIn s t d = inState s (Ended (cycleAt t d))
 
 abbrev pub overrunIn : ℕ → ℕ → ℕ → Thread
 overrunIn s t d = inState s (Overrun (cycleAt t d))
+
+abbrev pub runningIn : ℕ → ℕ → ℕ → Thread
+runningIn s t d = inState s (Running (cycleAt t d))
 
 -- a segment of a few statements
 unfoldable pub segmentOf : Closer → List Statement → Segment

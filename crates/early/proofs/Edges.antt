@@ -57,10 +57,10 @@ withPairs-edges = (refl, refl)
 
 -- "log plus new pairs": three notifications are two new pairs; one where the other is logged
 pub countedPlaces-edges :
-    (countedPlaces doers (siteWith []) 0 0 (cycleAt 5 0) ≡ 2) ×
-    (countedPlaces doers (siteWith (note 1 5 0 ∷ [])) 0 0 (cycleAt 5 0) ≡ 2) ×
-    (countedPlaces doers (siteWith (note 1 5 1 ∷ [])) 0 0 (cycleAt 5 0) ≡ 3) ×
-    (countedPlaces doers (siteWith (note 1 5 1 ∷ [])) 0 1 (cycleAt 5 0) ≡ 1)
+    (countedPlaces doers (siteWith []) [] 0 0 (cycleAt 5 0) ≡ 2) ×
+    (countedPlaces doers (siteWith (note 1 5 0 ∷ [])) [] 0 0 (cycleAt 5 0) ≡ 2) ×
+    (countedPlaces doers (siteWith (note 1 5 1 ∷ [])) [] 0 0 (cycleAt 5 0) ≡ 3) ×
+    (countedPlaces doers (siteWith (note 1 5 1 ∷ [])) [] 0 1 (cycleAt 5 0) ≡ 1)
 unfolding computed doers withStarts segmentOf
 countedPlaces-edges = (refl, refl, refl, refl)
 

@@ -5,3 +5,4 @@ pub mod RequestEdges
 pub mod PortEdges
 pub mod RaisedEdges
 pub mod RowsEdges
+pub mod CallEdges

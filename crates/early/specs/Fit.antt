@@ -9,16 +9,17 @@ use Rattle.clock.specs.declared.Cycle.{Cycle}
 use Rattle.clock.specs.Cycle.{cycleAt}
 use Rattle.clock.specs.Wait.{lastDelta}
 use Rattle.model.specs.declared.Model.{Model}
+use Rattle.model.specs.declared.State.{State}
 use Rattle.model.specs.declared.Thread.{Thread}
 use Rattle.model.specs.Refusal.{accepted}
-use Rattle.model.specs.Limits.{cutTime, recordTime}
-use Rattle.model.specs.Record.{threadAt, cycleOf, Awaited, nothing, awaits, awaitedBy}
+use Rattle.model.specs.Limits.{cutTime, recordTime, isUpToHorizon}
+use Rattle.model.specs.Record.{threadAt, cycleOf, isRunning, Awaited, nothing, awaits, awaitedBy}
 use Rattle.model.specs.Reach.{lacksFrom}
 use Rattle.model.specs.Rules.{modelFault}
 use Rattle.tables.specs.Word.{allOnes}
 use Rattle.early.specs.declared.Notification.{Notification}
 use Rattle.early.specs.declared.Site.{Site}
-use Rattle.early.specs.Log.{places, pairOf}
+use Rattle.early.specs.Log.{places, pairOf, logOf, countedLog}
 
 -- a time below a limit, and no "delta above 1,023"
 unfoldable pub isFitCycle : ℕ → Cycle → Bool
@@ -29,12 +30,16 @@ unfoldable pub isFitWait : Model → Awaited → Bool
 isFitWait m nothing = true
 isFitWait m (awaits e since) = ltb e (m .e)
 
+-- Document 02, slip 7: no "running record later than H"
+unfoldable pub isFitRun : Model → State → Bool
+isFitRun m s = not (isRunning s) || isUpToHorizon m (cycleOf s)
+
 -- the record of thread k: no "segment not below N"; "a record time of exactly 2,000,000,000" is the last; no "record from whose
 -- segment its thread could reach such a port"
 unfoldable pub isFitThread : Model → ℕ → Thread → Bool
 isFitThread m k t =
     ltb (t .segment) (m .n)
-    && (isFitCycle recordTime (cycleOf (t .state)) && (isFitWait m (awaitedBy (t .state)) && not (lacksFrom m k (t .segment))))
+    && ((isFitCycle recordTime (cycleOf (t .state)) && (isFitWait m (awaitedBy (t .state)) && isFitRun m (t .state))) && not (lacksFrom m k (t .segment)))
 
 -- "a log time .. of exactly 1,000,000,000" is the last
 unfoldable pub isFitPair : Model → Notification → Bool
@@ -52,13 +57,17 @@ isUnfitThreads m ts = ltb (length ts) (m .t) || anyBelow (m .t) (λ k. not (isFi
 unfoldable pub isUnfitLog : Model → Site → Bool
 isUnfitLog m s = ltb places (s .count) || anyBelow (s .count) (λ i. not (isFitPair m (getD (s .log) i (pairOf 0 (cycleAt 0 0)))))
 
+-- no "log and counted places above 128 together"
+unfoldable pub isUnfitPlaces : Model → Site → List Thread → Bool
+isUnfitPlaces m s ts = ltb places (length (countedLog m ts (logOf s)))
+
 -- "distance words below N × N"
 unfoldable pub isUnfitWords : Model → List ℕ → Bool
 isUnfitWords m ws = ltb (length ws) (m .n * m .n) || anyBelow (m .n * m .n) (λ i. not (isFitWord (getD ws i 0)))
 
 -- whether 11 applies to the model, the records and the state
 unfoldable pub isUnfitState : Model → Site → List Thread → Bool
-isUnfitState m s ts = not (eqb (modelFault m) accepted) || (isUnfitThreads m ts || isUnfitLog m s)
+isUnfitState m s ts = not (eqb (modelFault m) accepted) || (isUnfitThreads m ts || (isUnfitLog m s || isUnfitPlaces m s ts))
 
 -- whether 11 applies
 unfoldable pub isUnfit : Model → List ℕ → Site → List Thread → Bool

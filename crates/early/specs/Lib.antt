@@ -8,3 +8,4 @@ pub mod Grant
 pub mod Answer
 pub mod Request
 pub mod ByRows
+pub mod Call

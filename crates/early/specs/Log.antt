@@ -1,5 +1,5 @@
 -- Document 01, "Early issue": the log. "a log of 128 places for notifications (event, cycle), an equal pair held once".
-use Prim.Native.Nat.{ℕ, _-_}
+use Prim.Native.Nat.{ℕ, zero, suc, _-_}
 use mathlib.Core.Bool.{Bool, true, false, cond, not, _&&_, _||_}
 use mathlib.Core.List.{List, [], _∷_, _++_}
 use lib.Dec.{eqb}
@@ -10,6 +10,8 @@ use Rattle.clock.specs.declared.Bound.the-variants.{Never, At}
 use Rattle.clock.specs.Cycle.{cycleAt, isBefore, isSame}
 use Rattle.clock.specs.Advance.{least}
 use Rattle.model.specs.declared.Model.{Model}
+use Rattle.model.specs.declared.Thread.{Thread}
+use Rattle.model.specs.Record.{threadAt, cycleOf, isRunning}
 use Rattle.model.specs.Footprint.{listedIn}
 use Rattle.early.specs.declared.Notification.{Notification}
 use Rattle.early.specs.declared.Site.{Site}
@@ -48,9 +50,22 @@ withPairs l c (e ∷ es) = withPairs (withPair l (pairOf e c)) c es
 abbrev pub placesWith : List Notification → Cycle → List ℕ → ℕ
 placesWith l c es = length (withPairs l c es)
 
--- the places that 15 counts: the new pairs of all that the segment s of thread k lists
-unfoldable pub countedPlaces : Model → Site → ℕ → ℕ → Cycle → ℕ
-countedPlaces m site k s c = placesWith (logOf site) c (listedIn m k s)
+-- Document 02, slip 7: "its log places are counted from the grant, an equal pair once": the log with the pairs of all that the running
+-- threads below k list
+unfoldable pub withRunning : Model → List Thread → List Notification → ℕ → List Notification
+withRunning m ts l zero = l
+withRunning m ts l (suc k) =
+    let x = threadAt ts k in
+    let before = withRunning m ts l k in
+    cond (isRunning (x .state)) (withPairs before (cycleOf (x .state)) (listedIn m k (x .segment))) before
+
+-- the places that are taken, or counted for a running thread
+abbrev pub countedLog : Model → List Thread → List Notification → List Notification
+countedLog m ts l = withRunning m ts l (m .t)
+
+-- the places that 15 counts: with those, the new pairs of all that the segment s of thread k lists
+unfoldable pub countedPlaces : Model → Site → List Thread → ℕ → ℕ → Cycle → ℕ
+countedPlaces m site ts k s c = placesWith (countedLog m ts (logOf site)) c (listedIn m k s)
 
 -- "the least logged notification not before its wait", of event e since a cycle
 unfoldable pub isHeard : ℕ → Cycle → Notification → Bool

@@ -1,4 +1,5 @@
--- Document 01, "Early issue" and "Numbers of refusal": a request, and a list of requests. "Requests: 11, 10, 12, 13, 14, 15."
+-- Document 01, "Early issue" and "Numbers of refusal": a request, and a list of requests. "Requests: 11, 10, 12, 13, 14, 15."; document 02,
+-- slip 7: 19 is "checked after 10".
 use Prim.Native.Nat.{ℕ}
 use mathlib.Core.Path.{_≡_}
 use mathlib.Core.Bool.{Bool, false, cond, not, _&&_, _||_}
@@ -10,9 +11,9 @@ use Rattle.clock.specs.declared.Bound.the-variants.{Never, At}
 use Rattle.clock.specs.Advance.{isBoundBefore}
 use Rattle.model.specs.declared.Model.{Model}
 use Rattle.model.specs.declared.Thread.{Thread}
-use Rattle.model.specs.Refusal.{accepted, wrongThread, unfit, notReady, pastHorizon, hazardStands, logFull}
+use Rattle.model.specs.Refusal.{accepted, wrongThread, unfit, outOfTurn, notReady, pastHorizon, hazardStands, logFull}
 use Rattle.model.specs.Limits.{endTime, isBeforeTime}
-use Rattle.model.specs.Record.{threadAt, readyCycle, cycleOf}
+use Rattle.model.specs.Record.{threadAt, readyCycle, cycleOf, isRunning}
 use Rattle.model.specs.Effect.{Effect}
 use Rattle.model.specs.Footprint.{listedIn}
 use Rattle.plain.specs.Start.{freshVariables}
@@ -23,7 +24,7 @@ use Rattle.early.specs.declared.Site.{Site}
 use Rattle.early.specs.declared.Answer.{Answer}
 use Rattle.early.specs.declared.Answer.the-variants.{Granted, Refused}
 use Rattle.early.specs.Answer.{numberOf, valuesOf}
-use Rattle.early.specs.Log.{places, logOf, siteOf, placesWith, countedPlaces}
+use Rattle.early.specs.Log.{places, logOf, siteOf, placesWith, countedLog, countedPlaces}
 use Rattle.early.specs.Hazard.{hazard}
 use Rattle.early.specs.Fit.{isUnfit}
 use Rattle.early.specs.Deliver.{settled}
@@ -37,10 +38,11 @@ abbrev pub isFullBy : Bound → ℕ → Cycle → Bool
 isFullBy floor n c = (isBoundBefore floor (At c) && ltb earlyPlaces n) || ltb places n
 
 unfoldable pub isFull : Model → Site → List Thread → ℕ → Cycle → Bool
-isFull m site ts k c = isFullBy (floorOf m ts) (countedPlaces m site k (threadAt ts k .segment) c) c
+isFull m site ts k c = isFullBy (floorOf m ts) (countedPlaces m site ts k (threadAt ts k .segment) c) c
 
 -- The number on a fit state, 0 for a grant: by T, the end time, whether a hazard stands at a cycle, the floor, the events that the
--- segment lists, and the log. First of a ready thread before the end time, then of one that is ready at a bound's cycle or not ready.
+-- segment lists, and the log with what is counted. First of a ready thread before the end time, then of one that is ready at a bound's
+-- cycle or not ready.
 unfoldable pub numberReady : (Cycle → Bool) → Bound → List ℕ → List Notification → Cycle → ℕ
 numberReady isHazard floor es l c = cond (isHazard c) hazardStands (cond (isFullBy floor (placesWith l c es) c) logFull accepted)
 
@@ -50,13 +52,14 @@ numberAt end isHazard floor es l (At c) = cond (not (isBeforeTime end c)) pastHo
 
 unfoldable pub numberFor : ℕ → ℕ → (Cycle → Bool) → Bound → List ℕ → List Notification → List Thread → ℕ → ℕ
 numberFor t end isHazard floor es l ts k =
-    cond (not (ltb k t)) wrongThread (numberAt end isHazard floor es l (readyCycle (threadAt ts k .state)))
+    let s = threadAt ts k .state in
+    cond (not (ltb k t)) wrongThread (cond (isRunning s) outOfTurn (numberAt end isHazard floor es l (readyCycle s)))
 
 -- the number of a request in a model
 unfoldable pub numberIn : Model → List (List Bool) → List ℕ → Site → List Thread → ℕ → ℕ
 numberIn m marks ws site ts k =
     let l = logOf site in
-    numberFor (m .t) (endTime m) (hazard m marks ws l ts k) (floorOf m ts) (listedIn m k (threadAt ts k .segment)) l ts k
+    numberFor (m .t) (endTime m) (hazard m marks ws l ts k) (floorOf m ts) (listedIn m k (threadAt ts k .segment)) (countedLog m ts l) ts k
 
 -- what a request leaves, with what it adds to each thread's history
 pub record Requested : Type 0 where

@@ -21,7 +21,7 @@ use Rattle.model.specs.declared.Model.{Model}
 use Rattle.model.specs.declared.Thread.{Thread}
 use Rattle.model.specs.Refusal.{accepted, unfit}
 use Rattle.model.specs.Limits.{endTime}
-use Rattle.model.specs.Record.{threadAt, readyCycle, cycleOf, awaitedBy}
+use Rattle.model.specs.Record.{threadAt, readyCycle, cycleOf, isRunning, awaitedBy}
 use Rattle.model.specs.Footprint.{listedIn}
 use Rattle.model.specs.Rules.{modelFault}
 use Rattle.tables.specs.Word.{boundOf, distanceIn}
@@ -33,14 +33,15 @@ use Rattle.plain_laws.proofs.KeepLaws.{modelFault-keeps}
 use Rattle.early.specs.declared.Notification.{Notification}
 use Rattle.early.specs.declared.Site.{Site}
 use Rattle.early.specs.declared.Answer.the-variants.{Granted}
-use Rattle.early.specs.Log.{logOf}
+use Rattle.early.specs.Log.{logOf, countedLog}
 use Rattle.early.specs.Hazard.{hazard}
 use Rattle.early.specs.Deliver.{forecastSooner, lookedBy, lookItemsBy, afterHearing, heardNow, lookedAt, lookItems, settled, settledItems}
-use Rattle.early.specs.Fit.{isFitWord, isUnfitThreads, isUnfitLog, isUnfitWords, isUnfitState, isUnfit}
+use Rattle.early.specs.Fit.{isFitWord, isUnfitThreads, isUnfitLog, isUnfitPlaces, isUnfitWords, isUnfitState, isUnfit}
 use Rattle.early.specs.Grant.{effectAt, logAfter, closedThreads, threadsAfter, siteAfter, itemsAfter}
 use Rattle.early.specs.Request.{numberIn, Requested, refusedWith, grantedTo, answeredBy, requestFit, requestOf}
 use Rattle.early_laws.proofs.LookLaws.{lookedAt-segment}
 use Rattle.early_laws.proofs.SettleLaws.{settledBy-both, settled-past}
+use Rattle.early_laws.proofs.CountedLaws.{withRunning-same}
 use Rattle.early_laws.proofs.FitLaws.{isFitThread→, isUnfitThreads→, isUnfit→}
 use Rattle.early_laws.proofs.GrantLaws.{closedThreads-self, closedThreads-other, threadsAfter-length}
 use Rattle.early_laws.proofs.NumberLaws.{numberFor→passed, numberFor-same}
@@ -189,6 +190,14 @@ closed-below m site ts k c fit enough below j h = go (ℕ-discrete j k)
     go (yes e) = rw (e, closedThreads-self m site ts k c (omega arith)) (modelFault-keeps m fit .next k (threadAt ts k .segment) c (site .variables .at) (below k (omega arith)))
     go (no other) = rw (closedThreads-other m site ts k c j other) (below j h)
 
+-- the same is counted
+pub countedLog-same : (m : Model) (ts us : List Thread) → Agree m ts us → (l : List Notification) → countedLog m ts l ≡ countedLog m us l
+countedLog-same m ts us agree l = withRunning-same m m ts us l (m .t) (agree .same) (λ j h. refl)
+
+pub isUnfitPlaces-same : (m : Model) (ts us : List Thread) → Agree m ts us → (site : Site) → isUnfitPlaces m site ts ≡ isUnfitPlaces m site us
+unfolding isUnfitPlaces
+isUnfitPlaces-same m ts us agree site = rw (countedLog-same m ts us agree (logOf site)) refl
+
 module _ (m : Model) (marks : List (List Bool)) (ws : List ℕ) (site : Site) (k : ℕ) where
   module _ (ys : List ℕ) (ts us : List Thread) (agree : Agree m ts us) where
     refused-alike : (n : ℕ) → AlikeAfter m (refusedWith n site ts) (refusedWith n site us)
@@ -209,15 +218,17 @@ module _ (m : Model) (marks : List (List Bool)) (ws : List ℕ) (site : Site) (k
       number-same : numberIn m marks ws site ts k ≡ numberIn m marks ys site us k
       unfolding numberIn
       number-same =
-          numberFor-same (m .t) (endTime m) (hazard m marks ws (logOf site) ts k) (floorOf m ts) (listedIn m k (threadAt ts k .segment)) (logOf site) ts k
+          rw (countedLog-same m ts us agree (logOf site))
+          (numberFor-same (m .t) (endTime m) (hazard m marks ws (logOf site) ts k) (floorOf m ts) (listedIn m k (threadAt ts k .segment)) (countedLog m us (logOf site)) ts k
           (hazard m marks ys (logOf site) us k) (floorOf m us) (listedIn m k (threadAt us k .segment)) us
           (λ h.
           record {
+            running = ap (λ (t : Thread). isRunning (t .state)) (agree .same k h);
             ready = ap (λ (t : Thread). readyCycle (t .state)) (agree .same k h);
             hazards = λ c _ _. hazard-same m ts us agree ws ys from (logOf site) marks k c h;
             floors = floorOf-same m ts us agree;
             listed = ap (λ (t : Thread). listedIn m k (t .segment)) (agree .same k h);
-          })
+          }))
 
       fit-alike : AlikeAfter m (requestFit m marks ws site ts k) (requestFit m marks ys site us k)
       unfolding requestFit answeredBy numberIn
@@ -230,7 +241,7 @@ module _ (m : Model) (marks : List (List Bool)) (ws : List ℕ) (site : Site) (k
               → AlikeAfter m (answeredBy n site ts (grantedTo m ws site ts k (cycleOf (threadAt ts k .state)))) (answeredBy n site us (grantedTo m ys site us k (cycleOf (threadAt us k .state))))
           go (no other) = rw (ne-eqb n accepted other) (refused-alike n)
           go (yes e) =
-              let (c, p) = numberFor→passed (m .t) (endTime m) (hazard m marks ys (logOf site) us k) (floorOf m us) (listedIn m k (threadAt us k .segment)) (logOf site) us k e in
+              let (c, p) = numberFor→passed (m .t) (endTime m) (hazard m marks ys (logOf site) us k) (floorOf m us) (listedIn m k (threadAt us k .segment)) (countedLog m us (logOf site)) us k e in
               rw (eq-eqb n accepted e, agree .same k (p .thread)) (granted-alike (cycleOf (threadAt us k .state)) (p .thread))
 
     -- "neither read": whatever stands past the threads' records and past N × N words, a request gives the same answer, state and history, and
@@ -238,7 +249,7 @@ module _ (m : Model) (marks : List (List Bool)) (ws : List ℕ) (site : Site) (k
     pub requestOf-unread : take (m .n * m .n) ws ≡ take (m .n * m .n) ys → AlikeAfter m (requestOf m marks ws site ts k) (requestOf m marks ys site us k)
     unfolding requestOf isUnfit isUnfitState
     requestOf-unread words =
-        rw (isUnfitThreads-same m ts us agree, isUnfitWords-same m ws ys words) (go (isUnfit m ys site us) refl)
+        rw (isUnfitThreads-same m ts us agree, isUnfitPlaces-same m ts us agree site, isUnfitWords-same m ws ys words) (go (isUnfit m ys site us) refl)
       where
         go : (b : Bool) → isUnfit m ys site us ≡ b
             → AlikeAfter m (cond b (refusedWith unfit site ts) (requestFit m marks ws site ts k)) (cond b (refusedWith unfit site us) (requestFit m marks ys site us k))
@@ -273,7 +284,7 @@ module _ (m : Model) (marks : List (List Bool)) (ws : List ℕ) (site : Site) (k
     unfolding requestOf isUnfit isUnfitState isUnfitThreads
     requestOf-short h = go (not (eqb (modelFault m) accepted))
       where
-        go : (b : Bool) → cond ((b || (isUnfitThreads m ts || isUnfitLog m site)) || isUnfitWords m ws) (refusedWith unfit site ts) (requestFit m marks ws site ts k) ≡ refusedWith unfit site ts
+        go : (b : Bool) → cond ((b || (isUnfitThreads m ts || (isUnfitLog m site || isUnfitPlaces m site ts))) || isUnfitWords m ws) (refusedWith unfit site ts) (requestFit m marks ws site ts k) ≡ refusedWith unfit site ts
         go true = refl
         go false = rw (lt-ltb (length ts) (m .t) h) refl
 

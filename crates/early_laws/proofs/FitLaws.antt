@@ -3,7 +3,7 @@
 use Prim.Native.Nat.{ℕ, _<_, _≤_, _*_, _/_}
 use mathlib.Core.Path.{_≡_, refl, sym, _∙_, subst}
 use mathlib.Core.Logic.{_⊎_, inl, inr}
-use mathlib.Core.Bool.{Bool, false, not, _&&_, _||_}
+use mathlib.Core.Bool.{Bool, true, false, not, _&&_, _||_}
 use mathlib.Core.List.{List}
 use native.Mathlib.Omega.{arith}
 use lib.Dec.{T, ltb, leb, eqb, T-not, not-T, ltb→lt, lt→ltb, nltb→le, leb→le, le→leb, eqb→eq}
@@ -11,7 +11,7 @@ use lib.ListN.{length, getD, length-take, List·getD-append}
 use lib.Seq.{getD-take}
 use borrow.Author.Tests.{le-ltb, eq-eqb}
 use Rattle.base.specs.Index.{anyBelow}
-use Rattle.base.proofs.BoolLaws.{T→false, false→T, not-not, and→both, both→and, or→either, either→or, not-or→both, eq→eqb}
+use Rattle.base.proofs.BoolLaws.{T→true, true→T, T→false, false→T, not-not, and→both, both→and, or→either, either→or, not-or→both, eq→eqb}
 use Rattle.base.proofs.IndexLaws.{anyBelow-none, anyBelow-some}
 use Rattle.clock.specs.declared.Cycle.{Cycle}
 use Rattle.clock.specs.Cycle.{cycleAt}
@@ -19,16 +19,16 @@ use Rattle.clock.specs.Wait.{lastDelta}
 use Rattle.model.specs.declared.Model.{Model}
 use Rattle.model.specs.declared.Thread.{Thread}
 use Rattle.model.specs.Refusal.{accepted}
-use Rattle.model.specs.Limits.{cutTime, recordTime}
+use Rattle.model.specs.Limits.{cutTime, recordTime, isUpToHorizon}
 use Rattle.model.specs.Record as view
-use Rattle.model.specs.Record.{threadAt, cycleOf, awaitedBy, viewOf, View, awaitedOf}
+use Rattle.model.specs.Record.{threadAt, cycleOf, isRunning, awaitedBy, viewOf, View, awaitedOf}
 use Rattle.model.specs.Reach.{lacksFrom}
 use Rattle.model.specs.Rules.{modelFault}
 use Rattle.tables.specs.Word.{allOnes}
 use Rattle.early.specs.declared.Notification.{Notification}
 use Rattle.early.specs.declared.Site.{Site}
-use Rattle.early.specs.Log.{places, pairOf, logOf, siteOf}
-use Rattle.early.specs.Fit.{isFitCycle, isFitWait, isFitThread, isFitPair, isFitWord, isUnfitThreads, isUnfitLog, isUnfitWords, isUnfit, isUnfitState}
+use Rattle.early.specs.Log.{places, pairOf, logOf, siteOf, countedLog}
+use Rattle.early.specs.Fit.{isFitCycle, isFitWait, isFitThread, isFitPair, isFitWord, isFitRun, isUnfitThreads, isUnfitLog, isUnfitPlaces, isUnfitWords, isUnfit, isUnfitState}
 use Rattle.early_laws.proofs.LogLaws.{In}
 use Rattle.early_laws.proofs.OnceLaws.{getD-In, In-getD}
 
@@ -55,40 +55,53 @@ pub record FitThread (m : Model) (k : ℕ) (t : Thread) : Type 0 where
   pub segment : t .segment < m .n
   pub cycle : FitCycle recordTime (cycleOf (t .state))
   pub event : (e : ℕ) (since : Cycle) → viewOf (t .state) ≡ view.waits e since → e < m .e
+  pub soon : isRunning (t .state) ≡ true → isUpToHorizon m (cycleOf (t .state)) ≡ true
   pub lacks : lacksFrom m k (t .segment) ≡ false
 
 pub isFitThread→ : (m : Model) (k : ℕ) (t : Thread) → T (isFitThread m k t) → FitThread m k t
-unfolding isFitThread isFitWait
+unfolding isFitThread isFitWait isFitRun
 isFitThread→ m k t u =
     let lacked = lacksFrom m k (t .segment) in
     let waits = isFitWait m (awaitedBy (t .state)) in
+    let runs = isFitRun m (t .state) in
     let timely = isFitCycle recordTime (cycleOf (t .state)) in
-    let (p, q) = and→both (ltb (t .segment) (m .n)) (timely && (waits && not lacked)) u in
-    let (r, x) = and→both timely (waits && not lacked) q in
-    let (s, n) = and→both waits (not lacked) x in
+    let (p, q) = and→both (ltb (t .segment) (m .n)) ((timely && (waits && runs)) && not lacked) u in
+    let (x, n) = and→both (timely && (waits && runs)) (not lacked) q in
+    let (r, y) = and→both timely (waits && runs) x in
+    let (s, z) = and→both waits runs y in
     record {
       segment = ltb→lt (t .segment) (m .n) p;
       cycle = isFitCycle→ recordTime (cycleOf (t .state)) r;
       event = λ e since w. ltb→lt e (m .e) (subst (λ (v : View). T (isFitWait m (awaitedOf v))) w s);
+      soon = λ e. T→true (isUpToHorizon m (cycleOf (t .state))) (subst (λ (b : Bool). T (not b || isUpToHorizon m (cycleOf (t .state)))) e z);
       lacks = T→false lacked n;
     }
 
 pub →isFitThread : (m : Model) (k : ℕ) (t : Thread) → FitThread m k t → T (isFitThread m k t)
-unfolding isFitThread isFitWait
+unfolding isFitThread isFitWait isFitRun
 →isFitThread m k t f =
     let lacked = lacksFrom m k (t .segment) in
     let waits = isFitWait m (awaitedBy (t .state)) in
+    let runs = isFitRun m (t .state) in
     let timely = isFitCycle recordTime (cycleOf (t .state)) in
     both→and
     (ltb (t .segment) (m .n))
-    (timely && (waits && not lacked))
+    ((timely && (waits && runs)) && not lacked)
     (lt→ltb (t .segment) (m .n) (f .segment))
     (both→and
+    (timely && (waits && runs))
+    (not lacked)
+    (both→and
     timely
-    (waits && not lacked)
+    (waits && runs)
     (→isFitCycle recordTime (cycleOf (t .state)) (f .cycle))
-    (both→and waits (not lacked) (wait (viewOf (t .state)) (f .event)) (false→T lacked (f .lacks))))
+    (both→and waits runs (wait (viewOf (t .state)) (f .event)) (run (isRunning (t .state)) (f .soon))))
+    (false→T lacked (f .lacks)))
   where
+    run : (b : Bool) → (b ≡ true → isUpToHorizon m (cycleOf (t .state)) ≡ true) → T (not b || isUpToHorizon m (cycleOf (t .state)))
+    run false h = tt
+    run true h = true→T (isUpToHorizon m (cycleOf (t .state))) (h refl)
+
     wait : (v : View) → ((e : ℕ) (since : Cycle) → v ≡ view.waits e since → e < m .e) → T (isFitWait m (awaitedOf v))
     wait view.idle h = tt
     wait (view.ready c) h = tt
@@ -173,34 +186,48 @@ pub →isUnfitWords : (m : Model) (ws : List ℕ) → m .n * m .n ≤ length ws 
 unfolding isUnfitWords
 →isUnfitWords m ws h all = →within (length ws) (m .n * m .n) (m .n * m .n) (λ i. isFitWord (getD ws i 0)) h all
 
+pub isUnfitPlaces→ : (m : Model) (site : Site) (ts : List Thread) → isUnfitPlaces m site ts ≡ false → length (countedLog m ts (logOf site)) ≤ places
+unfolding isUnfitPlaces
+isUnfitPlaces→ m site ts e = nltb→le places (length (countedLog m ts (logOf site))) (false→T (isUnfitPlaces m site ts) e)
+
+pub →isUnfitPlaces : (m : Model) (site : Site) (ts : List Thread) → length (countedLog m ts (logOf site)) ≤ places → isUnfitPlaces m site ts ≡ false
+unfolding isUnfitPlaces
+→isUnfitPlaces m site ts h = le-ltb places (length (countedLog m ts (logOf site))) h
+
 -- the whole
 
 pub record Fit (m : Model) (ws : List ℕ) (site : Site) (ts : List Thread) : Type 0 where
   pub model : modelFault m ≡ accepted
   pub threads : isUnfitThreads m ts ≡ false
   pub log : isUnfitLog m site ≡ false
+  pub counted : isUnfitPlaces m site ts ≡ false
   pub words : isUnfitWords m ws ≡ false
 
 -- without the words
 pub state-fit : (m : Model) (site : Site) (ts : List Thread) → isUnfitState m site ts ≡ false
-    → (modelFault m ≡ accepted) × (isUnfitThreads m ts ≡ false) × (isUnfitLog m site ≡ false)
+    → (modelFault m ≡ accepted) × (isUnfitThreads m ts ≡ false) × (isUnfitLog m site ≡ false) × (isUnfitPlaces m site ts ≡ false)
 unfolding isUnfitState
 state-fit m site ts e =
     let broken = not (eqb (modelFault m) accepted) in
-    let (a, q) = not-or→both broken (isUnfitThreads m ts || isUnfitLog m site) (false→T (isUnfitState m site ts) e) in
-    let (b, c) = not-or→both (isUnfitThreads m ts) (isUnfitLog m site) q in
-    (eqb→eq (modelFault m) accepted (not-not (eqb (modelFault m) accepted) a), T→false (isUnfitThreads m ts) b, T→false (isUnfitLog m site) c)
+    let (a, q) = not-or→both broken (isUnfitThreads m ts || (isUnfitLog m site || isUnfitPlaces m site ts)) (false→T (isUnfitState m site ts) e) in
+    let (b, r) = not-or→both (isUnfitThreads m ts) (isUnfitLog m site || isUnfitPlaces m site ts) q in
+    let (c, d) = not-or→both (isUnfitLog m site) (isUnfitPlaces m site ts) r in (
+      eqb→eq (modelFault m) accepted (not-not (eqb (modelFault m) accepted) a),
+      T→false (isUnfitThreads m ts) b,
+      T→false (isUnfitLog m site) c,
+      T→false (isUnfitPlaces m site ts) d,
+    )
 
 pub isUnfit→ : (m : Model) (ws : List ℕ) (site : Site) (ts : List Thread) → isUnfit m ws site ts ≡ false → Fit m ws site ts
 unfolding isUnfit
 isUnfit→ m ws site ts e =
     let (p, d) = not-or→both (isUnfitState m site ts) (isUnfitWords m ws) (false→T (isUnfit m ws site ts) e) in
-    let (a, b, c) = state-fit m site ts (T→false (isUnfitState m site ts) p) in
-    record { model = a; threads = b; log = c; words = T→false (isUnfitWords m ws) d }
+    let (a, b, c, f) = state-fit m site ts (T→false (isUnfitState m site ts) p) in
+    record { model = a; threads = b; log = c; counted = f; words = T→false (isUnfitWords m ws) d }
 
 pub →isUnfit : (m : Model) (ws : List ℕ) (site : Site) (ts : List Thread) → Fit m ws site ts → isUnfit m ws site ts ≡ false
 unfolding isUnfit isUnfitState
-→isUnfit m ws site ts f = rw (eq-eqb (modelFault m) accepted (f .model), f .threads, f .log, f .words) refl
+→isUnfit m ws site ts f = rw (eq-eqb (modelFault m) accepted (f .model), f .threads, f .log, f .counted, f .words) refl
 
 -- what is logged is fit
 

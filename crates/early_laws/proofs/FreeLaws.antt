@@ -30,7 +30,7 @@ use Rattle.early.specs.declared.Notification.{Notification}
 use Rattle.early.specs.Log.{places, pairOf, logOf, holds, withPair, withPairs, dropBefore, isDropped}
 use Rattle.early.specs.Earliest.{earliestOf}
 use Rattle.early.specs.Hazard.{portsConflict, threadsConflict, isSooner, threatens, hazard}
-use Rattle.early.specs.Fit.{isFitPair, isUnfitThreads, isUnfitLog, isUnfitWords, isUnfit, isUnfitState}
+use Rattle.early.specs.Fit.{isFitPair, isUnfitThreads, isUnfitLog, isUnfitPlaces, isUnfitWords, isUnfit, isUnfitState}
 use Rattle.early.specs.Grant.{effectAt, logAfter, threadsAfter, siteAfter}
 use Rattle.early.specs.Answer.{numberOf}
 use Rattle.early.specs.Request.{numberIn, Requested, refusedWith, grantedTo, answeredBy, requestFit, requestOf}
@@ -73,8 +73,10 @@ module _ (m : Model) (marks : List (List Bool)) (ws : List ℕ) (ts : List Threa
   refused-alike n other-number = record { answer = refl; threads = refl; granted = λ e. absurd (other-number e) }
 
   isUnfit-held : isUnfit m ws site ts ≡ isUnfit m ws other ts
-  unfolding isUnfit isUnfitState isUnfitLog logOf
-  isUnfit-held = rw count (ap (λ (x : Bool). (not (eqb (modelFault m) accepted) || (isUnfitThreads m ts || (ltb places (other .count) || x))) || isUnfitWords m ws) judged)
+  unfolding isUnfit isUnfitState isUnfitLog isUnfitPlaces logOf
+  isUnfit-held =
+      rw (held, count)
+      (ap (λ (x : Bool). (not (eqb (modelFault m) accepted) || (isUnfitThreads m ts || ((ltb places (other .count) || x) || isUnfitPlaces m other ts))) || isUnfitWords m ws) judged)
     where
       at : (i : ℕ) → i < other .count → getD (site .log) i (pairOf 0 (cycleAt 0 0)) ≡ getD (other .log) i (pairOf 0 (cycleAt 0 0))
       at i h = sym (getD-take (site .count) (site .log) i (pairOf 0 (cycleAt 0 0)) (omega (arith, count))) ∙ ap (λ (l : List Notification). getD l i (pairOf 0 (cycleAt 0 0))) held ∙ getD-take (other .count) (other .log) i (pairOf 0 (cycleAt 0 0)) h

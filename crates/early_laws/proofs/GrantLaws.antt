@@ -1,7 +1,8 @@
 -- What a grant leaves, part by part: the log with the new pairs, dropped before the floor; the variables of the segment's effect; the record
 -- of the thread that ran, and every other as the deliveries leave it. And when a log is too full for one.
 use Prim.Native.Nat.{ℕ, _<_, _≤_}
-use mathlib.Core.Path.{_≡_, refl, ap, _∙_}
+use mathlib.Core.Path.{_≡_, refl, ap, sym, _∙_, subst}
+use mathlib.Core.Logic.{inl}
 use mathlib.Core.Bool.{false, _&&_, _||_}
 use mathlib.Core.List.{List, _∷_}
 use lib.Dec.{T, ltb, nltb→le}
@@ -16,28 +17,30 @@ use Rattle.clock.proofs.LeastLaws.{≼→not-isBoundBefore}
 use Rattle.model.specs.declared.Model.{Model}
 use Rattle.model.specs.declared.Thread.{Thread}
 use Rattle.model.specs.Record.{threadAt, nothing, awaitedBy}
+use Rattle.model.specs.Footprint.{has, listedIn}
 use Rattle.model_effect.proofs.FrameLaws.{effectOf-begins}
 use Rattle.plain.specs.Wake.{floorOf}
 use Rattle.plain.specs.History.{ran}
-use Rattle.plain_laws.proofs.RecordLaws.{threadAt-set, threadAt-other}
+use Rattle.plain_laws.proofs.RecordLaws.{threadAt-set, threadAt-other, append-has}
 use Rattle.early.specs.declared.Site.{Site}
 use Rattle.early.specs.Log.{places, logOf, dropBefore, countedPlaces}
 use Rattle.early.specs.Deliver.{settledItems}
 use Rattle.early.specs.Grant.{effectAt, logAfter, closedThreads, threadsAfter, siteAfter, itemsAfter}
 use Rattle.early.specs.Request.{earlyPlaces, isFull}
 use Rattle.early_laws.proofs.LogLaws.{logOf-siteOf, siteOf-variables}
-use Rattle.early_laws.proofs.OnceLaws.{placesWith-begins}
+use Rattle.early_laws.proofs.CountedLaws.{placesWith-counted}
 use Rattle.early_laws.proofs.NumberLaws.{isFullBy-none}
 use Rattle.early_laws.proofs.RestLaws.{Rest, settled-rest}
 use Rattle.early_laws.proofs.SettleLaws.{settled-length, settled-segment, settled-kept}
 
 module _ (m : Model) (site : Site) (ts : List Thread) (k : ℕ) (c : Cycle) where
   -- "its notifications are logged": in no more places than 15 counts, as the segment notifies a beginning of what it lists
-  pub logAfter-counted : length (logAfter m site ts k c) ≤ countedPlaces m site k (threadAt ts k .segment) c
+  pub logAfter-counted : length (logAfter m site ts k c) ≤ countedPlaces m site ts k (threadAt ts k .segment) c
   unfolding logAfter effectAt countedPlaces
   logAfter-counted =
       let (rest, p) = effectOf-begins m k (threadAt ts k .segment) c (site .variables .at) in
-      rw p (placesWith-begins (logOf site) c (effectAt m site ts k c .notified) rest)
+      placesWith-counted m ts (logOf site) c (effectAt m site ts k c .notified) (listedIn m k (threadAt ts k .segment))
+      (λ e t. subst (λ (es : List ℕ). T (has es e)) (sym p) (append-has (effectAt m site ts k c .notified) rest e (inl t)))
 
   -- "its closer is applied at its cycle"
 
@@ -55,23 +58,23 @@ module _ (m : Model) (site : Site) (ts : List Thread) (k : ℕ) (c : Cycle) wher
 
   -- 15, "cycle later than the floor and log plus new pairs above 96; or above 128 for any thread"
 
-  pub isFull-none : isFull m site ts k c ≡ false → countedPlaces m site k (threadAt ts k .segment) c ≤ places
+  pub isFull-none : isFull m site ts k c ≡ false → countedPlaces m site ts k (threadAt ts k .segment) c ≤ places
   unfolding isFull
-  isFull-none e = isFullBy-none (floorOf m ts) (countedPlaces m site k (threadAt ts k .segment) c) c e
+  isFull-none e = isFullBy-none (floorOf m ts) (countedPlaces m site ts k (threadAt ts k .segment) c) c e
 
-  pub isFull-early : isFull m site ts k c ≡ false → T (isBoundBefore (floorOf m ts) (At c)) → countedPlaces m site k (threadAt ts k .segment) c ≤ earlyPlaces
+  pub isFull-early : isFull m site ts k c ≡ false → T (isBoundBefore (floorOf m ts) (At c)) → countedPlaces m site ts k (threadAt ts k .segment) c ≤ earlyPlaces
   unfolding isFull
   isFull-early e t =
-      let n = countedPlaces m site k (threadAt ts k .segment) c in
+      let n = countedPlaces m site ts k (threadAt ts k .segment) c in
       let early = isBoundBefore (floorOf m ts) (At c) && ltb earlyPlaces n in
       let p = not-or→both early (ltb places n) (false→T (early || ltb places n) e) .0 in
       nltb→le earlyPlaces n (rw (T→true (isBoundBefore (floorOf m ts) (At c)) t) at p)
 
   -- at the floor 96 does not count
-  pub isFull-floor : At c ≼ floorOf m ts → countedPlaces m site k (threadAt ts k .segment) c ≤ places → isFull m site ts k c ≡ false
+  pub isFull-floor : At c ≼ floorOf m ts → countedPlaces m site ts k (threadAt ts k .segment) c ≤ places → isFull m site ts k c ≡ false
   unfolding isFull
   isFull-floor h le =
-      let n = countedPlaces m site k (threadAt ts k .segment) c in
+      let n = countedPlaces m site ts k (threadAt ts k .segment) c in
       rw
       (T→false (isBoundBefore (floorOf m ts) (At c)) (≼→not-isBoundBefore (floorOf m ts) (At c) h), le-ltb places n le)
       refl

@@ -1,5 +1,7 @@
 pub mod LogLaws
 pub mod OnceLaws
+pub mod CountedLaws
+pub mod HeldLaws
 pub mod RoomLaws
 pub mod RaiseLaws
 pub mod LinkLaws
@@ -25,3 +27,4 @@ pub mod AlikeLaws
 pub mod EntryLaws
 pub mod PastLaws
 pub mod ByRowsLaws
+pub mod CallLaws

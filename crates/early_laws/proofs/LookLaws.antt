@@ -2,6 +2,7 @@
 -- that does not wait is kept.
 use Prim.Native.Nat.{ℕ, _<_}
 use mathlib.Core.Path.{_≡_, refl, ap, sym, _∙_, subst, subst₂}
+use mathlib.Core.Bool.{true}
 use mathlib.Core.List.{List, [], _∷_, List·Memᴰ, List·Memᴰ·not-nil, List·Memᴰ·eq-of-singleton}
 use native.Mathlib.Omega.{arith}
 use native.Mathlib.Decide.{decLt, ℕ-discrete}
@@ -23,9 +24,9 @@ use Rattle.clock.proofs.LeastLaws.{not-isBoundBefore→≼, ≼→not-isBoundBe
 use Rattle.model.specs.declared.Model.{Model}
 use Rattle.model.specs.declared.Thread.{Thread}
 use Rattle.model.specs.Record as view
-use Rattle.model.specs.Record.{noThread, threadAt, isLive, Awaited, nothing, awaits, awaitedBy, stateAfter, viewOf}
+use Rattle.model.specs.Record.{noThread, threadAt, isLive, isRunning, Awaited, nothing, awaits, awaitedBy, stateAfter, viewOf}
 use Rattle.plain.specs.History.{Item, heard, heardItem}
-use Rattle.plain_laws.proofs.RecordLaws.{threadAt-set, threadAt-other, threadAt-past, awaits→waits}
+use Rattle.plain_laws.proofs.RecordLaws.{threadAt-set, threadAt-other, threadAt-past, awaits→waits, stateAfter-unbegun}
 use Rattle.early.specs.declared.Notification.{Notification}
 use Rattle.early.specs.Log.{leastHeard}
 use Rattle.early.specs.Forecast.{forecastOf}
@@ -151,6 +152,17 @@ module _ (m : Model) (ws : List ℕ) (l : List Notification) (ts : List Thread) 
       go (yes same) =
           let none = heardAt-other j w in
           ap (λ (us : List Thread). threadAt us j) (lookedAt-none k (subst (λ (i : ℕ). heardAt m ws l ts i ≡ Never) same none))
+
+  -- who is running after a look was so before it
+  pub lookedAt-running : (k j : ℕ) → isRunning (threadAt (lookedAt m ws l ts k) j .state) ≡ true → threadAt (lookedAt m ws l ts k) j ≡ threadAt ts j
+  lookedAt-running k j r = go (looked k) (ℕ-discrete j k)
+    where
+      go : Looked k → Dec (j ≡ k) → threadAt (lookedAt m ws l ts k) j ≡ threadAt ts j
+      go (unheard e) d = ap (λ (us : List Thread). threadAt us j) (lookedAt-none k e)
+      go (hears x e) (no other) = lookedAt-other k j other
+      go (hears x e) (yes same) =
+          let here = ap (λ (i : ℕ). isRunning (threadAt (lookedAt m ws l ts k) i .state)) same ∙ ap (λ (t : Thread). isRunning (t .state)) (lookedAt-self k x e) in
+          absurd (subst T (sym r ∙ here ∙ stateAfter-unbegun (waitEnds wait.Event x)) tt)
 
   -- who is live after a look was live before it
   pub lookedAt-live : (k j : ℕ) → T (isLive (threadAt (lookedAt m ws l ts k) j .state)) → T (isLive (threadAt ts j .state))

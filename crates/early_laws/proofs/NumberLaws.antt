@@ -21,9 +21,9 @@ use Rattle.clock.specs.declared.Bound.the-variants.{Never, At}
 use Rattle.clock.specs.Advance.{isBoundBefore}
 use Rattle.model.specs.declared.State.{State}
 use Rattle.model.specs.declared.Thread.{Thread}
-use Rattle.model.specs.Refusal.{accepted, wrongThread, unfit, notReady, pastHorizon, hazardStands, logFull}
+use Rattle.model.specs.Refusal.{accepted, wrongThread, unfit, outOfTurn, notReady, pastHorizon, hazardStands, logFull}
 use Rattle.model.specs.Limits.{isBeforeTime}
-use Rattle.model.specs.Record.{threadAt, readyCycle, cycleOf, viewOf}
+use Rattle.model.specs.Record.{threadAt, readyCycle, cycleOf, isRunning, viewOf}
 use Rattle.plain_laws.proofs.RecordLaws.{readyCycle→ready, ready-cycle}
 use Rattle.early.specs.declared.Notification.{Notification}
 use Rattle.early.specs.Log.{places, placesWith}
@@ -46,6 +46,7 @@ module _ (t end : ℕ) (isHazard : Cycle → Bool) (floor : Bound) (es : List �
   -- what stands where it is 0
   pub record Passed (c : Cycle) : Type 0 where
     pub thread : k < t
+    pub unbegun : isRunning (threadAt ts k .state) ≡ false
     pub ready : readyCycle (threadAt ts k .state) ≡ At c
     pub in-time : isBeforeTime end c ≡ true
     pub no-hazard : isHazard c ≡ false
@@ -62,11 +63,16 @@ module _ (t end : ℕ) (isHazard : Cycle → Bool) (floor : Bound) (es : List �
       Decided
       (not (ltb k t))
       (λ u. refuses wrongThread (λ e. omega arith) (λ e. omega arith))
-      (λ u. at (ltb→lt k t (not-not (ltb k t) u)) (readyCycle (threadAt ts k .state)) refl)
+      (λ u.
+      cond-case
+      Decided
+      (isRunning (threadAt ts k .state))
+      (λ r. refuses outOfTurn (λ e. omega arith) (λ e. omega arith))
+      (λ r. at (ltb→lt k t (not-not (ltb k t) u)) (T→false (isRunning (threadAt ts k .state)) r) (readyCycle (threadAt ts k .state)) refl))
     where
-      at : k < t → (b : Bound) → readyCycle (threadAt ts k .state) ≡ b → Decided (numberAt end isHazard floor es l b)
-      at h Never e = refuses notReady (λ e. omega arith) (λ e. omega arith)
-      at h (At c) e =
+      at : k < t → isRunning (threadAt ts k .state) ≡ false → (b : Bound) → readyCycle (threadAt ts k .state) ≡ b → Decided (numberAt end isHazard floor es l b)
+      at h n Never e = refuses notReady (λ e. omega arith) (λ e. omega arith)
+      at h n (At c) e =
           let full = isFullBy floor (placesWith l c es) c in
           cond-case
           Decided
@@ -87,6 +93,7 @@ module _ (t end : ℕ) (isHazard : Cycle → Bool) (floor : Bound) (es : List �
           c
           (record {
             thread = h;
+            unbegun = n;
             ready = e;
             in-time = T→true (isBeforeTime end c) (not-not (isBeforeTime end c) a);
             no-hazard = T→false (isHazard c) b;
@@ -102,11 +109,12 @@ module _ (t end : ℕ) (isHazard : Cycle → Bool) (floor : Bound) (es : List �
 
   pub passed→numberFor : (c : Cycle) → Passed c → numberFor t end isHazard floor es l ts k ≡ accepted
   unfolding numberFor numberAt numberReady
-  passed→numberFor c p = rw (lt-ltb k t (p .thread), p .ready, p .in-time, p .no-hazard, p .room) refl
+  passed→numberFor c p = rw (lt-ltb k t (p .thread), p .unbegun, p .ready, p .in-time, p .no-hazard, p .room) refl
 
   -- what stands where it is 0 or 15: the thread is ready before the end time, and no hazard stands
   pub record Clear (c : Cycle) : Type 0 where
     pub thread : k < t
+    pub unbegun : isRunning (threadAt ts k .state) ≡ false
     pub ready : readyCycle (threadAt ts k .state) ≡ At c
     pub in-time : isBeforeTime end c ≡ true
     pub no-hazard : isHazard c ≡ false
@@ -114,7 +122,7 @@ module _ (t end : ℕ) (isHazard : Cycle → Bool) (floor : Bound) (es : List �
   pub clear→numberFor : (c : Cycle) → Clear c → ZeroOrFull (numberFor t end isHazard floor es l ts k)
   unfolding numberFor numberAt numberReady
   clear→numberFor c p =
-      rw (lt-ltb k t (p .thread), p .ready, p .in-time, p .no-hazard)
+      rw (lt-ltb k t (p .thread), p .unbegun, p .ready, p .in-time, p .no-hazard)
       (cond-case ZeroOrFull (isFullBy floor (placesWith l c es) c) (λ d. inr refl) (λ d. inl refl))
 
   pub numberFor→clear : ZeroOrFull (numberFor t end isHazard floor es l ts k) → (c : Cycle) × Clear c
@@ -123,32 +131,38 @@ module _ (t end : ℕ) (isHazard : Cycle → Bool) (floor : Bound) (es : List �
       cond-case
       Found
       (not (ltb k t))
-      (λ u e. absurd (other wrongThread (omega arith) (omega arith) e))
-      (λ u. at (ltb→lt k t (not-not (ltb k t) u)) (readyCycle (threadAt ts k .state)) refl)
+      (λ u e. absurd (other wrongThread (omega arith) (λ p. omega arith) e))
+      (λ u.
+      cond-case
+      Found
+      (isRunning (threadAt ts k .state))
+      (λ r e. absurd (other outOfTurn (omega arith) (λ p. omega arith) e))
+      (λ r. at (ltb→lt k t (not-not (ltb k t) u)) (T→false (isRunning (threadAt ts k .state)) r) (readyCycle (threadAt ts k .state)) refl))
     where
       Found : ℕ → Type 0
       Found n = ZeroOrFull n → (c : Cycle) × Clear c
 
-      other : (n : ℕ) → 0 < n → n < 15 → ZeroOrFull n → ⊥
+      other : (n : ℕ) → 0 < n → (n ≡ logFull → ⊥) → ZeroOrFull n → ⊥
       other n p q (inl e) = omega arith
-      other n p q (inr e) = omega arith
+      other n p q (inr e) = q e
 
-      at : k < t → (b : Bound) → readyCycle (threadAt ts k .state) ≡ b → Found (numberAt end isHazard floor es l b)
-      at h Never e = λ f. absurd (other notReady (omega arith) (omega arith) f)
-      at h (At c) e =
+      at : k < t → isRunning (threadAt ts k .state) ≡ false → (b : Bound) → readyCycle (threadAt ts k .state) ≡ b → Found (numberAt end isHazard floor es l b)
+      at h n Never e = λ f. absurd (other notReady (omega arith) (λ p. omega arith) f)
+      at h n (At c) e =
           cond-case
           Found
           (not (isBeforeTime end c))
-          (λ a f. absurd (other pastHorizon (omega arith) (omega arith) f))
+          (λ a f. absurd (other pastHorizon (omega arith) (λ p. omega arith) f))
           (λ a.
           cond-case
           Found
           (isHazard c)
-          (λ b f. absurd (other hazardStands (omega arith) (omega arith) f))
+          (λ b f. absurd (other hazardStands (omega arith) (λ p. omega arith) f))
           (λ b f. (
             c,
             record {
               thread = h;
+              unbegun = n;
               ready = e;
               in-time = T→true (isBeforeTime end c) (not-not (isBeforeTime end c) a);
               no-hazard = T→false (isHazard c) b;
@@ -158,6 +172,7 @@ module _ (t end : ℕ) (isHazard : Cycle → Bool) (floor : Bound) (es : List �
   -- the same number where, for a thread below T, the same is asked
   module _ (isThreat : Cycle → Bool) (bound : Bound) (fs : List ℕ) (us : List Thread) where
     pub record SameAsked : Type 0 where
+      pub running : isRunning (threadAt ts k .state) ≡ isRunning (threadAt us k .state)
       pub ready : readyCycle (threadAt ts k .state) ≡ readyCycle (threadAt us k .state)
       pub hazards : (c : Cycle) → readyCycle (threadAt ts k .state) ≡ At c → isBeforeTime end c ≡ true → isHazard c ≡ isThreat c
       pub floors : floor ≡ bound
@@ -177,5 +192,5 @@ module _ (t end : ℕ) (isHazard : Cycle → Bool) (floor : Bound) (es : List �
         at (At c) h = timed c (isBeforeTime end c) refl (h c refl)
 
         go : Dec (k < t) → numberFor t end isHazard floor es l ts k ≡ numberFor t end isThreat bound fs l us k
-        go (yes h) = rw (← same h .floors, ← same h .listed, ← same h .ready) (ap (cond (not (ltb k t)) wrongThread) (at (readyCycle (threadAt ts k .state)) (same h .hazards)))
+        go (yes h) = rw (← same h .floors, ← same h .listed, ← same h .running, ← same h .ready) (ap (λ (n : ℕ). cond (not (ltb k t)) wrongThread (cond (isRunning (threadAt ts k .state)) outOfTurn n)) (at (readyCycle (threadAt ts k .state)) (same h .hazards)))
         go (no h) = rw (le-ltb k t (omega arith)) refl

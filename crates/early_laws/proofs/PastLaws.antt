@@ -26,7 +26,7 @@ use Rattle.model.specs.declared.Thread.{Thread}
 use Rattle.model.specs.declared.Variables.{Variables}
 use Rattle.model.specs.Refusal.{accepted, wrongThread, unfit}
 use Rattle.model.specs.Values.{segmentAt, startAt}
-use Rattle.model.specs.Limits.{recordTime}
+use Rattle.model.specs.Limits.{recordTime, isUpToHorizon}
 use Rattle.model.specs.Record.{threadAt, isLive, cycleOf, Awaited, nothing, awaits, awaitedBy}
 use Rattle.model.specs.Footprint.{has, writesIn, listedIn, notifiesIn}
 use Rattle.model.specs.Reach.{lacksFrom}
@@ -37,14 +37,15 @@ use Rattle.model_rules.proofs.RuleLaws.{modelFault-uses, modelFault-writes}
 use Rattle.tables.specs.Word.{distanceIn}
 use Rattle.early.specs.declared.Site.{Site}
 use Rattle.early.specs.declared.Notification.{Notification}
-use Rattle.early.specs.Log.{logOf, siteOf}
+use Rattle.early.specs.Log.{logOf, siteOf, countedLog}
 use Rattle.early.specs.Earliest.{sources, soonestNotify, raised, afterNotify, linkTo, relaxed, withLinks, earliestOf}
 use Rattle.early.specs.Forecast.{forecastOf}
 use Rattle.early.specs.Hazard.{threadsConflict, isSooner, threatens, hazard}
 use Rattle.early.specs.Deliver.{forecastSooner}
-use Rattle.early.specs.Fit.{isFitCycle, isFitWait, isFitThread, isFitPair, isUnfitThreads, isUnfitLog, isUnfitWords, isUnfit, isUnfitState}
+use Rattle.early.specs.Fit.{isFitCycle, isFitWait, isFitRun, isFitThread, isFitPair, isUnfitThreads, isUnfitLog, isUnfitPlaces, isUnfitWords, isUnfit, isUnfitState}
 use Rattle.early.specs.Grant.{logBy, effectAt, logAfter, closedThreads, itemsAfter}
 use Rattle.early.specs.Request.{numberFor, numberIn, Requested, refusedWith, grantedTo, answeredBy, requestFit, requestOf}
+use Rattle.early_laws.proofs.CountedLaws.{withRunning-same}
 use Rattle.early_laws.proofs.FitLaws.{FitThread, isFitThread→, isUnfitThreads→, isUnfit→}
 use Rattle.early_laws.proofs.NumberLaws.{numberFor→passed}
 use Rattle.early_laws.proofs.RequestLaws as asked
@@ -87,7 +88,7 @@ module _ (m : Model) (marks : List (List Bool)) (ws : List ℕ) (ts : List Threa
         }
 
     pub requestOf-variables : AlikeBelow m (requestOf m marks ws site ts k) (requestOf m marks ws (withVariables site v) ts k)
-    unfolding requestOf requestFit answeredBy numberIn logOf isUnfit isUnfitState isUnfitLog
+    unfolding requestOf requestFit answeredBy numberIn logOf isUnfit isUnfitState isUnfitLog isUnfitPlaces
     requestOf-variables = whole (isUnfit m ws site ts) refl
       where
         n : ℕ
@@ -216,9 +217,17 @@ module _ (m : Model) (gs : List Segment) (ss : List Start)
     granted-same c l h =
         rw (effectOf-same m gs ss segments starts k (threadAt ts k .segment) c (site .variables .at) l h, sooner-same ws (logBy site c (effectAt m site ts k c)), items-same c l h) refl
 
-    number-same : k < m .t → threadAt ts k .segment < m .n → numberIn o marks ws site ts k ≡ numberIn m marks ws site ts k
+    -- the same is counted where every thread is in a segment below N
+    counted-same : ((j : ℕ) → j < m .t → threadAt ts j .segment < m .n) → countedLog o ts (logOf site) ≡ countedLog m ts (logOf site)
+    unfolding o
+    counted-same below =
+        withRunning-same (withEntries m gs ss) m ts ts (logOf site) (m .t) (λ j h. refl) (λ j h. listedIn-same m gs ss segments starts j (threadAt ts j .segment) (below j h))
+
+    number-same : ((j : ℕ) → j < m .t → threadAt ts j .segment < m .n) → k < m .t → numberIn o marks ws site ts k ≡ numberIn m marks ws site ts k
     unfolding o numberIn
-    number-same l h = rw (hazard-same ws (logOf site) marks ts k l h, listedIn-same m gs ss segments starts k (threadAt ts k .segment) h) refl
+    number-same below l =
+        let h = below k l in
+        rw (hazard-same ws (logOf site) marks ts k l h, listedIn-same m gs ss segments starts k (threadAt ts k .segment) h, counted-same below) refl
 
     isFitWait-same : (a : Awaited) → isFitWait o a ≡ isFitWait m a
     unfolding o isFitWait
@@ -226,7 +235,7 @@ module _ (m : Model) (gs : List Segment) (ss : List Start)
     isFitWait-same (awaits e since) = refl
 
     isUnfitThreads-same : isUnfitThreads o ts ≡ isUnfitThreads m ts
-    unfolding o isUnfitThreads isFitThread
+    unfolding o isUnfitThreads isFitThread isFitRun isUpToHorizon
     isUnfitThreads-same =
         ap
         (λ (b : Bool). ltb (length ts) (m .t) || b)
@@ -238,14 +247,21 @@ module _ (m : Model) (gs : List Segment) (ss : List Start)
       where
         -- a segment not below N is refused before what it lacks is asked
         go : (j : ℕ) → j < m .t → Dec (threadAt ts j .segment < m .n)
-            → (ltb (threadAt ts j .segment) (m .n) && (isFitCycle recordTime (cycleOf (threadAt ts j .state)) && (isFitWait m (awaitedBy (threadAt ts j .state)) && not (lacksFrom (withEntries m gs ss) j (threadAt ts j .segment)))))
-            ≡ (ltb (threadAt ts j .segment) (m .n) && (isFitCycle recordTime (cycleOf (threadAt ts j .state)) && (isFitWait m (awaitedBy (threadAt ts j .state)) && not (lacksFrom m j (threadAt ts j .segment)))))
+            → (ltb (threadAt ts j .segment) (m .n) && ((isFitCycle recordTime (cycleOf (threadAt ts j .state)) && (isFitWait m (awaitedBy (threadAt ts j .state)) && isFitRun m (threadAt ts j .state))) && not (lacksFrom (withEntries m gs ss) j (threadAt ts j .segment))))
+            ≡ (ltb (threadAt ts j .segment) (m .n) && ((isFitCycle recordTime (cycleOf (threadAt ts j .state)) && (isFitWait m (awaitedBy (threadAt ts j .state)) && isFitRun m (threadAt ts j .state))) && not (lacksFrom m j (threadAt ts j .segment))))
         go j h (yes l) = rw (lacksFrom-same m gs ss segments starts j (threadAt ts j .segment) h l) refl
         go j h (no l) = rw (le-ltb (threadAt ts j .segment) (m .n) (omega arith)) refl
 
     isUnfit-same : isUnfit o ws site ts ≡ isUnfit m ws site ts
-    unfolding o isUnfit isUnfitState isUnfitLog isFitPair isUnfitWords
-    isUnfit-same = rw (modelFault-same m gs ss segments starts, isUnfitThreads-same) refl
+    unfolding o isUnfit isUnfitState isUnfitLog isUnfitPlaces isFitPair isUnfitWords
+    isUnfit-same = rw (modelFault-same m gs ss segments starts, isUnfitThreads-same) (go (isUnfitThreads m ts) refl)
+      where
+        -- a record that is not fit is refused before anything is counted
+        go : (b : Bool) → isUnfitThreads m ts ≡ b
+            → ((not (eqb (modelFault m) accepted) || (b || (isUnfitLog m site || isUnfitPlaces (withEntries m gs ss) site ts))) || isUnfitWords m ws)
+            ≡ ((not (eqb (modelFault m) accepted) || (b || (isUnfitLog m site || isUnfitPlaces m site ts))) || isUnfitWords m ws)
+        go true e = refl
+        go false e = rw (counted-same (λ j l. isFitThread→ m j (threadAt ts j) (isUnfitThreads→ m ts e .1 j l) .segment)) refl
 
     -- a request asks of a model its counts, and what stands below them
     pub requestOf-entries : requestOf (withEntries m gs ss) marks ws site ts k ≡ requestOf m marks ws site ts k
@@ -254,8 +270,9 @@ module _ (m : Model) (gs : List Segment) (ss : List Start)
       where
         past : isUnfit m ws site ts ≡ false → Dec (k < m .t) → requestFit o marks ws site ts k ≡ requestFit m marks ws site ts k
         past e (yes l) =
-            let h = isFitThread→ m k (threadAt ts k) (isUnfitThreads→ m ts (isUnfit→ m ws site ts e .threads) .1 k l) .segment in
-            rw (number-same l h, granted-same (cycleOf (threadAt ts k .state)) l h) refl
+            let below : (j : ℕ) → j < m .t → threadAt ts j .segment < m .n = λ j b. isFitThread→ m j (threadAt ts j) (isUnfitThreads→ m ts (isUnfit→ m ws site ts e .threads) .1 j b) .segment in
+            let h = below k l in
+            rw (number-same below l, granted-same (cycleOf (threadAt ts k .state)) l h) refl
         past e (no l) = rw (numberIn-past m marks ws site ts k l, numberIn-past o marks ws site ts k l) refl
 
         whole : (b : Bool) → isUnfit m ws site ts ≡ b → cond b (refusedWith unfit site ts) (requestFit o marks ws site ts k) ≡ cond b (refusedWith unfit site ts) (requestFit m marks ws site ts k)

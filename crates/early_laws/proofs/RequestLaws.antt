@@ -16,13 +16,13 @@ use Rattle.model.specs.declared.Model.{Model}
 use Rattle.model.specs.declared.Thread.{Thread}
 use Rattle.model.specs.Refusal.{accepted, unfit}
 use Rattle.model.specs.Limits.{endTime, isUpToHorizon}
-use Rattle.model.specs.Record.{threadAt, readyCycle, cycleOf}
+use Rattle.model.specs.Record.{threadAt, readyCycle, cycleOf, isRunning}
 use Rattle.model.specs.Footprint.{listedIn}
 use Rattle.plain.specs.Wake.{floorOf}
 use Rattle.plain.specs.History.{Item}
 use Rattle.early.specs.declared.Site.{Site}
 use Rattle.early.specs.declared.Answer.the-variants.{Granted, Refused}
-use Rattle.early.specs.Log.{logOf, countedPlaces}
+use Rattle.early.specs.Log.{logOf, countedLog, countedPlaces}
 use Rattle.early.specs.Hazard.{hazard}
 use Rattle.early.specs.Fit.{isUnfit}
 use Rattle.early.specs.Answer.{numberOf}
@@ -34,6 +34,7 @@ module _ (m : Model) (marks : List (List Bool)) (ws : List ℕ) (site : Site) (t
   pub record Grantable (c : Cycle) : Type 0 where
     pub fit : isUnfit m ws site ts ≡ false
     pub thread : k < m .t
+    pub unbegun : isRunning (threadAt ts k .state) ≡ false
     pub ready : readyCycle (threadAt ts k .state) ≡ At c
     pub in-time : isUpToHorizon m c ≡ true
     pub no-hazard : hazard m marks ws (logOf site) ts k c ≡ false
@@ -46,7 +47,7 @@ module _ (m : Model) (marks : List (List Bool)) (ws : List ℕ) (site : Site) (t
 
   -- the number of the model
   DecidedIn : ℕ → Type 0
-  DecidedIn = Decided (m .t) (endTime m) (hazard m marks ws (logOf site) ts k) (floorOf m ts) (listedIn m k (threadAt ts k .segment)) (logOf site) ts k
+  DecidedIn = Decided (m .t) (endTime m) (hazard m marks ws (logOf site) ts k) (floorOf m ts) (listedIn m k (threadAt ts k .segment)) (countedLog m ts (logOf site)) ts k
 
   pub requestOf-asked : Asked (requestOf m marks ws site ts k)
   unfolding requestOf requestFit answeredBy numberIn isUpToHorizon isFull countedPlaces DecidedIn
@@ -55,13 +56,13 @@ module _ (m : Model) (marks : List (List Bool)) (ws : List ℕ) (site : Site) (t
       Asked
       (isUnfit m ws site ts)
       (λ t. refused unfit (λ e. omega arith) (λ e. T→true (isUnfit m ws site ts) t))
-      (λ t. go (T→false (isUnfit m ws site ts) t) (numberFor-decided (m .t) (endTime m) (hazard m marks ws (logOf site) ts k) (floorOf m ts) (listedIn m k (threadAt ts k .segment)) (logOf site) ts k))
+      (λ t. go (T→false (isUnfit m ws site ts) t) (numberFor-decided (m .t) (endTime m) (hazard m marks ws (logOf site) ts k) (floorOf m ts) (listedIn m k (threadAt ts k .segment)) (countedLog m ts (logOf site)) ts k))
     where
       go : isUnfit m ws site ts ≡ false → {n : ℕ} → DecidedIn n → Asked (answeredBy n site ts (grantedTo m ws site ts k (cycleOf (threadAt ts k .state))))
       go fit (refuses n other u) = rw (ne-eqb n accepted other) (refused n other (λ e. absurd (u e)))
       go fit (passes c p) =
           rw (readyCycle→cycle (threadAt ts k .state) c (p .ready))
-          (granted c (record { fit = fit; thread = p .thread; ready = p .ready; in-time = p .in-time; no-hazard = p .no-hazard; room = p .room }))
+          (granted c (record { fit = fit; thread = p .thread; unbegun = p .unbegun; ready = p .ready; in-time = p .in-time; no-hazard = p .no-hazard; room = p .room }))
 
   -- the answer by its number and its values
   pub requestOf-answers : Answers m marks ws site ts k (requestOf m marks ws site ts k .answer)
@@ -101,8 +102,8 @@ module _ (m : Model) (marks : List (List Bool)) (ws : List ℕ) (site : Site) (t
   unfolding requestOf requestFit answeredBy numberIn isUpToHorizon isFull countedPlaces
   requestOf-granted c g =
       let number =
-      passed→numberFor (m .t) (endTime m) (hazard m marks ws (logOf site) ts k) (floorOf m ts) (listedIn m k (threadAt ts k .segment)) (logOf site) ts k c
-      (record { thread = g .thread; ready = g .ready; in-time = g .in-time; no-hazard = g .no-hazard; room = g .room }) in
+      passed→numberFor (m .t) (endTime m) (hazard m marks ws (logOf site) ts k) (floorOf m ts) (listedIn m k (threadAt ts k .segment)) (countedLog m ts (logOf site)) ts k c
+      (record { thread = g .thread; unbegun = g .unbegun; ready = g .ready; in-time = g .in-time; no-hazard = g .no-hazard; room = g .room }) in
       rw (g .fit, number, readyCycle→cycle (threadAt ts k .state) c (g .ready)) refl
 
   -- a grant's answer says the segment and the cycle, and that everything stood for it
@@ -119,6 +120,7 @@ module _ (m : Model) (marks : List (List Bool)) (ws : List ℕ) (site : Site) (t
   -- on a fit state it is granted, or refused with 15, exactly where its thread is ready up to the horizon and no hazard stands
   pub record Unhindered (c : Cycle) : Type 0 where
     pub thread : k < m .t
+    pub unbegun : isRunning (threadAt ts k .state) ≡ false
     pub ready : readyCycle (threadAt ts k .state) ≡ At c
     pub in-time : isUpToHorizon m c ≡ true
     pub no-hazard : hazard m marks ws (logOf site) ts k c ≡ false
@@ -131,19 +133,19 @@ module _ (m : Model) (marks : List (List Bool)) (ws : List ℕ) (site : Site) (t
   unfolding numberIn isUpToHorizon
   unhindered→number fit c u =
       rw (number-fit fit)
-      (clear→numberFor (m .t) (endTime m) (hazard m marks ws (logOf site) ts k) (floorOf m ts) (listedIn m k (threadAt ts k .segment)) (logOf site) ts k c
-      (record { thread = u .thread; ready = u .ready; in-time = u .in-time; no-hazard = u .no-hazard }))
+      (clear→numberFor (m .t) (endTime m) (hazard m marks ws (logOf site) ts k) (floorOf m ts) (listedIn m k (threadAt ts k .segment)) (countedLog m ts (logOf site)) ts k c
+      (record { thread = u .thread; unbegun = u .unbegun; ready = u .ready; in-time = u .in-time; no-hazard = u .no-hazard }))
 
   pub number→unhindered : isUnfit m ws site ts ≡ false → ZeroOrFull (numberOf (requestOf m marks ws site ts k .answer)) → (c : Cycle) × Unhindered c
   unfolding numberIn isUpToHorizon
   number→unhindered fit e =
       let (c, u) =
-      numberFor→clear (m .t) (endTime m) (hazard m marks ws (logOf site) ts k) (floorOf m ts) (listedIn m k (threadAt ts k .segment)) (logOf site) ts k
+      numberFor→clear (m .t) (endTime m) (hazard m marks ws (logOf site) ts k) (floorOf m ts) (listedIn m k (threadAt ts k .segment)) (countedLog m ts (logOf site)) ts k
       (subst ZeroOrFull (number-fit fit) e) in
-      (c, record { thread = u .thread; ready = u .ready; in-time = u .in-time; no-hazard = u .no-hazard })
+      (c, record { thread = u .thread; unbegun = u .unbegun; ready = u .ready; in-time = u .in-time; no-hazard = u .no-hazard })
 
   -- Demand 2: on a fit state, for a thread ready up to the horizon at c, with places left
-  module _ (c : Cycle) (fit : isUnfit m ws site ts ≡ false) (thread : k < m .t) (ready : readyCycle (threadAt ts k .state) ≡ At c)
+  module _ (c : Cycle) (fit : isUnfit m ws site ts ≡ false) (thread : k < m .t) (unbegun : isRunning (threadAt ts k .state) ≡ false) (ready : readyCycle (threadAt ts k .state) ≡ At c)
       (in-time : isUpToHorizon m c ≡ true) (room : isFull m site ts k c ≡ false)
     where
       pub granted-exactly : (requestOf m marks ws site ts k .answer ≡ Granted (threadAt ts k .segment) c) ↔ (hazard m marks ws (logOf site) ts k c ≡ false)
@@ -153,7 +155,7 @@ module _ (m : Model) (marks : List (List Bool)) (ws : List ℕ) (site : Site) (t
         λ h.
             ap
             (λ (r : Requested). r .answer)
-            (requestOf-granted c (record { fit = fit; thread = thread; ready = ready; in-time = in-time; no-hazard = h; room = room })),
+            (requestOf-granted c (record { fit = fit; thread = thread; unbegun = unbegun; ready = ready; in-time = in-time; no-hazard = h; room = room })),
       )
 
 -- A list: what every request keeps, a list keeps, with each thread's history grown at its end.

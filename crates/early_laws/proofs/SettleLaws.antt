@@ -1,10 +1,10 @@
 -- The sweeps are looks, one after the other: what is kept by every look holds after them.
 --     sweptBy-none, sweptBy-more, sweepsBy-next, sweepsBy-done, sweepsBy-still     one look and one sweep more; the last that counts
 --     settledBy-both, settledBy-same     by two tests: what holds of both; the same, where the tests agree
---     settled-carries, settled-length, settled-segment, settled-kept, settled-past     of the records and of what was heard so far
+--     settled-carries, settled-length, settled-segment, settled-kept, settled-running, settled-past     of the records and of what was heard so far
 use Prim.Native.Nat.{ℕ, zero, suc, _+_, _<_, _≤_, _-_}
 use mathlib.Core.Path.{_≡_, refl, ap, sym, _∙_, subst₂, fun-ext}
-use mathlib.Core.Bool.{Bool, cond}
+use mathlib.Core.Bool.{Bool, true, cond}
 use mathlib.Core.List.{List, [], _++_, append-assoc, append-nil}
 use native.Mathlib.Omega.{arith}
 use native.Mathlib.Numerals.{add-one}
@@ -14,12 +14,12 @@ use Rattle.clock.specs.declared.Bound.the-variants.{Never}
 use Rattle.model.specs.declared.Model.{Model}
 use Rattle.model.specs.declared.Thread.{Thread}
 use Rattle.model.specs.Record as view
-use Rattle.model.specs.Record.{threadAt, View, viewOf, nothing, awaitedOf, awaitedBy}
+use Rattle.model.specs.Record.{threadAt, isRunning, View, viewOf, nothing, awaitedOf, awaitedBy}
 use Rattle.plain.specs.History.{Item}
 use Rattle.early.specs.declared.Notification.{Notification}
 use Rattle.early.specs.Log.{leastHeard}
 use Rattle.early.specs.Deliver.{Sooner, forecastSooner, heardBy, lookedBy, lookItemsBy, sweptBy, sweptItemsBy, sweepsBy, sweepItemsBy, settledBy, settledItemsBy, lookedAt, lookItems, settled, settledItems}
-use Rattle.early_laws.proofs.LookLaws.{lookedAt-length, lookedAt-other, lookedAt-segment, lookedAt-kept}
+use Rattle.early_laws.proofs.LookLaws.{lookedAt-length, lookedAt-other, lookedAt-segment, lookedAt-kept, lookedAt-running}
 
 -- The sweeps, as the code makes them.
 module _ (sooner : Sooner) (l : List Notification) (ts : List Thread) where
@@ -135,6 +135,17 @@ module _ (m : Model) (ws : List ℕ) (l : List Notification) where
       (λ us is k h e. lookedAt-kept m ws l us k j (ap (λ (t : Thread). awaitedBy (t .state)) e ∙ w) ∙ e)
       ts
       refl
+
+  -- who is running after them was so before
+  pub settled-running : (ts : List Thread) (j : ℕ) → isRunning (threadAt (settled m ws l ts) j .state) ≡ true → threadAt (settled m ws l ts) j ≡ threadAt ts j
+  settled-running ts j =
+      settled-carries
+      (λ us is. isRunning (threadAt us j .state) ≡ true → threadAt us j ≡ threadAt ts j)
+      (λ us is k h e r.
+      let same = lookedAt-running m ws l us k j r in
+      same ∙ e (ap (λ (t : Thread). isRunning (t .state)) (sym same) ∙ r))
+      ts
+      (λ r. refl)
 
   -- "records past those are neither read nor written"
   pub settled-past : (ts : List Thread) (j : ℕ) → m .t ≤ j → threadAt (settled m ws l ts) j ≡ threadAt ts j

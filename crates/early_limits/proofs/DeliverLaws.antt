@@ -1,6 +1,6 @@
 -- A state stays fit through a grant, looks and sweeps.
-use Prim.Native.Nat.{ℕ, _<_}
-use mathlib.Core.Path.{_≡_}
+use Prim.Native.Nat.{ℕ, _<_, _≤_}
+use mathlib.Core.Path.{_≡_, ap, sym, _∙_, subst}
 use mathlib.Core.Logic.{_⊎_, inl, inr}
 use mathlib.Core.Bool.{true, false}
 use mathlib.Core.List.{List}
@@ -10,31 +10,36 @@ use lib.Dec.{T}
 use lib.ListN.{length}
 use Rattle.base.proofs.BoolLaws.{true→T}
 use Rattle.clock.specs.declared.Cycle.{Cycle}
+use Rattle.clock.specs.declared.Bound.{Bound}
 use Rattle.clock.specs.declared.Bound.the-variants.{At}
 use Rattle.clock.specs.declared.Wait.the-variants as wait
 use Rattle.clock.specs.Wait.{waitEnds}
+use Rattle.clock.specs.Order.{_≼_}
 use Rattle.model.specs.declared.Model.{Model}
 use Rattle.model.specs.declared.Thread.{Thread}
 use Rattle.model.specs.Limits.{endTime, isUpToHorizon}
-use Rattle.model.specs.Footprint.{has}
-use Rattle.model.specs.Record.{threadAt, readyCycle}
-use Rattle.plain_laws.proofs.RecordLaws.{stateAfter-not-waits, horizon→<, heard-time, heard-delta}
+use Rattle.model.specs.Footprint.{has, listedIn}
+use Rattle.model.specs.Record.{threadAt, readyCycle, cycleOf, isRunning}
+use Rattle.plain_laws.proofs.RecordLaws.{stateAfter-not-waits, stateAfter-unbegun, effectOf-unbegun, running-cycle, append-has, horizon→<, heard-time, heard-delta}
+use Rattle.plain_laws.proofs.WakeLaws.{floorOf-≼}
+use Rattle.model_effect.proofs.FrameLaws.{effectOf-begins}
 use Rattle.plain_laws.proofs.RangeLaws.{Keeps}
 use Rattle.plain_laws.proofs.KeepLaws.{modelFault-keeps}
 use Rattle.plain.specs.Wake.{floorOf}
 use Rattle.early.specs.declared.Notification.{Notification}
 use Rattle.early.specs.declared.Site.{Site}
-use Rattle.early.specs.Log.{pairOf, logOf, dropBefore}
+use Rattle.early.specs.Log.{pairOf, logOf, withPairs, countedLog, countedPlaces, dropBefore}
 use Rattle.early.specs.Deliver.{lookedAt, settled}
 use Rattle.early.specs.Fit.{isFitThread, isUnfitThreads, isUnfit}
 use Rattle.early.specs.Grant.{effectAt, logAfter, closedThreads, threadsAfter, siteAfter}
 use Rattle.early.specs.Request.{isFull}
-use Rattle.early_laws.proofs.LogLaws.{In, leastHeard-at, withPairs-only, dropBefore-only}
+use Rattle.early_laws.proofs.LogLaws.{In, leastHeard-at, withPairs-kept, withPairs-new, withPairs-only, dropBefore-only}
 use Rattle.early_laws.proofs.OnceLaws.{dropBefore-length}
+use Rattle.early_laws.proofs.CountedLaws.{Grown, grown-none, grown-pairs, withRunning-grown, withRunning-new, dropped-shorter}
 use Rattle.early_laws.proofs.LookLaws.{heardAt, heardThread, heardNow-at, heardAt-waits, lookedAt-none, lookedAt-length, lookedAt-other, lookedAt-self, Looked, unheard, hears, looked}
-use Rattle.early_laws.proofs.SettleLaws.{settled-carries}
-use Rattle.early_laws.proofs.FitLaws.{→isFitThread, FitPair, isUnfitThreads→, →isUnfitThreads, →isUnfit, siteOf-fit}
-use Rattle.early_laws.proofs.GrantLaws.{logAfter-counted, isFull-none, closedThreads-self, closedThreads-other, closedThreads-length}
+use Rattle.early_laws.proofs.SettleLaws.{settled-carries, settled-running}
+use Rattle.early_laws.proofs.FitLaws.{→isFitThread, FitPair, isUnfitThreads→, →isUnfitThreads, →isUnfitPlaces, →isUnfit, siteOf-fit}
+use Rattle.early_laws.proofs.GrantLaws.{logAfter-counted, siteAfter-log, isFull-none, closedThreads-self, closedThreads-other, closedThreads-length}
 use Rattle.early_limits.proofs.StateLaws.{FitState, fit-segment, fit-lacks, ready-fit}
 
 -- records of which one is changed, to a fit one
@@ -62,6 +67,7 @@ module _ (m : Model) (ws : List ℕ) (l : List Notification) where
         segment = fit-segment fit k h;
         cycle = record { time = omega (arith, heard-time x, pair .time); delta = heard-delta x (pair .delta) };
         event = λ e c w. absurd (stateAfter-not-waits (waitEnds wait.Event x) e c w);
+        soon = λ r. absurd (subst T (sym r ∙ stateAfter-unbegun (waitEnds wait.Event x)) tt);
         lacks = fit-lacks fit k h;
       })
 
@@ -117,8 +123,13 @@ module _ (m : Model) (ws : List ℕ) (site : Site) (ts : List Thread) (fit : Fit
                 delta = kept .delta k s c v (ready-fit fit k c thread ready .delta);
               };
           event = λ e d w. kept .event k s c v e d (fit-segment fit k thread) w;
+          soon = λ r. absurd (subst T (sym r ∙ effectOf-unbegun m k s c v) tt);
           lacks = kept .next-lacks k s c v (fit-segment fit k thread) (fit-lacks fit k thread);
         })
+
+    ran-unbegun : isRunning (effectAt m site ts k c .thread .state) ≡ false
+    unfolding effectAt
+    ran-unbegun = effectOf-unbegun m k (threadAt ts k .segment) c (site .variables .at)
 
     logged-fit : (x : Notification) → In x (logAfter m site ts k c) → FitPair m x
     unfolding logAfter effectAt
@@ -151,11 +162,53 @@ module _ (m : Model) (ws : List ℕ) (site : Site) (ts : List Thread) (fit : Fit
           log = logged-fit;
         }
 
+    -- who is running after the whole grant was so before, and is not k
+    after-running : (j : ℕ) → isRunning (threadAt (threadsAfter m ws site ts k c) j .state) ≡ true → threadAt (threadsAfter m ws site ts k c) j ≡ threadAt ts j
+    unfolding threadsAfter
+    after-running j r = go (ℕ-discrete j k)
+      where
+        same : threadAt (threadsAfter m ws site ts k c) j ≡ threadAt (closedThreads m site ts k c) j
+        same = settled-running m ws (logAfter m site ts k c) (closedThreads m site ts k c) j r
+
+        go : Dec (j ≡ k) → threadAt (threadsAfter m ws site ts k c) j ≡ threadAt ts j
+        go (no other) = same ∙ closedThreads-other m site ts k c j other
+        go (yes e) =
+            let here = ap (λ (i : ℕ). threadAt (closedThreads m site ts k c) i) e ∙ closedThreads-self m site ts k c (omega (arith, isUnfitThreads→ m ts (fit .threads) .0)) in
+            absurd (subst T (sym r ∙ ap (λ (t : Thread). isRunning (t .state)) (same ∙ here) ∙ ran-unbegun) tt)
+
+    -- no more is logged and counted then than a log takes that has grown from this one and holds what was counted and what the segment lists
+    pub after-counted : (b : List Notification) → Grown (logOf site) b → ((x : Notification) → In x (countedLog m ts (logOf site)) → In x b)
+        → ((e : ℕ) → T (has (listedIn m k (threadAt ts k .segment)) e) → In (pairOf e c) b)
+        → length (countedLog m (threadsAfter m ws site ts k c) (logOf (siteAfter m ws site ts k c))) ≤ length b
+    unfolding logAfter effectAt
+    after-counted b grown counted listed =
+        rw (siteAfter-log m site ts k c ws)
+        (dropped-shorter m us (logOf site) b c (effectAt m site ts k c .notified) (floorOf m us) grown
+        (λ e t. listed e (lists e t))
+        (λ j e below r t.
+        let same = after-running j r in
+        subst (λ (u : Thread). In (pairOf e (cycleOf (u .state))) b) (sym same)
+        (counted (pairOf e (cycleOf (threadAt ts j .state)))
+        (withRunning-new m ts (logOf site) (m .t) j e below (ap (λ (u : Thread). isRunning (u .state)) (sym same) ∙ r) (subst (λ (u : Thread). T (has (listedIn m j (u .segment)) e)) same t))))
+        (λ j below r. subst (λ (b : Bound). floorOf m us ≼ b) (running-cycle (threadAt us j .state) r) (floorOf-≼ m us j below)))
+      where
+        us : List Thread
+        us = threadsAfter m ws site ts k c
+
+        lists : (e : ℕ) → T (has (effectAt m site ts k c .notified) e) → T (has (listedIn m k (threadAt ts k .segment)) e)
+        lists e t =
+            let (rest, p) = effectOf-begins m k (threadAt ts k .segment) c (site .variables .at) in
+            subst (λ (es : List ℕ). T (has es e)) (sym p) (append-has (effectAt m site ts k c .notified) rest e (inl t))
+
     -- after the whole grant, where the log had room: 11 need not be asked again
     pub after-fit : isFull m site ts k c ≡ false → isUnfit m ws (siteAfter m ws site ts k c) (threadsAfter m ws site ts k c) ≡ false
-    unfolding siteAfter threadsAfter
+    unfolding siteAfter threadsAfter countedPlaces
     after-fit room =
         let us = threadsAfter m ws site ts k c in
+        let l = logOf site in
+        let fs = listedIn m k (threadAt ts k .segment) in
+        let counted = after-counted (withPairs (countedLog m ts l) c fs) (grown-pairs l (countedLog m ts l) c fs (withRunning-grown m ts l l (m .t) (grown-none l)))
+        (λ x h. withPairs-kept (countedLog m ts l) c fs h) (λ e t. withPairs-new (countedLog m ts l) c fs e t) in
         let log = logAfter m site ts k c in
         let rest = settled-fit m ws log (closedThreads m site ts k c) granted-fit in
         let f = floorOf m us in
@@ -174,5 +227,6 @@ module _ (m : Model) (ws : List ℕ) (site : Site) (ts : List Thread) (fit : Fit
               (dropBefore f log)
               (omega (arith, dropBefore-length f log, logAfter-counted m site ts k c, isFull-none m site ts k c room))
               (λ x h. rest .log x (dropBefore-only f log h .0));
+          counted = →isUnfitPlaces m (siteAfter m ws site ts k c) us (omega (arith, counted, isFull-none m site ts k c room));
           words = fit .words;
         })
