@@ -15,7 +15,7 @@ use Rattle.model.specs.declared.Model.{Model}
 use Rattle.model.specs.declared.Thread.{Thread}
 use Rattle.model.specs.Limits.{isUpToHorizon}
 use Rattle.model.specs.Record as view
-use Rattle.model.specs.Record.{threadAt, awaitedOf, readyCycleOf, viewOf}
+use Rattle.model.specs.Record.{threadAt, isRunning, awaitedOf, readyCycleOf, viewOf}
 use Rattle.plain.specs.History.{heard}
 use Rattle.plain_laws.proofs.RecordLaws.{readyCycle→ready}
 use Rattle.early.specs.declared.Notification.{Notification}
@@ -143,6 +143,7 @@ module _ (m : Model) (pf : PlainFacts m) {marks : List (List Bool)} {ws : List �
           unhindered→number m marks ws (then .site) (then .threads) i (after-fit m pf kl fresh (ks ++ js)) c
           (record {
             thread = u .thread;
+            unbegun = ap (λ (t : Thread). isRunning (t .state)) (ready-kept c ready) ∙ u .unbegun;
             ready = ap (λ (t : Thread). readyCycleOf (viewOf (t .state))) (ready-kept c ready) ∙ u .ready;
             in-time = u .in-time;
             no-hazard = hazard-never-returns c ready (true→T (isUpToHorizon m c) (u .in-time)) (u .no-hazard);

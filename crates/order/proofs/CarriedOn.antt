@@ -18,12 +18,13 @@ use Rattle.plain_laws.proofs.HappenLaws.{historyAt-more}
 use Rattle.early.specs.declared.Site.{Site}
 use Rattle.early.specs.Request.{Requested, grantedTo, requestOf, listedBy, requestsOf}
 use Rattle.early_laws.proofs.GrantLaws.{itemsAfter-self}
+use Rattle.order.proofs.Seen.{Unbegun}
 use Rattle.order.proofs.PlainFacts.{PlainFacts}
 use Rattle.order.proofs.KitLaws.{Begins, KitLaws}
 use Rattle.order.proofs.Reached.{Reached}
 use Rattle.order.proofs.Progress.{some-granted}
 use Rattle.order.proofs.End.{history-past}
-use Rattle.order.proofs.Lists.{request-reached}
+use Rattle.order.proofs.Lists.{request-reached, request-unbegun}
 
 -- a history only grows
 history-grows : (m : Model) (k i d : ℕ) → Begins (historyAt m k i) (historyAt m k (i + d))
@@ -98,43 +99,43 @@ module _ (m : Model) (pf : PlainFacts m) {marks : List (List Bool)} {ws : List �
   whole = total (m .t) (λ k. historyAt m k (pf .ending .place))
 
   -- a granted request makes the histories longer
-  longer-by-grant : (site : Site) (ts : List Thread) (h : ℕ → List Item) → Reached m site ts h → someReady m ts ≡ true
+  longer-by-grant : (site : Site) (ts : List Thread) (h : ℕ → List Item) → Reached m site ts h → Unbegun m ts → someReady m ts ≡ true
       → (k : ℕ) × (total (m .t) h < total (m .t) (λ j. h j ++ requestOf m marks ws site ts k .items j))
-  longer-by-grant site ts h r e =
-      let (k, c, below, p) = some-granted m pf kl site ts h r e in
+  longer-by-grant site ts h r idle e =
+      let (k, c, below, p) = some-granted m pf kl site ts h r idle e in
       let some = subst (λ (a : Requested). 0 < length (a .items k)) (sym p) (granted-item m ws site ts k c) in
       (k, total-more (m .t) h (requestOf m marks ws site ts k .items) k below some)
 
   -- from a reached state whose histories can grow by at most n
-  carried : (n : ℕ) (site : Site) (ts : List Thread) (h : ℕ → List Item) → Reached m site ts h → whole ≤ total (m .t) h + n
+  carried : (n : ℕ) (site : Site) (ts : List Thread) (h : ℕ → List Item) → Reached m site ts h → Unbegun m ts → whole ≤ total (m .t) h + n
       → (more : List ℕ) × (someReady m (requestsOf m marks ws site ts more .threads) ≡ false)
   unfolding listedBy
-  carried zero site ts h r enough = go (someReady m ts) refl
+  carried zero site ts h r idle enough = go (someReady m ts) refl
     where
       go : (b : Bool) → someReady m ts ≡ b → (more : List ℕ) × (someReady m (requestsOf m marks ws site ts more .threads) ≡ false)
       go false e = ([], e)
       go true e =
-          let (k, grown) = longer-by-grant site ts h r e in
+          let (k, grown) = longer-by-grant site ts h r idle e in
           let bound = reached-total m pf (request-reached m pf kl site ts h r k) in
           absurd (omega arith)
-  carried (suc n) site ts h r enough = go (someReady m ts) refl (λ site ts h r e. carried n site ts h r e)
+  carried (suc n) site ts h r idle enough = go (someReady m ts) refl (λ site ts h r i e. carried n site ts h r i e)
     where
       go : (b : Bool) → someReady m ts ≡ b
-          → ((site : Site) (ts : List Thread) (h : ℕ → List Item) → Reached m site ts h → whole ≤ total (m .t) h + n → (more : List ℕ) × (someReady m (requestsOf m marks ws site ts more .threads) ≡ false))
+          → ((site : Site) (ts : List Thread) (h : ℕ → List Item) → Reached m site ts h → Unbegun m ts → whole ≤ total (m .t) h + n → (more : List ℕ) × (someReady m (requestsOf m marks ws site ts more .threads) ≡ false))
           → (more : List ℕ) × (someReady m (requestsOf m marks ws site ts more .threads) ≡ false)
       go false e ih = ([], e)
-      go true e ih = on (longer-by-grant site ts h r e)
+      go true e ih = on (longer-by-grant site ts h r idle e)
         where
           on : (k : ℕ) × (total (m .t) h < total (m .t) (λ j. h j ++ requestOf m marks ws site ts k .items j))
               → (more : List ℕ) × (someReady m (requestsOf m marks ws site ts more .threads) ≡ false)
           on (k, grown) =
-              let (more, p) = ih (a .site) (a .threads) (λ j. h j ++ a .items j) (request-reached m pf kl site ts h r k) (omega arith) in
+              let (more, p) = ih (a .site) (a .threads) (λ j. h j ++ a .items j) (request-reached m pf kl site ts h r k) (request-unbegun m pf kl site ts h r idle k) (omega arith) in
               (k ∷ more, p)
             where
               a : Requested
               a = requestOf m marks ws site ts k
 
-  -- any reached state can be carried on to an end
-  pub reached-carried : (site : Site) (ts : List Thread) (h : ℕ → List Item) → Reached m site ts h
+  -- any reached state in which nothing is running can be carried on to an end
+  pub reached-carried : (site : Site) (ts : List Thread) (h : ℕ → List Item) → Reached m site ts h → Unbegun m ts
       → (more : List ℕ) × (someReady m (requestsOf m marks ws site ts more .threads) ≡ false)
-  reached-carried site ts h r = carried whole site ts h r (omega arith)
+  reached-carried site ts h r idle = carried whole site ts h r idle (omega arith)

@@ -1,21 +1,61 @@
 -- How a cut is moved: only its own thread's cut changes, what was done stays done, and what becomes done lies between
 -- the old cut and the new one. Likewise for records with one thread's changed, and histories with one thread's items more.
+-- And what a cut says of one record: its view and its segment; of a thread that is not running, the record itself.
 -- Assumes nothing.
 use Prim.Native.Nat.{ℕ, suc, _≤_, _<_}
-use mathlib.Core.Path.{_≡_, refl, sym, subst}
+use mathlib.Core.Path.{_≡_, refl, ap, sym, _∙_, subst}
 use mathlib.Core.Logic.{_⊎_, inl, inr}
+use mathlib.Core.Bool.{false}
 use mathlib.Core.List.{List, _++_, append-nil}
 use native.Mathlib.Omega.{arith}
 use native.Mathlib.Decide.{decLt, ℕ-discrete}
 use lib.ListN.{length, set}
 use borrow.Author.Tests.{eq-eqb, ne-eqb}
+use Rattle.clock.specs.declared.Cycle.{Cycle}
+use Rattle.clock.specs.declared.Bound.{Bound}
 use Rattle.model.specs.declared.Model.{Model}
 use Rattle.model.specs.declared.Thread.{Thread}
-use Rattle.model.specs.Record.{threadAt}
+use Rattle.model.specs.Record.{threadAt, isRunning, viewOf}
 use Rattle.plain.specs.History.{Item, historyAt}
 use Rattle.plain_laws.proofs.RecordLaws.{threadAt-set, threadAt-other}
-use Rattle.order.proofs.Places.{recordAt, Runs}
-use Rattle.order.proofs.Invariant.{Done, moved, adding}
+use Rattle.early.specs.declared.Notification.{Notification}
+use Rattle.order.proofs.Seen.{seen, seen-view, seen-self}
+use Rattle.order.proofs.Places.{nowAt, recordAt, Runs}
+use Rattle.order.proofs.Invariant.{Done, Known, IsCut, moved, adding}
+
+module _ {m : Model} {x : List ℕ} {l : List Notification} {ts : List Thread} {h : ℕ → List Item} {cut : ℕ → ℕ} {low : Bound}
+    (ic : IsCut m x l ts h cut low) (k : ℕ) (below : k < m .t) where
+  pub cut-view : viewOf (threadAt ts k .state) ≡ viewOf (recordAt m (cut k) k .state)
+  cut-view = sym (seen-view (threadAt ts k)) ∙ ap (λ (t : Thread). viewOf (t .state)) (ic .records k below)
+
+  pub cut-segment : threadAt ts k .segment ≡ recordAt m (cut k) k .segment
+  cut-segment = ap (λ (t : Thread). t .segment) (ic .records k below)
+
+  pub cut-record : isRunning (threadAt ts k .state) ≡ false → threadAt ts k ≡ recordAt m (cut k) k
+  cut-record e = sym (seen-self (threadAt ts k) e) ∙ ic .records k below
+
+-- records that are seen the same have the same views, and are a cut together
+pub view-same : (t u : Thread) → seen u ≡ seen t → viewOf (u .state) ≡ viewOf (t .state)
+view-same t u e = sym (seen-view u) ∙ ap (λ (x : Thread). viewOf (x .state)) e ∙ seen-view t
+
+pub cut-seen : {m : Model} {x : List ℕ} {l : List Notification} {ts us : List Thread} {h : ℕ → List Item} {cut : ℕ → ℕ} {low : Bound}
+    → length us ≡ length ts → ((k : ℕ) → seen (threadAt us k) ≡ seen (threadAt ts k)) → IsCut m x l ts h cut low → IsCut m x l us h cut low
+cut-seen {m} {x} {l} {ts} {us} {h} {cut} {low} long same ic =
+    record {
+      size = rw long (ic .size);
+      records = λ k below. same k ∙ ic .records k below;
+      history = ic .history;
+      good = ic .good;
+      low-ready = λ k c below r. ic .low-ready k c below (sym (view-same (threadAt ts k) (threadAt us k) (same k)) ∙ r);
+      low-logged = ic .low-logged;
+      logged = λ q k e d s. known e (nowAt m q) (ic .logged q k e d s);
+      notified = ic .notified;
+      once = ic .once;
+    }
+  where
+    known : (e : ℕ) (c : Cycle) → Known m l ts low e c → Known m l us low e c
+    known e c (inl i) = inl i
+    known e c (inr g) = inr (record { dropped = g .dropped; unheard = λ k since below w. g .unheard k since below (sym (view-same (threadAt ts k) (threadAt us k) (same k)) ∙ w) })
 
 pub moved-same : (cut : ℕ → ℕ) (k n j : ℕ) → j ≡ k → moved cut k n j ≡ n
 unfolding moved
@@ -43,10 +83,10 @@ set-each P ts k t inside new old j = go (ℕ-discrete j k)
     go (no n) = subst (P j) (sym (threadAt-other ts k j t n)) (old j n)
 
 -- thread k gets the record that it has at place n: the records are those of the cut moved there
-pub moved-records : (m : Model) (ts : List Thread) (cut : ℕ → ℕ) (k n : ℕ) (t : Thread) → k < length ts → t ≡ recordAt m n k
-    → ((j : ℕ) → j < m .t → threadAt ts j ≡ recordAt m (cut j) j) → (j : ℕ) → j < m .t → threadAt (set ts k t) j ≡ recordAt m (moved cut k n j) j
+pub moved-records : (m : Model) (ts : List Thread) (cut : ℕ → ℕ) (k n : ℕ) (t : Thread) → k < length ts → seen t ≡ recordAt m n k
+    → ((j : ℕ) → j < m .t → seen (threadAt ts j) ≡ recordAt m (cut j) j) → (j : ℕ) → j < m .t → seen (threadAt (set ts k t) j) ≡ recordAt m (moved cut k n j) j
 moved-records m ts cut k n t inside there old =
-    set-each (λ j u. j < m .t → u ≡ recordAt m (moved cut k n j) j) ts k t inside (λ b. rw (moved-same cut k n k refl) there)
+    set-each (λ j u. j < m .t → seen u ≡ recordAt m (moved cut k n j) j) ts k t inside (λ b. rw (moved-same cut k n k refl) there)
     (λ j other b. rw (moved-other cut k n j other) (old j b))
 
 -- and its history there

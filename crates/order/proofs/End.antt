@@ -1,4 +1,4 @@
--- The end (section 7 of the argument). Where no thread is ready up to the horizon, every place that runs a thread is done:
+-- The end (section 7 of the argument). Where no thread is ready up to the horizon, nor running, every place that runs a thread is done:
 -- its thread's earliest would not be later than the horizon, nor the floor. Nor is a wake left: it would be by a done place,
 -- so logged, so not before the floor. So variables, histories and records are the plain run's, carried on until it is done.
 -- Takes as given the facts of the plain run (PlainFacts), the laws of the kit (KitLaws) and the lower bound at this cut (`LowerBound`).
@@ -33,10 +33,12 @@ use Rattle.plain_laws.proofs.HappenLaws.{historyAt-more}
 use Rattle.plain_laws.proofs.WakeLaws.{floorOf-attained}
 use Rattle.early.specs.declared.Notification.{Notification}
 use Rattle.early.specs.Log.{pairOf}
+use Rattle.order.proofs.Seen.{seen}
 use Rattle.order.proofs.Places.{nowAt, recordAt, Runs, Says, Hears, Happens, idle, runs, hears}
 use Rattle.order.proofs.PlainFacts.{PlainFacts}
 use Rattle.order.proofs.KitLaws.{boundIn, KitLaws}
 use Rattle.order.proofs.Invariant.{Known, IsCut, Bounded}
+use Rattle.order.proofs.CutLaws.{cut-view}
 use Rattle.order.proofs.Floor.{finite-below}
 use Rattle.order.proofs.Drop.{cut-quiet, floor-below-earliest}
 use Rattle.order.proofs.LeastReady.{someReady-none}
@@ -99,7 +101,7 @@ module _ (m : Model) (pf : PlainFacts m) {marks : List (List Bool)} {ws : List �
     no-wake i k e since stays heard = told (pf .source i k e since heard)
       where
         waits : viewOf (threadAt ts k .state) ≡ view.waits e since
-        waits = ap (λ (t : Thread). viewOf (t .state)) (ic .records k (heard .below) ∙ sym stays) ∙ heard .waits
+        waits = cut-view ic k (heard .below) ∙ ap (λ (t : Thread). viewOf (t .state)) (sym stays) ∙ heard .waits
 
         told : (q : ℕ) × (j : ℕ) × (q < i) × Says m q j e × (nowAt m q ≡ nowAt m i) → ⊥
         told (q, j, _, says, now) = go (ic .logged q j e (record { runs = says .runs; passed = all-done q j (says .runs) }) says)
@@ -132,10 +134,10 @@ module _ (m : Model) (pf : PlainFacts m) {marks : List (List Bool)} {ws : List �
     abbrev end : ℕ
     end = pf .ending .place
 
-    pub end-record : (k : ℕ) → k < m .t → threadAt ts k ≡ recordAt m end k
+    pub end-record : (k : ℕ) → k < m .t → seen (threadAt ts k) ≡ recordAt m end k
     end-record k below = go (decLe (cut k) end)
       where
-        go : Dec (cut k ≤ end) → threadAt ts k ≡ recordAt m end k
+        go : Dec (cut k ≤ end) → seen (threadAt ts k) ≡ recordAt m end k
         go (yes h) =
             let e : cut k + (end - cut k) ≡ end = omega arith in
             ic .records k below ∙ sym (stands k below (end - cut k) .0) ∙ ap (λ (i : ℕ). recordAt m i k) e

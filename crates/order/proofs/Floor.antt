@@ -1,15 +1,16 @@
 -- The floor, read by its threads: no ready thread is before it, and a bound that is not after any ready thread is not after it.
+-- It hangs on the views of the threads alone.
 -- (That some thread is ready at it is a law of plain_laws, `floorOf-attained`.)
 -- Assumes nothing.
 use Prim.Native.Nat.{ℕ, _<_}
-use mathlib.Core.Path.{_≡_, refl, ap, subst}
+use mathlib.Core.Path.{_≡_, refl, ap, sym, _∙_, subst}
 use mathlib.Core.Logic.{_⊎_, inl, inr}
 use mathlib.Core.List.{List}
 use Rattle.clock.specs.declared.Cycle.{Cycle}
 use Rattle.clock.specs.declared.Bound.{Bound}
 use Rattle.clock.specs.declared.Bound.the-variants.{Never, At}
 use Rattle.clock.specs.Order.{Before, _⊑_, _≼_}
-use Rattle.clock.proofs.OrderLaws.{⊑-total}
+use Rattle.clock.proofs.OrderLaws.{⊑-total, ≼-antisym}
 use Rattle.clock.proofs.LeastLaws.{leastBelow-glb}
 use Rattle.model.specs.declared.Model.{Model}
 use Rattle.model.specs.declared.Thread.{Thread}
@@ -53,3 +54,9 @@ floor-glb m ts low h = leastBelow-glb low (m .t) (λ k. readyCycle (threadAt ts 
     go k below view.idle e = tt
     go k below (view.ready d) e = h k d below e
     go k below (view.waits a d) e = tt
+
+pub floor-same : (m : Model) (ts us : List Thread) → ((k : ℕ) → viewOf (threadAt us k .state) ≡ viewOf (threadAt ts k .state)) → floorOf m us ≡ floorOf m ts
+floor-same m ts us same =
+    ≼-antisym (floorOf m us) (floorOf m ts)
+    (floor-glb m ts (floorOf m us) (λ k c below r. floor-below m us k c below (same k ∙ r)))
+    (floor-glb m us (floorOf m ts) (λ k c below r. floor-below m ts k c below (sym (same k) ∙ r)))

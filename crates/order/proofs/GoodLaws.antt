@@ -22,7 +22,7 @@ use Rattle.order.proofs.Places.{nowAt, recordAt, Runs}
 use Rattle.order.proofs.PlainFacts.{PlainFacts}
 use Rattle.order.proofs.KitLaws.{KitLaws}
 use Rattle.order.proofs.PlaceLaws.{same-runner}
-use Rattle.order.proofs.Invariant.{Done, Touch, Good, moved}
+use Rattle.order.proofs.Invariant.{Done, Touch, Safe, Good, moved}
 use Rattle.order.proofs.CutLaws.{done-kept, done-back, done-now, done-here}
 
 -- place p runs thread a, which writes v there
@@ -88,7 +88,7 @@ module _ (m : Model) (pf : PlainFacts m) {marks : List (List Bool)} {ws : List �
   -- place r, the next that runs k, is run now: every earlier place that touches it is done
   module _ (cut : ℕ → ℕ) (x : List ℕ) (g : Good m cut x) (r k : ℕ) (here : Runs m r k) (from : cut k ≤ r)
       (quiet : (q : ℕ) → cut k ≤ q → q < r → Runs m q k → ⊥)
-      (safe : (p a : ℕ) → p < r → Runs m p a → Touch m p a r k → Done m cut p a)
+      (safe : Safe m cut r k)
     where
       abbrev seg : ℕ
       seg = recordAt m r k .segment

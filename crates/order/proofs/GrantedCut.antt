@@ -1,11 +1,11 @@
--- After a grant, before anything is delivered: variables, log, records and histories are again a cut of the plain run, the
--- granted thread's cut moved just past its place. What was past for all stays so: a wait that begins now begins at the granted
+-- After a run, before anything is delivered: variables, log, records and histories are again a cut of the plain run, the
+-- thread's cut moved just past its place. What was past for all stays so: a wait that begins now begins at the granted
 -- cycle, and nothing ready is before the floor of the last drop.
 -- Takes as given the facts of the plain run (PlainFacts) and the laws of the kit (KitLaws).
 use Prim.Native.Nat.{ℕ, suc, _<_}
 use mathlib.Core.Path.{_≡_, ap, ap₂, sym, _∙_}
 use mathlib.Core.Logic.{_⊎_, inl, inr}
-use mathlib.Core.Bool.{Bool, false}
+use mathlib.Core.Bool.{Bool}
 use mathlib.Core.List.{List, [], _∷_, _++_, List·Memᴰ, Memᴰ·cast}
 use native.Mathlib.Omega.{arith}
 use lib.Dec.{T}
@@ -24,22 +24,22 @@ use Rattle.model.specs.Footprint.{has}
 use Rattle.plain.specs.History.{Item, ran, historyAt}
 use Rattle.early.specs.declared.Notification.{Notification}
 use Rattle.early.specs.Log.{pairOf, withPairs}
-use Rattle.early.specs.Hazard.{hazard}
 use Rattle.early_laws.proofs.LogLaws.{withPairs-kept, withPairs-new, withPairs-only}
 use Rattle.early_laws.proofs.OnceLaws.{withPairs-once}
+use Rattle.order.proofs.Seen.{seen, seen-self}
 use Rattle.order.proofs.Places.{nowAt, recordAt, effectThere, Says}
 use Rattle.order.proofs.PlainFacts.{PlainFacts, NextRun}
 use Rattle.order.proofs.KitLaws.{KitLaws}
 use Rattle.order.proofs.PlaceLaws.{run-record, run-history, run-later}
-use Rattle.order.proofs.Invariant.{Known, Made, Done, Gone, IsCut, moved, adding}
+use Rattle.order.proofs.Invariant.{Known, Made, Done, Gone, Safe, IsCut, moved, adding}
 use Rattle.order.proofs.CutLaws.{set-each, moved-records, moved-history, done-kept, done-here, done-now}
 use Rattle.order.proofs.Floor.{not-⊑→Before}
-use Rattle.order.proofs.Grant.{same-record, effect-thread, effect-notified, effect-good}
+use Rattle.order.proofs.Grant.{same-segment, effect-thread, effect-notified, effect-good}
 
 module _ (m : Model) (pf : PlainFacts m) {marks : List (List Bool)} {ws : List ℕ} (kl : KitLaws m marks ws)
     {x : List ℕ} {l : List Notification} {ts : List Thread} {h : ℕ → List Item} {cut : ℕ → ℕ} {low : Bound}
     (ic : IsCut m x l ts h cut low) (k : ℕ) (c : Cycle) (kt : k < m .t) (ready : viewOf (threadAt ts k .state) ≡ view.ready c)
-    (r : NextRun m (cut k) k c) (clear : hazard m marks ws l ts k c ≡ false)
+    (r : NextRun m (cut k) k c) (safe : Safe m cut (r .place) k)
   where
     -- what the grant does, and what it leaves
     abbrev effect : Effect
@@ -58,10 +58,15 @@ module _ (m : Model) (pf : PlainFacts m) {marks : List (List Bool)} {ws : List �
     inside = omega (arith, ic .size)
 
     thread-there : effect .thread ≡ effectThere m (r .place) k .thread
-    thread-there = effect-thread m pf kl ic k c kt ready r clear
+    thread-there = effect-thread m pf kl ic k c kt ready r safe
 
     notified-there : effect .notified ≡ effectThere m (r .place) k .notified
-    notified-there = effect-notified m pf kl ic k c kt ready r clear
+    notified-there = effect-notified m pf kl ic k c kt ready r safe
+
+    seen-there : seen (effect .thread) ≡ recordAt m (suc (r .place)) k
+    seen-there =
+        ap seen (thread-there ∙ sym (run-record m pf (r .place) k (r .runs)))
+        ∙ seen-self (recordAt m (suc (r .place)) k) (pf .unbegun (suc (r .place)) k kt)
 
     low-now : low ≼ At c
     low-now = ic .low-ready k c kt ready
@@ -70,7 +75,7 @@ module _ (m : Model) (pf : PlainFacts m) {marks : List (List Bool)} {ws : List �
     items = ran (threadAt ts k .segment) c ∷ []
 
     items-there : items ≡ ran (recordAt m (r .place) k .segment) (nowAt m (r .place)) ∷ []
-    items-there = ap₂ (λ (t : Thread) (d : Cycle). ran (t .segment) d ∷ []) (same-record m pf kl ic k c kt ready r) (sym (r .now))
+    items-there = ap₂ (λ (s : ℕ) (d : Cycle). ran s d ∷ []) (same-segment m pf kl ic k c kt ready r) (sym (r .now))
 
     history-there : h k ++ items ≡ historyAt m k (suc (r .place))
     history-there =
@@ -133,9 +138,9 @@ module _ (m : Model) (pf : PlainFacts m) {marks : List (List Bool)} {ws : List �
     granted-cut =
         record {
           size = rw (length-set ts k (effect .thread)) (ic .size);
-          records = moved-records m ts cut k (suc (r .place)) (effect .thread) inside (thread-there ∙ sym (run-record m pf (r .place) k (r .runs))) (ic .records);
+          records = moved-records m ts cut k (suc (r .place)) (effect .thread) inside seen-there (ic .records);
           history = moved-history m h cut k (suc (r .place)) items history-there (ic .history);
-          good = effect-good m pf kl ic k c kt ready r clear;
+          good = effect-good m pf kl ic k c kt ready r safe;
           low-ready = low-ready-after;
           low-logged = low-logged-after;
           logged = logged-after;

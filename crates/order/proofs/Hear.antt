@@ -3,7 +3,7 @@
 -- past for it, and places that are not done come no sooner than the forecast.
 -- Takes as given the facts of the plain run (PlainFacts) and the laws of the kit (KitLaws).
 use Prim.Native.Nat.{ℕ, suc, _≤_, _<_}
-use mathlib.Core.Path.{_≡_, refl, ap, sym, _∙_, subst}
+use mathlib.Core.Path.{_≡_, refl, sym, _∙_, subst}
 use mathlib.Core.Logic.{inl, inr}
 use mathlib.Core.Bool.{Bool}
 use mathlib.Core.List.{List, [], _∷_, _++_, List·Memᴰ}
@@ -32,6 +32,7 @@ use Rattle.order.proofs.Places.{nowAt, recordAt, wokenIn, Runs, Says, H
 use Rattle.order.proofs.PlainFacts.{PlainFacts, NextHearing}
 use Rattle.order.proofs.KitLaws.{boundIn, KitLaws}
 use Rattle.order.proofs.Invariant.{Known, Made, IsCut, Bounded}
+use Rattle.order.proofs.CutLaws.{cut-view}
 
 -- the plain run's next hearing of thread k after its cut, at cycle c
 pub record HearingAt (m : Model) (n k e : ℕ) (since c : Cycle) : Type 0 where
@@ -89,7 +90,7 @@ module _ (m : Model) (pf : PlainFacts m) {marks : List (List Bool)} {ws : List �
         begun = leastHeard-at l e since c (heardNow-at m ws l ts e since c now .0) .1
 
         waits : viewOf (recordAt m (cut k) k .state) ≡ view.waits e since
-        waits = ap (λ (t : Thread). viewOf (t .state)) (sym (ic .records k below)) ∙ w
+        waits = sym (cut-view ic k below) ∙ w
 
         made : (q : ℕ) → nowAt m q ≡ c → NextHearing m (cut k) k e since (nowAt m q) → HearingAt m (cut k) k e since c
         made q same n = after (pf .happens (n .place) k below)

@@ -28,11 +28,12 @@ use Rattle.early.specs.Log.{pairOf}
 use Rattle.early.specs.Deliver.{heardNow, lookedAt, lookItems}
 use Rattle.early_laws.proofs.LogLaws.{leastHeard-at}
 use Rattle.early_laws.proofs.LookLaws.{Looked, unheard, hears, looked, heardNow-at, heardAt-waits, lookedAt-none, lookedAt-heard, lookItems-none, lookItems-other, lookItems-heard}
+use Rattle.order.proofs.Seen.{seen, seen-self}
 use Rattle.order.proofs.Places.{nowAt, recordAt, wokenIn}
 use Rattle.order.proofs.PlainFacts.{PlainFacts}
 use Rattle.order.proofs.KitLaws.{KitLaws}
 use Rattle.order.proofs.Invariant.{Known, Gone, IsCut, SomeCut, Bounded, moved, adding}
-use Rattle.order.proofs.CutLaws.{set-each, moved-records, moved-history, adding-same, adding-other, done-kept, done-back}
+use Rattle.order.proofs.CutLaws.{cut-segment, set-each, moved-records, moved-history, adding-same, adding-other, done-kept, done-back}
 use Rattle.order.proofs.GoodLaws.{good-moved}
 use Rattle.order.proofs.Hear.{HearingAt, next-heard}
 
@@ -81,7 +82,7 @@ module _ (m : Model) (pf : PlainFacts m) {marks : List (List Bool)} {ws : List �
         heard-cut =
             record {
               size = rw length-set (ic .size);
-              records = moved-records m ts cut k (suc (ha .place)) woken inside woken-is (ic .records);
+              records = moved-records m ts cut k (suc (ha .place)) woken inside (ap seen woken-is ∙ seen-self (recordAt m (suc (ha .place)) k) (pf .unbegun (suc (ha .place)) k below)) (ic .records);
               history = moved-history m h cut k (suc (ha .place)) (heard e c ∷ []) heard-is (ic .history);
               good = good-moved m pf kl cut x k (suc (ha .place)) on (ha .quiet) (ic .good);
               low-ready = low-ready-after;
@@ -92,7 +93,7 @@ module _ (m : Model) (pf : PlainFacts m) {marks : List (List Bool)} {ws : List �
             }
           where
             woken-is : woken ≡ recordAt m (suc (ha .place)) k
-            woken-is = ap (λ (t : Thread). wokenIn (t .segment) c) (ic .records k below) ∙ sym (ha .after)
+            woken-is = ap (λ (s : ℕ). wokenIn s c) (cut-segment ic k below) ∙ sym (ha .after)
 
             heard-is : h k ++ (heard e c ∷ []) ≡ historyAt m k (suc (ha .place))
             heard-is = ap (λ (a : List Item). a ++ (heard e c ∷ [])) (ic .history k below) ∙ sym (ha .history-after)

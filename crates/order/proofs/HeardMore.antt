@@ -1,4 +1,4 @@
--- Two cuts after which a thread has run equally often: its record and history are the same in both, or it waits in one and has heard, once, in
+-- Two cuts, with nothing running, after which a thread has run equally often: its record and history are the same in both, or it waits in one and has heard, once, in
 -- the other. What it has heard is the first notification that the plain run has for it.
 -- Takes as given the facts of the plain run (PlainFacts).
 use Prim.Native.Nat.{ℕ, zero, suc, _+_, _-_, _≤_, _<_}
@@ -24,9 +24,11 @@ use Rattle.plain_laws.proofs.RecordLaws.{stateAfter-not-waits}
 use Rattle.plain_laws.proofs.HappenLaws.{historyAt-more}
 use Rattle.early.specs.declared.Notification.{Notification}
 use Rattle.order.specs.Steady.{runCount}
+use Rattle.order.proofs.Seen.{Unbegun}
 use Rattle.order.proofs.Places.{nowAt, recordAt, wokenIn, Runs, Says, Hears, Happens, idle, runs, hears}
 use Rattle.order.proofs.PlainFacts.{PlainFacts, NextHearing}
 use Rattle.order.proofs.Invariant.{IsCut}
+use Rattle.order.proofs.CutLaws.{cut-view, cut-segment, cut-record}
 use Rattle.order.proofs.SamePlaces.{ran-between}
 
 module _ (m : Model) (pf : PlainFacts m) (k : ℕ) (below : k < m .t) (n : ℕ) where
@@ -150,9 +152,9 @@ swapped-same (ahead e since c b) = refl
 module _ (m : Model) (pf : PlainFacts m) where
   -- from a cut to a later one
   onward : {x x′ : List ℕ} {l l′ : List Notification} {ts us : List Thread} {h h′ : ℕ → List Item} {cut cut′ : ℕ → ℕ} {low low′ : Bound}
-      → IsCut m x l ts h cut low → IsCut m x′ l′ us h′ cut′ low′ → (k : ℕ) → k < m .t → runCount (h k) ≡ runCount (h′ k) → cut k ≤ cut′ k
+      → IsCut m x l ts h cut low → IsCut m x′ l′ us h′ cut′ low′ → Unbegun m ts → Unbegun m us → (k : ℕ) → k < m .t → runCount (h k) ≡ runCount (h′ k) → cut k ≤ cut′ k
       → Compared m ts us h h′ k
-  onward {ts = ts} {us = us} {h = h} {h′ = h′} {cut = cut} {cut′ = cut′} ic ic′ k below same later =
+  onward {ts = ts} {us = us} {h = h} {h′ = h′} {cut = cut} {cut′ = cut′} ic ic′ unbegun unbegun′ k below same later =
       go (subst (λ (p : ℕ). Still m pf k below (cut k) p ⊎ Woken m pf k below (cut k) p) at (walk m pf k below (cut k) (cut′ k - cut k) quiet))
     where
       at : cut k + (cut′ k - cut k) ≡ cut′ k
@@ -167,23 +169,23 @@ module _ (m : Model) (pf : PlainFacts m) where
 
       go : Still m pf k below (cut k) (cut′ k) ⊎ Woken m pf k below (cut k) (cut′ k) → Compared m ts us h h′ k
       go (inl s) =
-          alike (λ b. (ic .records k b ∙ sym (s .same) ∙ sym (ic′ .records k b), ic .history k b ∙ sym (s .history) ∙ sym (ic′ .history k b)))
+          alike (λ b. (cut-record ic k b (unbegun k b) ∙ sym (s .same) ∙ sym (cut-record ic′ k b (unbegun′ k b)), ic .history k b ∙ sym (s .history) ∙ sym (ic′ .history k b)))
       go (inr w) =
           behind (w .event) (w .since) (nowAt m (w .place)) (record {
             below = below;
-            waits = ap (λ (t : Thread). viewOf (t .state)) (ic .records k below) ∙ w .waits;
-            woken = ic′ .records k below ∙ w .woken ∙ ap (λ (t : Thread). wokenIn (t .segment) (nowAt m (w .place))) (sym (ic .records k below));
+            waits = cut-view ic k below ∙ w .waits;
+            woken = cut-record ic′ k below (unbegun′ k below) ∙ w .woken ∙ ap (λ (s : ℕ). wokenIn s (nowAt m (w .place))) (sym (cut-segment ic k below));
             history = ic′ .history k below ∙ w .history ∙ ap (λ (a : List Item). a ++ (heard (w .event) (nowAt m (w .place)) ∷ [])) (sym (ic .history k below));
             begun = w .hears-it .begun;
             first = woken-first m pf k below (cut k) (cut′ k) w;
           })
 
   pub compared : {x x′ : List ℕ} {l l′ : List Notification} {ts us : List Thread} {h h′ : ℕ → List Item} {cut cut′ : ℕ → ℕ} {low low′ : Bound}
-      → IsCut m x l ts h cut low → IsCut m x′ l′ us h′ cut′ low′ → ((k : ℕ) → k < m .t → runCount (h k) ≡ runCount (h′ k)) → (k : ℕ)
+      → IsCut m x l ts h cut low → IsCut m x′ l′ us h′ cut′ low′ → Unbegun m ts → Unbegun m us → ((k : ℕ) → k < m .t → runCount (h k) ≡ runCount (h′ k)) → (k : ℕ)
       → Compared m ts us h h′ k
-  compared {ts = ts} {us = us} {h = h} {h′ = h′} {cut = cut} {cut′ = cut′} ic ic′ same k = go (decLt k (m .t)) (decLe (cut k) (cut′ k))
+  compared {ts = ts} {us = us} {h = h} {h′ = h′} {cut = cut} {cut′ = cut′} ic ic′ unbegun unbegun′ same k = go (decLt k (m .t)) (decLe (cut k) (cut′ k))
     where
       go : Dec (k < m .t) → Dec (cut k ≤ cut′ k) → Compared m ts us h h′ k
       go (no n) d = alike (λ b. absurd (n b))
-      go (yes b) (yes l) = onward ic ic′ k b (same k b) l
-      go (yes b) (no l) = swapped (onward ic′ ic k b (sym (same k b)) (omega arith))
+      go (yes b) (yes l) = onward ic ic′ unbegun unbegun′ k b (same k b) l
+      go (yes b) (no l) = swapped (onward ic′ ic unbegun′ unbegun k b (sym (same k b)) (omega arith))

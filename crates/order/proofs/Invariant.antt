@@ -1,5 +1,5 @@
--- An early state is a cut of the plain run: each thread's record is the one it has at a place of its own, and the places
--- that its thread has passed are done. The variables are those of the done places, the log holds what they notified, and
+-- An early state is a cut of the plain run: each thread's record, a running one read as ready (`Seen`), is the one it has at a place of its own, and
+-- the places that its thread has passed are done. The variables are those of the done places, the log holds what they notified, and
 -- what was dropped from it nobody can hear.
 -- Assumes nothing.
 use Prim.Native.Nat.{ℕ, _≤_, _<_}
@@ -23,6 +23,7 @@ use Rattle.plain.specs.History.{Item, historyAt}
 use Rattle.early.specs.declared.Notification.{Notification}
 use Rattle.early.specs.Log.{pairOf}
 use Rattle.early_laws.proofs.OnceLaws.{Once}
+use Rattle.order.proofs.Seen.{seen}
 use Rattle.order.proofs.Places.{nowAt, recordAt, Runs, Says}
 use Rattle.order.proofs.KitLaws.{Shared, boundIn}
 
@@ -35,6 +36,10 @@ pub record Done (m : Model) (cut : ℕ → ℕ) (q k : ℕ) : Type 0 where
 pub record Touch (m : Model) (p a q b : ℕ) : Type 0 where
   pub variable : ℕ
   pub shared : Shared m a (recordAt m p a .segment) b (recordAt m q b .segment) variable
+
+-- every place before q that touches it, as it runs thread k, is done
+abbrev pub Safe : Model → (ℕ → ℕ) → ℕ → ℕ → Type 0
+Safe m cut q k = (p a : ℕ) → p < q → Runs m p a → Touch m p a q k → Done m cut p a
 
 -- the variables of the done places
 pub record Good (m : Model) (cut : ℕ → ℕ) (x : List ℕ) : Type 0 where
@@ -64,7 +69,7 @@ Made m cut y = (q : ℕ) × (k : ℕ) × Done m cut q k × Says m q k (y .event)
 pub record IsCut (m : Model) (x : List ℕ) (l : List Notification) (ts : List Thread) (h : ℕ → List Item) (cut : ℕ → ℕ) (low : Bound)
     : Type 0 where
   pub size : m .t ≤ length ts
-  pub records : (k : ℕ) → k < m .t → threadAt ts k ≡ recordAt m (cut k) k
+  pub records : (k : ℕ) → k < m .t → seen (threadAt ts k) ≡ recordAt m (cut k) k
   pub history : (k : ℕ) → k < m .t → h k ≡ historyAt m k (cut k)
   pub good : Good m cut x
   pub low-ready : (k : ℕ) (c : Cycle) → k < m .t → viewOf (threadAt ts k .state) ≡ view.ready c → low ≼ At c

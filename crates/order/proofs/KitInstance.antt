@@ -198,7 +198,7 @@ module _ (m : Model) (fit : modelFault m ≡ 0) (ws : List ℕ) (begins : Begins
         fit-record = λ i k l.
             let p = range.in-range m kept i .fits k l in
             →isFitThread m k (recordAt m i k)
-            (record { segment = p .segment; cycle = record { time = range.record-time m kept i k l; delta = p .delta }; event = p .event; lacks = p .lacks });
+            (record { segment = p .segment; cycle = record { time = range.record-time m kept i k l; delta = p .delta }; event = p .event; soon = λ r. absurd (subst T (sym r ∙ p .unbegun) tt); lacks = p .lacks });
         fit-now = λ i.
             let time = before-cut (nowAt m i) (range.now-before m kept i) in
             →isFitCycle cutTime (nowAt m i) (record { time = time; delta = range.in-range m kept i .now-delta });

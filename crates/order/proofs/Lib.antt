@@ -1,3 +1,4 @@
+pub mod Seen
 pub mod Places
 pub mod PlainFacts
 pub mod KitLaws
@@ -15,13 +16,21 @@ pub mod Floor
 pub mod Drop
 pub mod Capacity
 pub mod Reached
+pub mod Stepped
 pub mod LeastReady
 pub mod Progress
 pub mod End
 pub mod Lists
+pub mod CallLists
+pub mod SamePlaces
+pub mod Issued
+pub mod Finish
+pub mod Begun
+pub mod Underway
+pub mod Calls
+pub mod CallTheorem
 pub mod CarriedOn
 pub mod Rising
-pub mod SamePlaces
 pub mod Theorem
 pub mod NeverFalls
 pub mod AskedAgain

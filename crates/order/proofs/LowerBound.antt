@@ -24,17 +24,19 @@ use Rattle.model.specs.declared.Model.{Model}
 use Rattle.model.specs.declared.Thread.{Thread}
 use Rattle.model.specs.Limits.{isUpToHorizon}
 use Rattle.model.specs.Record as view
-use Rattle.model.specs.Record.{threadAt, isLive, View, viewOf}
+use Rattle.model.specs.Record.{threadAt, isLive, isLiveView, View, viewOf}
 use Rattle.plain.specs.History.{Item}
 use Rattle.plain.specs.Step.{placeAt}
 use Rattle.plain_laws.proofs.RecordLaws.{stateAfter-not-waits}
 use Rattle.early.specs.declared.Notification.{Notification}
 use Rattle.early.specs.Log.{pairOf}
+use Rattle.order.proofs.Seen.{seen, seen-view}
 use Rattle.order.proofs.Places.{nowAt, recordAt, effectThere, wokenIn, Runs, Says, Hears, Happens, idle, runs, hears}
 use Rattle.order.proofs.PlainFacts.{PlainFacts}
 use Rattle.order.proofs.KitLaws.{boundIn, KitLaws, Forecasts}
 use Rattle.order.proofs.PlaceLaws.{Over, over-ready-not, over-stays, heard-ready}
 use Rattle.order.proofs.Invariant.{Known, IsCut, Bounded}
+use Rattle.order.proofs.CutLaws.{cut-view, cut-segment}
 
 module _ (m : Model) (pf : PlainFacts m) {marks : List (List Bool)} {ws : List ℕ} (kl : KitLaws m marks ws)
     {x : List ℕ} {l : List Notification} {ts : List Thread} {h : ℕ → List Item} {cut : ℕ → ℕ} {low : Bound}
@@ -42,7 +44,7 @@ module _ (m : Model) (pf : PlainFacts m) {marks : List (List Bool)} {ws : List �
   where
     -- a thread with a place that is not done is live
     pub live-undone : (q j : ℕ) → Runs m q j → (q < cut j → ⊥) → T (isLive (threadAt ts j .state))
-    live-undone q j r new = rw (ic .records j (r .below)) (go (T-case (isLive (recordAt m (cut j) j .state))))
+    live-undone q j r new = subst (λ (v : View). T (isLiveView v)) (sym (cut-view ic j (r .below))) (go (T-case (isLive (recordAt m (cut j) j .state))))
       where
         go : T (isLive (recordAt m (cut j) j .state)) ⊎ Over (recordAt m (cut j) j) → T (isLive (recordAt m (cut j) j .state))
         go (inl t) = t
@@ -55,9 +57,9 @@ module _ (m : Model) (pf : PlainFacts m) {marks : List (List Bool)} {ws : List �
     boundTo k t = boundIn m ws ts (f .earliest) k (t .segment)
 
     segment-cut : (k : ℕ) → k < m .t → threadAt ts k .segment < m .n
-    segment-cut k kt = rw (ic .records k kt) (pf .segment-below (cut k) k kt)
+    segment-cut k kt = rw (cut-segment ic k kt) (pf .segment-below (cut k) k kt)
 
-    bound-still : (k : ℕ) → k < m .t → boundTo k (threadAt ts k) ≡ f .earliest k
+    bound-still : (k : ℕ) → k < m .t → boundTo k (seen (threadAt ts k)) ≡ f .earliest k
     bound-still k kt =
         ap (λ (b : Bound). f .earliest k ⊕ b) (kl .distances .self (threadAt ts k .segment) (segment-cut k kt)) ∙ ⊕-noAdvance (f .earliest k)
 
@@ -66,7 +68,7 @@ module _ (m : Model) (pf : PlainFacts m) {marks : List (List Bool)} {ws : List �
     abbrev BoundAt : ℕ → Thread → View → Type 0
     BoundAt k t (view.ready c) = T (isUpToHorizon m c) → boundTo k t ≼ At c
     BoundAt k t (view.waits e since) =
-        (t ≡ threadAt ts k) ⊎ ((c : Cycle) → since ⊑ c → T (isUpToHorizon m c) → boundTo k t ≼ At c ⊕ oneDelta)
+        (t ≡ seen (threadAt ts k)) ⊎ ((c : Cycle) → since ⊑ c → T (isUpToHorizon m c) → boundTo k t ≼ At c ⊕ oneDelta)
     BoundAt k t view.idle = Unit {0}
 
     abbrev Sound : ℕ → Thread → Type 0
@@ -75,10 +77,10 @@ module _ (m : Model) (pf : PlainFacts m) {marks : List (List Bool)} {ws : List �
     abbrev UpTo : ℕ → Type 0
     UpTo n = (k j : ℕ) → j ≤ n → k < m .t → cut k ≤ j → Sound k (recordAt m j k)
 
-    sound-cut : (k : ℕ) → k < m .t → Sound k (threadAt ts k)
-    sound-cut k kt = go (viewOf (threadAt ts k .state)) refl
+    sound-cut : (k : ℕ) → k < m .t → Sound k (seen (threadAt ts k))
+    sound-cut k kt = rw (seen-view (threadAt ts k)) (go (viewOf (threadAt ts k .state)) refl)
       where
-        go : (v : View) → viewOf (threadAt ts k .state) ≡ v → BoundAt k (threadAt ts k) v
+        go : (v : View) → viewOf (threadAt ts k .state) ≡ v → BoundAt k (seen (threadAt ts k)) v
         go (view.ready c) e = λ before. rw (bound-still k kt, f .ready k c kt e) ⊑-refl
         go (view.waits e since) w = inl refl
         go view.idle e = tt
@@ -91,14 +93,14 @@ module _ (m : Model) (pf : PlainFacts m) {marks : List (List Bool)} {ws : List �
     bound-there n ih q j h from r = subst (BoundAt j (recordAt m q j)) (r .ready) (ih j q h (r .below) from) (pf .now-before q)
 
     -- a thread that still waits as at its cut, and hears at place n: earliest is not after the delta that follows
-    heard-next : (n : ℕ) → UpTo n → (k e : ℕ) (since : Cycle) → Hears m n k e since → recordAt m n k ≡ threadAt ts k
+    heard-next : (n : ℕ) → UpTo n → (k e : ℕ) (since : Cycle) → Hears m n k e since → recordAt m n k ≡ seen (threadAt ts k)
         → f .earliest k ≼ At (nowAt m n) ⊕ oneDelta
     heard-next n ih k e since hear same =
         let (q, j, sooner, says, now) = pf .source n k e since hear in
         subst (λ (c : Cycle). f .earliest k ≼ At c ⊕ oneDelta) now (by q j sooner says (rw now (hear .begun)) (decLt q (cut j)))
       where
         waits : viewOf (threadAt ts k .state) ≡ view.waits e since
-        waits = ap (λ (t : Thread). viewOf (t .state)) (sym same) ∙ hear .waits
+        waits = sym (seen-view (threadAt ts k)) ∙ ap (λ (t : Thread). viewOf (t .state)) (sym same) ∙ hear .waits
 
         by : (q j : ℕ) → q < n → Says m q j e → since ⊑ nowAt m q → Dec (q < cut j) → f .earliest k ≼ At (nowAt m q) ⊕ oneDelta
         by q j sooner says begun (yes d) = go (ic .logged q j e (record { runs = says .runs; passed = d }) says)

@@ -2,7 +2,7 @@
 -- of an event, after a list and after one that goes on from it.
 -- Takes as given the facts of the plain run (PlainFacts) and the laws of the kit (KitLaws).
 use Prim.Native.Nat.{ℕ, _<_}
-use mathlib.Core.Path.{sym, subst, subst₂}
+use mathlib.Core.Path.{sym, subst₂}
 use mathlib.Core.Bool.{Bool}
 use mathlib.Core.List.{List, _++_}
 use native.Mathlib.Omega.{arith}
@@ -13,9 +13,8 @@ use Rattle.clock.specs.Order.{_≼_}
 use Rattle.model.specs.declared.Model.{Model}
 use Rattle.model.specs.declared.Thread.{Thread}
 use Rattle.model.specs.Limits.{isUpToHorizon}
-use Rattle.model.specs.Record.{threadAt, isLive, viewOf}
+use Rattle.model.specs.Record.{threadAt, isLive}
 use Rattle.plain.specs.History.{Item}
-use Rattle.plain_laws.proofs.RecordLaws.{readyCycle→ready}
 use Rattle.early.specs.declared.Site.{Site}
 use Rattle.early.specs.Log.{logOf}
 use Rattle.early.specs.Forecast.{forecastOf}
@@ -28,8 +27,9 @@ use Rattle.early_laws.proofs.RequestLaws.{Asked, refused, granted, requestOf-as
 use Rattle.order.specs.Claim.{FreshBelow, afterListWith}
 use Rattle.order.proofs.PlainFacts.{PlainFacts}
 use Rattle.order.proofs.KitLaws.{boundIn, KitLaws}
+use Rattle.order.proofs.CutLaws.{cut-segment}
 use Rattle.order.proofs.Reached.{Reached}
-use Rattle.order.proofs.Lists.{request-reached}
+use Rattle.order.proofs.Lists.{granted-ready, request-reached}
 use Rattle.order.proofs.Theorem.{after-reached}
 use Rattle.order.proofs.Rising.{InTime, grant-rising}
 
@@ -43,8 +43,8 @@ module _ (m : Model) (pf : PlainFacts m) {marks : List (List Bool)} {ws : List �
       go a (refused n u f) = rising-same (InTime m) m ws (logOf site) ts
       go a (granted c g) =
           grant-rising m (kl .distances) site ts k c (g .thread) (omega (arith, g .thread, r .is-cut .size))
-          (subst (λ (t : Thread). t .segment < m .n) (sym (r .is-cut .records k (g .thread))) (pf .segment-below (r .cut k) k (g .thread)))
-          (readyCycle→ready (viewOf (threadAt ts k .state)) c (g .ready))
+          (rw (cut-segment (r .is-cut) k (g .thread)) (pf .segment-below (r .cut k) k (g .thread)))
+          (granted-ready m pf kl site ts h r k c g)
 
   -- a list of requests
   pub list-rising : (ks : List ℕ) (site : Site) (ts : List Thread) (h : ℕ → List Item) → Reached m site ts h

@@ -4,7 +4,7 @@
 use Prim.Native.Nat.{ℕ, suc, _≤_, _<_}
 use mathlib.Core.Path.{_≡_}
 use mathlib.Core.Logic.{_⊎_}
-use mathlib.Core.Bool.{true}
+use mathlib.Core.Bool.{true, false}
 use lib.Dec.{T}
 use lib.ListN.{length}
 use Rattle.clock.specs.declared.Cycle.{Cycle}
@@ -12,7 +12,7 @@ use Rattle.clock.specs.Order.{Before, _⊑_}
 use Rattle.model.specs.declared.Model.{Model}
 use Rattle.model.specs.Limits.{isUpToHorizon}
 use Rattle.model.specs.Record as view
-use Rattle.model.specs.Record.{viewOf}
+use Rattle.model.specs.Record.{isRunning, viewOf}
 use Rattle.plain.specs.Step.{placeAt}
 use Rattle.plain.specs.Run.{isDone}
 use Rattle.plain.specs.History.{historyAt}
@@ -53,6 +53,8 @@ pub record PlainFacts (m : Model) : Type 0 where
   pub variables-idle : (i : ℕ) → ((k : ℕ) → Runs m i k → ⊥) → placeAt m (suc i) .variables ≡ placeAt m i .variables
   pub variables-length : (i : ℕ) → length (placeAt m i .variables) ≡ 64
   pub segment-below : (i k : ℕ) → k < m .t → recordAt m i k .segment < m .n
+  -- no thread of the plain run is running between its steps
+  pub unbegun : (i k : ℕ) → k < m .t → isRunning (recordAt m i k .state) ≡ false
   pub now-mono : (i j : ℕ) → i ≤ j → nowAt m i ⊑ nowAt m j
   -- places in order have stamps in order
   pub stamps : (i j a b : ℕ) → i < j → Runs m i a → Runs m j b → Before (nowAt m i) (nowAt m j) ⊎ ((nowAt m i ≡ nowAt m j) × (a < b))

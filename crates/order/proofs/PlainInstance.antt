@@ -153,6 +153,7 @@ module _ (m : Model) where
           variables-idle = variables-same;
           variables-length = range.variables-length m kept;
           segment-below = λ i k l. range.in-range m kept i .fits k l .segment;
+          unbegun = λ i k l. range.in-range m kept i .fits k l .unbegun;
           now-mono = steady.now-mono m;
           stamps = λ i j a b l r s. stamp.run-stamps m i j a b l (runs-back i a r) (runs-back j b s);
           now-before = range.now-before m kept;

@@ -19,7 +19,6 @@ use Rattle.model.specs.Record.{threadAt, viewOf}
 use Rattle.plain.specs.Start.{freshVariables}
 use Rattle.plain.specs.Wake.{floorOf}
 use Rattle.plain.specs.History.{Item, ran, heard}
-use Rattle.plain_laws.proofs.RecordLaws.{readyCycle→ready}
 use Rattle.early.specs.declared.Notification.{Notification}
 use Rattle.early.specs.declared.Site.{Site}
 use Rattle.early.specs.Log.{pairOf, logOf, dropBefore}
@@ -33,19 +32,23 @@ use Rattle.early_laws.proofs.RisingLaws.{unheard-rising, rest-same}
 use Rattle.early_laws.proofs.GrantLaws.{siteAfter-log, threadsAfter-rest}
 use Rattle.early_laws.proofs.RequestLaws.{Grantable, Asked, refused, granted, requestOf-asked, requestsOf-carries}
 use Rattle.order.specs.Claim.{FreshBelow, afterListWith}
+use Rattle.order.proofs.Seen.{Unbegun}
 use Rattle.order.proofs.PlainFacts.{PlainFacts}
 use Rattle.order.proofs.KitLaws.{KitLaws}
 use Rattle.order.proofs.Invariant.{adding}
+use Rattle.order.proofs.CutLaws.{cut-segment}
 use Rattle.order.proofs.Drop.{dropBefore-keeps, rest-quiet}
-use Rattle.order.proofs.Reached.{Reached, reached-cut, reached-room}
-use Rattle.order.proofs.Lists.{fresh-reached, request-reached, ran-cut}
+use Rattle.order.proofs.Reached.{Reached, reached-cut}
+use Rattle.order.proofs.Stepped.{ran-cut}
+use Rattle.order.proofs.Lists.{fresh-unbegun, fresh-reached, granted-ready, granted-run, granted-safe, request-reached, request-unbegun}
 use Rattle.order.proofs.SamePlaces.{runCount-append}
 use Rattle.order.proofs.Rising.{InTime, inTime-down, ran-rising}
 use Rattle.order.proofs.Foretold.{Foretold, made→said, foretold-rising, foretold-more, foretold-settled}
 
--- a reached state in which nobody has anything to hear, and no forecast is sooner than what was heard
+-- a reached state in which nothing is running, nobody has anything to hear, and no forecast is sooner than what was heard
 pub record Resting (m : Model) (ws : List ℕ) (site : Site) (ts : List Thread) (h : ℕ → List Item) : Type 0 where
   pub reached : Reached m site ts h
+  pub unbegun : Unbegun m ts
   pub rest : Rest m ws (logOf site) ts
   pub foretold : Foretold m ws (logOf site) ts h
 
@@ -59,6 +62,7 @@ module _ (m : Model) (pf : PlainFacts m) {marks : List (List Bool)} {ws : List �
   fresh-resting ts fresh =
       record {
         reached = fresh-reached m pf kl ts fresh;
+        unbegun = fresh-unbegun m pf kl ts fresh;
         rest = λ k below. silent k (looked m ws (logOf freshSite) ts k);
         foretold = record { said = λ k e c below i. absurd (List·Memᴰ·not-nil i); no-sooner = λ k e c below i. absurd (List·Memᴰ·not-nil i) };
       }
@@ -89,8 +93,8 @@ module _ (m : Model) (pf : PlainFacts m) {marks : List (List Bool)} {ws : List �
     ran-foretold =
         foretold-rising m pf ws
         (ran-rising m (kl .distances) site ts k c (g .thread) (omega (arith, g .thread, s .reached .is-cut .size))
-        (subst (λ (t : Thread). t .segment < m .n) (sym (s .reached .is-cut .records k (g .thread))) (pf .segment-below (s .reached .cut k) k (g .thread)))
-        (readyCycle→ready (viewOf (threadAt ts k .state)) c (g .ready)))
+        (rw (cut-segment (s .reached .is-cut) k (g .thread)) (pf .segment-below (s .reached .cut k) k (g .thread)))
+        (granted-ready m pf kl site ts h (s .reached) k c g))
         (foretold-more m pf ws (λ j. omega (arith, runCount-append (h j) (cond (eqb j k) items []))) (λ j e d i. old j e d (List·Memᴰ·append-cases (h j) i)) (s .foretold))
       where
         old : (j e : ℕ) (d : Cycle) → List·Memᴰ (heard e d) (h j) ⊎ List·Memᴰ (heard e d) (cond (eqb j k) items []) → List·Memᴰ (heard e d) (h j)
@@ -102,7 +106,8 @@ module _ (m : Model) (pf : PlainFacts m) {marks : List (List Bool)} {ws : List �
     delivered-foretold : Foretold m ws new vs (λ j. h j ++ itemsAfter m ws site ts k c j)
     unfolding threadsAfter itemsAfter adding
     delivered-foretold =
-        let ic = ran-cut m pf kl site ts h (s .reached .cut) (reached-cut (s .reached)) (reached-room (s .reached)) k c g .1 in
+        let r = s .reached in
+        let ic = ran-cut m pf kl site ts h (r .cut) (reached-cut r) k c (g .thread) (granted-ready m pf kl site ts h r k c g) (granted-run m pf kl site ts h r k c g) (granted-safe m pf kl site ts h r k c g) .1 in
         subst (Foretold m ws new vs) (fun-ext (λ j. append-assoc (h j) (cond (eqb j k) items []) (settledItems m ws new us j)))
         (foretold-settled m pf ws new (adding h k items) (λ y i. made→said m pf ic y (ic .notified y i)) us ran-foretold)
 
@@ -129,7 +134,7 @@ module _ (m : Model) (pf : PlainFacts m) {marks : List (List Bool)} {ws : List �
       → let a = requestOf m marks ws site ts k in Resting m ws (a .site) (a .threads) (λ j. h j ++ a .items j)
   unfolding grantedTo siteAfter threadsAfter logAfter closedThreads
   request-resting site ts h s k =
-      record { reached = request-reached m pf kl site ts h (s .reached) k; rest = go (requestOf m marks ws site ts k) asked .0; foretold = go (requestOf m marks ws site ts k) asked .1 }
+      record { reached = request-reached m pf kl site ts h (s .reached) k; unbegun = request-unbegun m pf kl site ts h (s .reached) (s .unbegun) k; rest = go (requestOf m marks ws site ts k) asked .0; foretold = go (requestOf m marks ws site ts k) asked .1 }
     where
       asked : Asked m marks ws site ts k (requestOf m marks ws site ts k)
       asked = requestOf-asked m marks ws site ts k

@@ -40,6 +40,7 @@ use Rattle.early_laws.proofs.RisingLaws.{Rising}
 use Rattle.order.specs.Steady.{runCount}
 use Rattle.order.proofs.PlainFacts.{PlainFacts}
 use Rattle.order.proofs.Invariant.{Known}
+use Rattle.order.proofs.CutLaws.{cut-segment}
 use Rattle.order.proofs.PlaceLaws.{heard-ready}
 use Rattle.order.proofs.Reached.{reached-cut}
 use Rattle.order.proofs.Foretold.{Said, said-more, made→said, said→known}
@@ -141,7 +142,7 @@ module _ (m : Model) (pf : PlainFacts m) {ws ws′ : List ℕ} (distances : Same
   bounds : (j q : ℕ) (x : Bound) → j < m .t → q < m .n → Rises Up (earliestAt m ws l ts j) x
       → Rises Up (earliestAt m ws l ts j ⊕ distanceIn m ws (threadAt ts j .segment) q) (x ⊕ distanceIn m ws′ (threadAt us j .segment) q)
   bounds j q x below qn r =
-      let inside : threadAt ts j .segment < m .n = subst (λ (u : Thread). u .segment < m .n) (sym (s .reached .is-cut .records j below)) (pf .segment-below (s .reached .cut j) j below) in
+      let inside : threadAt ts j .segment < m .n = rw (cut-segment (s .reached .is-cut) j below) (pf .segment-below (s .reached .cut j) j below) in
       rw (segments j below, ← distances (threadAt ts j .segment) q inside qn)
       (rises-⊕ Up down (distanceIn m ws (threadAt ts j .segment) q) (earliestAt m ws l ts j) x r)
 

@@ -103,16 +103,16 @@ module _ (m : Model) (pf : PlainFacts m) (k : ℕ) (below : k < m .t) where
       go (no h) = let e : j + (i - j) ≡ i = omega arith in ap ranUpTo (sym e) ∙ ran-still j (i - j) (rw e (sym same))
 
 module _ (m : Model) (pf : PlainFacts m) {marks : List (List Bool)} {ws : List ℕ} (kl : KitLaws m marks ws) where
-  -- two cuts after which the threads have run equally often have the same places done
-  pub same-done : (cut cut′ : ℕ → ℕ) → ((k : ℕ) → k < m .t → runCount (historyAt m k (cut k)) ≡ runCount (historyAt m k (cut′ k)))
+  -- where the threads have run no less often, no fewer places are done
+  pub more-done : (cut cut′ : ℕ → ℕ) → ((k : ℕ) → k < m .t → runCount (historyAt m k (cut k)) ≤ runCount (historyAt m k (cut′ k)))
       → (q k : ℕ) → Done m cut q k → Done m cut′ q k
-  same-done cut cut′ same q k d = record { runs = d .runs; passed = go (decLt q (cut′ k)) }
+  more-done cut cut′ more q k d = record { runs = d .runs; passed = go (decLt q (cut′ k)) }
     where
       go : Dec (q < cut′ k) → q < cut′ k
       go (yes h) = h
       go (no h) =
           let a = ran-between m pf k (d .runs .below) (cut′ k) q (cut k) (omega arith) (d .passed) (d .runs) in
-          let b = same k (d .runs .below) in
+          let b = more k (d .runs .below) in
           absurd (omega arith)
 
   -- place q runs a thread that writes v there, and is not done
@@ -200,8 +200,8 @@ module _ (m : Model) (pf : PlainFacts m) {marks : List (List Bool)} {ws : List �
     pub reached-variables-same : site .variables .at ≡ site′ .variables .at
     reached-variables-same =
         reached-variables r ∙
-        same-done-variables (r .cut) (r′ .cut) (r .variables) (r′ .variables) (same-done (r .cut) (r′ .cut) counts)
-        (same-done (r′ .cut) (r .cut) (λ k below. sym (counts k below))) (r .is-cut .good) (r′ .is-cut .good) ∙
+        same-done-variables (r .cut) (r′ .cut) (r .variables) (r′ .variables) (more-done (r .cut) (r′ .cut) (λ k below. omega (arith, counts k below)))
+        (more-done (r′ .cut) (r .cut) (λ k below. omega (arith, counts k below))) (r .is-cut .good) (r′ .is-cut .good) ∙
         sym (reached-variables r′)
 
     pub reached-ran-same : (k : ℕ) → k < m .t → ranItems (h k) ≡ ranItems (h′ k)

@@ -72,7 +72,7 @@ module _ (m : Model) (pf : PlainFacts m) {ws ws′ : List ℕ} (distances : Same
 module _ (m : Model) (pf : PlainFacts m) {ws ws′ : List ℕ} (distances : SameDistances m ws ws′) {site site′ : Site} {ts us : List Thread} {h h′ : ℕ → List Item}
     (s : Resting m ws site ts h) (t : Resting m ws′ site′ us h′) (same : (k : ℕ) → k < m .t → runCount (h k) ≡ runCount (h′ k)) where
   compare : (k : ℕ) → Compared m ts us h h′ k
-  compare = compared m pf (reached-cut (s .reached)) (reached-cut (t .reached)) same
+  compare = compared m pf (reached-cut (s .reached)) (reached-cut (t .reached)) (s .unbegun) (t .unbegun) same
 
   abbrev soonest : Bound
   soonest = leastBelow (m .t) (λ k. heardIn (compare k))

@@ -1,4 +1,4 @@
--- The deliveries after a grant keep a cut: they are looks, one after the other, and what they hear goes to the histories.
+-- The deliveries after a run keep a cut: they are looks, one after the other, and what they hear goes to the histories.
 -- Takes as given the facts of the plain run (PlainFacts) and the laws of the kit (KitLaws).
 use Prim.Native.Nat.{ℕ, _<_}
 use mathlib.Core.Path.{refl, sym}

@@ -1,13 +1,15 @@
 -- Demand 3 proved: for a model whose plain run and kit keep their laws, every list of requests ends as the plain run does,
--- and never stands still before that. Beside it: what holds after every list, ended or not.
+-- and never stands still before that. It is the instance of what holds of lists of calls (`CallTheorem`): a list of requests is such a
+-- list, and leaves nothing running. Beside it: what holds after every list, ended or not.
 -- Takes as given the facts of the plain run (PlainFacts) and the laws of the kit (KitLaws).
-use Prim.Native.Nat.{ℕ, _≤_, _<_}
-use mathlib.Core.Path.{_≡_, ap, sym, _∙_}
+use Prim.Native.Nat.{ℕ, _*_, _≤_, _<_}
+use mathlib.Core.Path.{_≡_, ap, sym, _∙_, subst}
 use mathlib.Core.Logic.{_⊎_, inl, inr}
 use mathlib.Core.Bool.{Bool, false}
-use mathlib.Core.List.{List, [], _∷_, _++_, List·Memᴰ, List·Memᴰ·cases-cons, List·Memᴰ·not-nil}
+use mathlib.Core.List.{List, [], _∷_, _++_, map, List·Memᴰ, List·Memᴰ·cases-cons, List·Memᴰ·not-nil}
+use native.Mathlib.Omega.{arith}
 use lib.Dec.{T}
-use lib.ListN.{length}
+use lib.ListN.{length, replicate, length-replicate}
 use Rattle.clock.specs.declared.Cycle.{Cycle}
 use Rattle.model.specs.declared.Model.{Model}
 use Rattle.model.specs.declared.Thread.{Thread}
@@ -19,24 +21,26 @@ use Rattle.plain.specs.History.{Item, historyAt}
 use Rattle.early.specs.declared.Site.{Site}
 use Rattle.early.specs.declared.Answer.{Answer}
 use Rattle.early.specs.declared.Answer.the-variants.{Refused}
+use Rattle.early.specs.declared.Call.the-variants.{Both}
 use Rattle.early.specs.Log.{places, logOf}
 use Rattle.early.specs.Fit.{isUnfit}
 use Rattle.early.specs.Answer.{numberOf}
 use Rattle.early.specs.Request.{Requested, grantedTo, requestOf, freshSite, Listed, listedBy, requestsOf}
+use Rattle.early.specs.Call.{heldCount}
 use Rattle.early_laws.proofs.LogLaws.{siteOf-count}
 use Rattle.early_laws.proofs.OnceLaws.{Once}
 use Rattle.early_laws.proofs.RequestLaws.{requestOf-refused, requestOf-fit, requestsOf-append}
-use Rattle.order.specs.Claim.{FreshBelow, afterListWith, requestNext, AgreesAt, Claim}
+use Rattle.order.specs.Claim.{FreshBelow, afterListWith, requestNext, AgreesAt, Claim, afterCallsWith}
 use Rattle.order.specs.Steady.{ranItems, runCount}
+use Rattle.order.proofs.Seen.{Unbegun}
 use Rattle.order.proofs.PlainFacts.{PlainFacts}
 use Rattle.order.proofs.KitLaws.{Begins, KitLaws}
-use Rattle.order.proofs.Invariant.{Bounded}
-use Rattle.order.proofs.LowerBound.{bounded}
-use Rattle.order.proofs.Reached.{Reached, reached-log, reached-variables, reached-fit}
+use Rattle.order.proofs.Reached.{Reached, reached-log, logged-short, reached-fit}
 use Rattle.order.proofs.LeastReady.{LeastReady}
 use Rattle.order.proofs.Progress.{least-granted, some-granted}
-use Rattle.order.proofs.End.{end-record, end-history, end-variables}
-use Rattle.order.proofs.Lists.{fresh-reached, request-reached, list-reached}
+use Rattle.order.proofs.Lists.{fresh-unbegun, fresh-reached, request-reached, list-reached, list-unbegun}
+use Rattle.order.proofs.CallLists.{requests-are-calls}
+use Rattle.order.proofs.CallTheorem.{calls-agree}
 use Rattle.order.proofs.SamePlaces.{reached-variables-same, reached-ran-same}
 use Rattle.order.proofs.CarriedOn.{reached-begins, reached-carried}
 
@@ -48,26 +52,30 @@ module _ (m : Model) (pf : PlainFacts m) {marks : List (List Bool)} {ws : List �
   pub after-reached : (ks : List ℕ) → Reached m (after ks .site) (after ks .threads) (after ks .history)
   after-reached ks = list-reached m pf kl ks freshSite ts (λ j. []) (fresh-reached m pf kl ts fresh)
 
+  -- in which nothing is running
+  pub after-unbegun : (ks : List ℕ) → Unbegun m (after ks .threads)
+  after-unbegun ks = list-unbegun m pf kl ks freshSite ts (λ j. []) (fresh-reached m pf kl ts fresh) (fresh-unbegun m pf kl ts fresh)
+
   -- where no thread is ready up to the horizon, all is as in the plain run carried on until it is done
   pub agrees-at-end : (ks : List ℕ) → someReady m (after ks .threads) ≡ false → AgreesAt m (after ks) (pf .ending .place)
   agrees-at-end ks over =
-      record {
-        variables = reached-variables r ∙ end-variables m pf kl (r .is-cut) bd over;
-        history = λ k below. end-history m pf kl (r .is-cut) bd over k below;
-        closing = λ k below. end-record m pf kl (r .is-cut) bd over k below;
-      }
+      subst (λ (a : Listed). AgreesAt m a (pf .ending .place)) same
+      (calls-agree m pf kl fresh held enough (map Both ks) (ap (λ (a : Listed). someReady m (a .threads)) same ∙ over))
     where
-      r : Reached m (after ks .site) (after ks .threads) (after ks .history)
-      r = after-reached ks
+      held : List ℕ
+      held = replicate (heldCount * m .t) 0
 
-      bd : Bounded m ws (after ks .threads) (r .cut) (kl .forecasts (r .log) (after ks .threads) .earliest)
-      bd = bounded m pf kl (r .is-cut) (kl .forecasts (r .log) (after ks .threads))
+      enough : heldCount * m .t ≤ length held
+      enough = let e = length-replicate {A = ℕ} (heldCount * m .t) 0 in omega arith
+
+      same : afterCallsWith m marks ws ts held (map Both ks) .listed ≡ after ks
+      same = requests-are-calls m marks ws ks freshSite ts held enough
 
   -- the least ready stamp up to the horizon is always granted
   pub least-granted-next : (ks : List ℕ) (i : ℕ) (c : Cycle) → LeastReady m (after ks .threads) i c → T (isUpToHorizon m c)
       → requestNext m marks ws ts ks i ≡ grantedTo m ws (after ks .site) (after ks .threads) i c
   least-granted-next ks i c lr early =
-      least-granted m pf kl (after ks .site) (after ks .threads) (after ks .history) (after-reached ks) i c lr early
+      least-granted m pf kl (after ks .site) (after ks .threads) (after ks .history) (after-reached ks) i c lr (after-unbegun ks i (lr .below)) early
 
   -- demand 3 for one list
   pub claim : (ks : List ℕ) → Claim m marks ws ts ks
@@ -76,7 +84,7 @@ module _ (m : Model) (pf : PlainFacts m) {marks : List (List Bool)} {ws : List �
       record {
         at-end = λ over. (pf .ending .place, pf .ending .done, agrees-at-end ks over);
         goes-on = λ ready.
-            let (k, c, below, p) = some-granted m pf kl (after ks .site) (after ks .threads) (after ks .history) (after-reached ks) ready in
+            let (k, c, below, p) = some-granted m pf kl (after ks .site) (after ks .threads) (after ks .history) (after-reached ks) (after-unbegun ks) ready in
             (k, threadAt (after ks .threads) k .segment, c, ap (λ (a : Requested). a .answer) p);
       }
 
@@ -87,7 +95,7 @@ module _ (m : Model) (pf : PlainFacts m) {marks : List (List Bool)} {ws : List �
   -- any list can be carried on to an end
   pub carried-on : (ks : List ℕ) → (more : List ℕ) × (someReady m (after (ks ++ more) .threads) ≡ false)
   carried-on ks =
-      let (more, p) = reached-carried m pf kl (after ks .site) (after ks .threads) (after ks .history) (after-reached ks) in
+      let (more, p) = reached-carried m pf kl (after ks .site) (after ks .threads) (after ks .history) (after-reached ks) (after-unbegun ks) in
       (more, ap (someReady m) (requestsOf-append m marks ws ks more freshSite ts) ∙ p)
 
   -- no request answers 11: every reached state is fit
@@ -117,7 +125,7 @@ module _ (m : Model) (pf : PlainFacts m) {marks : List (List Bool)} {ws : List �
 
   -- the log never holds more than 128 pairs, and no pair twice
   pub log-bounded : (ks : List ℕ) → length (logOf (after ks .site)) ≤ places
-  log-bounded ks = rw (reached-log (after-reached ks)) (after-reached ks .short)
+  log-bounded ks = rw (reached-log (after-reached ks)) (omega (arith, logged-short m pf kl (after-reached ks .is-cut), after-reached ks .short))
 
   pub log-once : (ks : List ℕ) → Once (logOf (after ks .site))
   log-once ks = rw (reached-log (after-reached ks)) (after-reached ks .is-cut .once)
@@ -125,7 +133,7 @@ module _ (m : Model) (pf : PlainFacts m) {marks : List (List Bool)} {ws : List �
   pub log-count : (ks : List ℕ) → after ks .site .count ≤ places
   log-count ks =
       rw (ap (λ (s : Site). s .count) (after-reached ks .site-is) ∙ siteOf-count (after-reached ks .variables) (after-reached ks .log))
-      (after-reached ks .short)
+      (omega (arith, logged-short m pf kl (after-reached ks .is-cut), after-reached ks .short))
 
 -- two lists, each with tables and records of its own, after which every thread has run equally often
 module _ (m : Model) (pf : PlainFacts m) {marks marks′ : List (List Bool)} {ws ws′ : List ℕ} (kl : KitLaws m marks ws) (kl′ : KitLaws m marks′ ws′)

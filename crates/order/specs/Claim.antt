@@ -1,4 +1,4 @@
--- Demand 3, as one claim about a whole list of requests.
+-- Demand 3, as one claim about a whole list of requests; and, with document 02, slip 7, about a whole list of calls: grants, finishes and requests.
 use Prim.Native.Nat.{ℕ, _*_, _<_, _≤_}
 use mathlib.Core.Path.{_≡_}
 use mathlib.Core.Bool.{Bool, true, false}
@@ -8,7 +8,8 @@ use Rattle.clock.specs.declared.Cycle.{Cycle}
 use Rattle.model.specs.declared.Model.{Model}
 use Rattle.model.specs.declared.Thread.{Thread}
 use Rattle.model.specs.Refusal.{accepted}
-use Rattle.model.specs.Record.{threadAt}
+use Rattle.model.specs.Limits.{isUpToHorizon}
+use Rattle.model.specs.Record.{threadAt, cycleOf, isRunning}
 use Rattle.reader.specs.File.{readFile}
 use Rattle.tables.specs.Conflict.{marksOf}
 use Rattle.tables.specs.Word.{wordsOf}
@@ -18,7 +19,10 @@ use Rattle.plain.specs.Step.{placeAt}
 use Rattle.plain.specs.Run.{isDone}
 use Rattle.plain.specs.History.{historyAt}
 use Rattle.early.specs.declared.Answer.the-variants.{Granted}
+use Rattle.early.specs.declared.Call.{Call}
+use Rattle.early.specs.Answer.{numberOf}
 use Rattle.early.specs.Request.{Requested, requestOf, freshSite, Listed, requestsOf}
+use Rattle.early.specs.Call.{heldCount, Called, callOf, Served, callsOf}
 
 -- "The fresh state, thread records included, is the plain run's start": of records that are lent, "at least as many as the threads"
 pub record FreshBelow (m : Model) (ts : List Thread) : Type 0 where
@@ -62,3 +66,38 @@ OrderIndependence =
     (bytes : List ℕ) → readFile bytes .number ≡ accepted →
     let m = readFile bytes .model in
     (ws : List ℕ) → TableBelow m ws → (ts : List Thread) → FreshBelow m ts → (ks : List ℕ) → Claim m (marksOf m) ws ts ks
+
+-- A list of calls from the fresh state, with these marks, words and records; `held` is where values are held, and may hold anything at first
+abbrev pub afterCallsWith : Model → List (List Bool) → List ℕ → List Thread → List ℕ → List Call → Served
+afterCallsWith m marks ws ts held cs = callsOf m marks ws freshSite ts held cs
+
+-- with the tables that the reader made, on 32 records
+unfoldable pub afterCalls : Model → List ℕ → List Call → Served
+afterCalls m held cs = afterCallsWith m (marksOf m) (wordsOf m) (freshThreads m) held cs
+
+-- a call, made next
+abbrev pub callNext : Model → List (List Bool) → List ℕ → List Thread → List ℕ → List Call → Call → Called
+callNext m marks ws ts held cs c =
+    let a = afterCallsWith m marks ws ts held cs in
+    callOf m marks ws (a .listed .site) (a .listed .threads) (a .held) c
+
+-- `someReady` counts a running thread as ready, and none is running past the horizon (`soon`): so that it is false where there is "nothing running and
+-- nothing ready up to the horizon", and true "while a thread is running or ready up to it".
+pub record CallClaim (m : Model) (marks : List (List Bool)) (ws : List ℕ) (ts : List Thread) (held : List ℕ) (cs : List Call) : Type 0 where
+  -- what "ends with nothing running and nothing ready up to the horizon must match the plain run as in demand 3"
+  pub at-end : someReady m (afterCallsWith m marks ws ts held cs .listed .threads) ≡ false
+      → (i : ℕ) × (isDone m (placeAt m i) ≡ true) × AgreesAt m (afterCallsWith m marks ws ts held cs .listed) i
+  -- "while a thread is running or ready up to it, some next call is not refused"
+  pub goes-on : someReady m (afterCallsWith m marks ws ts held cs .listed .threads) ≡ true
+      → (c : Call) × (numberOf (callNext m marks ws ts held cs c .left .answer) ≡ accepted)
+  pub soon : (k : ℕ) → k < m .t → isRunning (threadAt (afterCallsWith m marks ws ts held cs .listed .threads) k .state) ≡ true
+      → isUpToHorizon m (cycleOf (threadAt (afterCallsWith m marks ws ts held cs .listed .threads) k .state)) ≡ true
+
+-- "Any mix of grants and finishes that starts from the fresh state", and combined requests among them, refused ones included: with the reader's tables,
+-- on any records of which the first T are fresh, and with a set of held values for each of them
+abbrev pub CallsIndependence : Type 0
+CallsIndependence =
+    (bytes : List ℕ) → readFile bytes .number ≡ accepted →
+    let m = readFile bytes .model in
+    (ws : List ℕ) → TableBelow m ws → (ts : List Thread) → FreshBelow m ts → (held : List ℕ) → heldCount * m .t ≤ length held → (cs : List Call)
+    → CallClaim m (marksOf m) ws ts held cs
