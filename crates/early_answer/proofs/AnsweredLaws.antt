@@ -1,9 +1,12 @@
--- A request as the code answers it, exit by exit: 15, the number, and the grant.
+-- A call as the code answers it, exit by exit: 15, the numbers, what a segment does, and what a call leaves.
 use Prim.Native.Nat.{ℕ, _<_, _≤_}
-use mathlib.Core.Path.{_≡_, refl, ap, ap₂, sym, _∙_}
-use mathlib.Core.Bool.{Bool, true, false, _&&_, _||_}
-use mathlib.Core.List.{List}
+use mathlib.Core.Path.{_≡_, refl, ap, ap₂, sym, _∙_, subst}
+use mathlib.Core.Bool.{Bool, true, false, cond, _&&_, _||_}
+use mathlib.Core.List.{List, [], _∷_}
 use native.Mathlib.Omega.{arith}
+use native.Mathlib.Decide.{decLt}
+use types.Run.{OneOf, miss}
+use denote.Enum.Declared.{tagOf}
 use lib.ListN.{getD, set, take}
 use lib.Seq.{take-append-seam}
 use borrow.Author.Tests.{lt-ltb, le-ltb, ne-eqb}
@@ -14,24 +17,29 @@ use Rattle.clock.specs.Cycle.{stampAt}
 use Rattle.clock.specs.Advance.{isBoundBefore}
 use Rattle.model.specs.declared.Segment.{Segment}
 use Rattle.model.specs.declared.Start.{Start}
-use Rattle.model.specs.declared.State.the-variants.{Ready}
+use Rattle.model.specs.declared.State.{State}
+use Rattle.model.specs.declared.State.the-variants.{Ended, Overrun, Ready, Waiting, Running}
 use Rattle.model.specs.declared.Thread.{Thread}
 use Rattle.model.specs.declared.Threads.{Threads}
 use Rattle.model.specs.declared.Events.{Events}
 use Rattle.model.specs.declared.Ran.{Ran}
 use Rattle.model.specs.Values.{bodyOf}
 use Rattle.model.specs.Statement.{notifiedBy}
-use Rattle.model.specs.Record.{noThread, threadAt, readyCycle, cycleOf}
-use Rattle.model.specs.Effect.{effectIn, heldEvents, heldEffect}
+use Rattle.model.specs.Record.{noThread, threadAt, readyCycle, cycleOf, isRunning}
+use Rattle.model.specs.Refusal.{outOfTurn}
+use Rattle.model.specs.Effect.{Effect, effectIn, heldEvents, heldEffect}
+use Rattle.model.proofs.State as state
 use Rattle.model_effect.proofs.FrameLaws.{effectIn-begins}
 use Rattle.plain.specs.Wake.{floorBelow}
 use Rattle.early.specs.declared.Notification.{Notification}
 use Rattle.early.specs.declared.Site.{Site}
 use Rattle.early.specs.declared.Answer.the-variants.{Granted}
 use Rattle.early.specs.declared.After.{After}
+use Rattle.early.specs.declared.Call.{Call}
 use Rattle.early.specs.Log.{logOf, siteOf, withPairs, placesWith, dropBefore}
 use Rattle.early.specs.Deliver.{settledBy}
 use Rattle.early.specs.Request.{isFullBy, numberReady, numberAt, numberFor, refusedWith, answeredBy}
+use Rattle.early.specs.Call.{heldAt, withHeld, runningFrom, finishNumber}
 use Rattle.early_ports.specs.Cross.{portsIn, segmentWith}
 use Rattle.early_laws.proofs.LogLaws.{logOf-siteOf, siteOf-variables}
 use Rattle.early_laws.proofs.OnceLaws.{placesWith-begins}
@@ -44,7 +52,7 @@ use Rattle.early_log.proofs.NotedLaws.{notedOf-fits}
 use Rattle.early_deliver.specs.declared.Outlook.{Outlook}
 use Rattle.early_deliver.specs.Awake.{aheadOf, soonerOn, outlookOf}
 use Rattle.early_answer.specs.After.{afterOf}
-use Rattle.early_answer.specs.Answered.{hazardOn, numberOn, effectFrom, grantOn, runOn, answeredOn}
+use Rattle.early_answer.specs.Answered.{threadOf, isGrant, isFinish, hazardOn, numberOn, callNumberOn, effectFrom, grantOn, storedIn, effectOn, runOn, emptiedBy, doneOn, calledOn, HasRoom}
 
 pub refused-made : (n : ℕ) (site : Site) (ts : Threads) → record { answer = refusedWith n site (ts .at) .answer; site = site; threads = ts } ≡ afterOf (refusedWith n site (ts .at))
 unfolding afterOf
@@ -98,9 +106,16 @@ module _ (isHazard : Cycle → Bool) (floor : Bound) (es : List ℕ) (l : List N
     number-thread h = rw (le-ltb k t h) refl
 
     module _ (h : k < t) where
-      pub number-unready : readyCycle (getD ts k noThread .state) ≡ Never → 12 ≡ numberFor t end isHazard floor es l ts k
+      pub number-unready : (s : State) → getD ts k noThread .state ≡ s → OneOf (0 ∷ 1 ∷ 3 ∷ 4 ∷ []) (tagOf state.the-type s) → cond (isRunning s) 19 12 ≡ numberFor t end isHazard floor es l ts k
       unfolding numberFor numberAt threadAt
-      number-unready e = rw (lt-ltb k t h, e) refl
+      number-unready s e o = rw (lt-ltb k t h, e) (go s o)
+        where
+          go : (s : State) → OneOf (0 ∷ 1 ∷ 3 ∷ 4 ∷ []) (tagOf state.the-type s) → cond (isRunning s) 19 12 ≡ cond (isRunning s) outOfTurn (numberAt end isHazard floor es l (readyCycle s))
+          go (Ended c) o = refl
+          go (Overrun c) o = refl
+          go (Ready c) o = absurd (miss (0 ∷ 1 ∷ 3 ∷ 4 ∷ []) 2 tt o)
+          go (Waiting e c) o = refl
+          go (Running c) o = refl
 
       module _ (c : Cycle) (ready : getD ts k noThread .state ≡ Ready c) where
         pub number-late : end ≤ c .time .0 → 13 ≡ numberFor t end isHazard floor es l ts k
@@ -110,6 +125,34 @@ module _ (isHazard : Cycle → Bool) (floor : Bound) (es : List ℕ) (l : List N
         pub number-ready : c .time .0 < end → numberReady isHazard floor es l c ≡ numberFor t end isHazard floor es l ts k
         unfolding numberFor numberAt threadAt
         number-ready p = rw (lt-ltb k t h, ready, lt-ltb (c .time .0) end p) refl
+
+-- the number of a finish
+module _ (t : ℕ) (ts : List Thread) (k : ℕ) where
+  pub finish-thread : t ≤ k → 10 ≡ finishNumber t ts k
+  unfolding finishNumber
+  finish-thread h = rw (le-ltb k t h) refl
+
+  module _ (h : k < t) where
+    pub finish-other : isRunning (getD ts k noThread .state) ≡ false → 19 ≡ finishNumber t ts k
+    unfolding finishNumber threadAt
+    finish-other e = rw (lt-ltb k t h, e) refl
+
+    pub finish-running : isRunning (getD ts k noThread .state) ≡ true → 0 ≡ finishNumber t ts k
+    unfolding finishNumber threadAt
+    finish-running e = rw (lt-ltb k t h, e) refl
+
+  -- what stands where it is 0
+  pub finishNumber→running : finishNumber t ts k ≡ 0 → (k < t) × (isRunning (threadAt ts k .state) ≡ true)
+  unfolding finishNumber
+  finishNumber→running e = go (decLt k t)
+    where
+      go : Dec (k < t) → (k < t) × (isRunning (threadAt ts k .state) ≡ true)
+      go (no h) = absurd (let z : _≡_ {A = ℕ} 10 0 = finish-thread (omega arith) ∙ e in omega arith)
+      go (yes h) = (h, runs (isRunning (threadAt ts k .state)) refl)
+        where
+          runs : (b : Bool) → isRunning (threadAt ts k .state) ≡ b → b ≡ true
+          runs true p = refl
+          runs false p = absurd (let z : _≡_ {A = ℕ} 19 0 = sym (rw (lt-ltb k t h, p) refl) ∙ e in omega arith)
 
 -- what the code holds of the records says where a hazard stands
 pub same-hazard : (n t : ℕ) (conflicts : ℕ → ℕ → ℕ → ℕ → Bool) (ws reach : List ℕ) (l : List Notification) (ts : List Thread) (k : ℕ) (c : Cycle) → t ≤ 32
@@ -158,46 +201,116 @@ heldEvents-taken es = take-append-seam es _
 pub own-segment : (starts : List Start) (k : ℕ) (g : Segment) (i : ℕ) (ps : List ℕ) (h : Segment) → i ≡ k → ps ≡ portsIn starts i → h ≡ segmentWith ps g → h ≡ segmentWith (portsIn starts k) g
 own-segment starts k g i ps h p q e = e ∙ ap (λ (xs : List ℕ). segmentWith xs g) (q ∙ ap (portsIn starts) p)
 
-module _ (reach : List ℕ) (t : ℕ) (g : Segment) (site : Site) (ts : List Thread) (k : ℕ) where
-  -- what the segment notifies takes no more places than what it lists
-  pub run-room : (i s : ℕ) (c : Cycle) (v : List ℕ) (ran : Ran) → i ≡ k → c ≡ cycleOf (getD ts i noThread .state) → ran ≡ heldEffect (effectIn g s c v)
-      → placesWith (logOf site) (cycleOf (threadAt ts k .state)) (notifiedBy (bodyOf g)) ≤ 128 → placesWith (logOf site) c (effectFrom ran .notified) ≤ 128
-  unfolding heldEffect threadAt
-  run-room i s c v ran p q e room =
-      let at : cycleOf (threadAt ts k .state) ≡ c = sym (q ∙ ap (λ (j : ℕ). cycleOf (threadAt ts j .state)) p) in
-      let es = effectIn g s c v .notified in
-      let (rest, whole) = effectIn-begins g s c v in
-      let more = placesWith-begins (logOf site) c es rest in
-      rw (e, heldEvents-taken es) (omega (arith, more, ap (placesWith (logOf site) c) whole, rw at at room))
+-- what a segment does: it reads what is held and stores what it writes at a finish, and both at once in a request
+module _ (finishes : Bool) (g : Segment) (s : ℕ) (c : Cycle) (v u read : List ℕ) (ran : Ran) (reads : read ≡ cond finishes u v) (e : ran ≡ heldEffect (effectIn g s c read)) where
+  pub ran-once : finishes ≡ false → effectFrom ran ≡ effectOn finishes g s c v u
+  unfolding effectOn
+  ran-once f = rw (e, reads, f) refl
 
-  pub run-made : (i : ℕ) (c : Cycle) (ran : Ran) (a : After) → i ≡ k → c ≡ cycleOf (getD ts i noThread .state) → ran ≡ heldEffect (effectIn g (getD ts i noThread .segment) c (site .variables .at))
-      → a ≡ afterOf (grantOn reach t site ts k c (effectFrom ran)) → a ≡ afterOf (runOn reach t g site ts k)
-  unfolding runOn threadAt
-  run-made i c ran a p q r s = s ∙ rw (r, q, p) refl
+  pub ran-stored : (w : List ℕ) → finishes ≡ true → w ≡ storedIn g v (ran .variables .at)
+      → effectFrom (record { variables = record { at = w }; notified = ran .notified; thread = ran .thread }) ≡ effectOn finishes g s c v u
+  unfolding effectOn
+  ran-stored w f p = rw (p, e, reads, f) refl
 
-  module _ (end n : ℕ) (conflicts : ℕ → ℕ → ℕ → ℕ → Bool) (ws : List ℕ) (number : ℕ) (es : Events) (h : Segment) (listed : es ≡ heldEvents (notifiedBy (bodyOf h)))
-      (mapped : notifiedBy (bodyOf g) ≡ notifiedBy (bodyOf h))
-      (decided : number ≡ numberOn end n t (take (es .n) (es .at)) conflicts ws reach (logOf site) ts k)
-    where
-      same-number : number ≡ numberOn end n t (notifiedBy (bodyOf g)) conflicts ws reach (logOf site) ts k
-      same-number =
-          decided ∙ ap (λ (xs : List ℕ). numberOn end n t xs conflicts ws reach (logOf site) ts k)
-          (ap (λ (x : Events). take (x .n) (x .at)) listed ∙ (heldEvents-taken (notifiedBy (bodyOf h)) ∙ sym mapped))
+-- it notifies no more than it lists
+effectOn-room : (finishes : Bool) (g : Segment) (s : ℕ) (c : Cycle) (v u : List ℕ) (site : Site)
+    → placesWith (logOf site) c (notifiedBy (bodyOf g)) ≤ 128 → placesWith (logOf site) c (effectOn finishes g s c v u .notified) ≤ 128
+unfolding effectOn heldEffect
+effectOn-room finishes g s c v u site room =
+    let read = cond finishes u v in
+    let es = effectIn g s c read .notified in
+    let (rest, whole) = effectIn-begins g s c read in
+    let more = placesWith-begins (logOf site) c es rest in
+    rw (heldEvents-taken es) (omega (arith, more, ap (placesWith (logOf site) c) whole, room))
 
-      pub answered-refused : (number ≡ 0 → ⊥) → afterOf (refusedWith number site ts) ≡ afterOf (answeredOn end n t g conflicts ws reach site ts k)
-      unfolding answeredOn answeredBy
-      answered-refused other = rw (← same-number, ne-eqb number 0 other) refl
+module _ (finishes : Bool) (reach : List ℕ) (t : ℕ) (g : Segment) (site : Site) (ts : List Thread) (held : List ℕ) (k : ℕ) (i : ℕ) (c : Cycle) (ran : Ran) (p : i ≡ k)
+    (q : c ≡ cycleOf (getD ts i noThread .state)) (r : effectFrom ran ≡ effectOn finishes g (getD ts i noThread .segment) c (site .variables .at) (heldAt held k))
+  where
+    -- what the segment notifies takes no more places than what it lists
+    pub run-room : placesWith (logOf site) (cycleOf (threadAt ts k .state)) (notifiedBy (bodyOf g)) ≤ 128 → placesWith (logOf site) c (effectFrom ran .notified) ≤ 128
+    unfolding threadAt
+    run-room room =
+        let at : cycleOf (threadAt ts k .state) ≡ c = sym (q ∙ ap (λ (j : ℕ). cycleOf (threadAt ts j .state)) p) in
+        subst (λ (x : Effect). placesWith (logOf site) c (x .notified) ≤ 128) (sym r) (effectOn-room finishes g (getD ts i noThread .segment) c (site .variables .at) (heldAt held k) site (rw at at room))
 
-      module _ (zero : number ≡ 0) where
-        pub answered-run : afterOf (runOn reach t g site ts k) ≡ afterOf (answeredOn end n t g conflicts ws reach site ts k)
-        unfolding answeredOn answeredBy
-        answered-run = rw (sym same-number ∙ zero) refl
+    pub run-made : (a : After) → a ≡ afterOf (grantOn reach t site ts k c (effectFrom ran)) → a ≡ afterOf (runOn finishes reach t g site ts held k)
+    unfolding runOn threadAt
+    run-made a s = s ∙ rw (r, q, p) refl
 
-        -- what stands where it is granted: the thread, and the places
-        pub answered-room : (k < t) × (placesWith (logOf site) (cycleOf (threadAt ts k .state)) (notifiedBy (bodyOf g)) ≤ 128)
-        unfolding numberOn
-        answered-room =
-            let xs = notifiedBy (bodyOf g) in
-            let (c, p) = numberFor→passed t end (hazardOn n t conflicts ws reach (logOf site) ts k) (floorBelow t ts) xs (logOf site) ts k (sym same-number ∙ zero) in
-            let at : cycleOf (threadAt ts k .state) ≡ c = readyCycle→cycle (threadAt ts k .state) c (p .ready) in
-            (p .thread, rw at (isFullBy-none (floorBelow t ts) (placesWith (logOf site) c xs) c (p .room)))
+-- a thread that is granted is running
+pub start-made : (site : Site) (ts : Threads) (k i : ℕ) (c : Cycle) → i ≡ k → c ≡ cycleOf (getD (ts .at) i noThread .state)
+    → record { answer = Granted (getD (ts .at) i noThread .segment) c; site = site; threads = record { at = set (ts .at) i (record { segment = getD (ts .at) i noThread .segment; state = Running c }) } }
+    ≡ afterOf (runningFrom site (ts .at) k)
+unfolding afterOf runningFrom threadAt
+start-made site ts k i c p q = rw (q, p) refl
+
+-- the number of a call
+module _ (end n t : ℕ) (es : List ℕ) (conflicts : ℕ → ℕ → ℕ → ℕ → Bool) (ws reach : List ℕ) (counted l : List Notification) (ts : List Thread) (call : Call) where
+  pub number-finish : isFinish call ≡ true → finishNumber t ts (threadOf call) ≡ callNumberOn end n t es conflicts ws reach counted l ts call
+  unfolding callNumberOn
+  number-finish e = rw e refl
+
+  pub number-decided : isFinish call ≡ false → numberOn end n t es conflicts ws reach counted l ts (threadOf call) ≡ callNumberOn end n t es conflicts ws reach counted l ts call
+  unfolding callNumberOn
+  number-decided e = rw e refl
+
+-- What a call leaves: g is the segment after mapping, h before it. Known says which distances it may go by.
+module _ (end n t : ℕ) (g h : Segment) (conflicts : ℕ → ℕ → ℕ → ℕ → Bool) (reach : List ℕ) (counted site : Site) (ts : List Thread) (held : List ℕ) (call : Call)
+    (number : ℕ) (es : Events) (listed : es ≡ heldEvents (notifiedBy (bodyOf h))) (mapped : notifiedBy (bodyOf g) ≡ notifiedBy (bodyOf h)) (Known : List ℕ → Type 0)
+    (decided : (ws : List ℕ) → Known ws → number ≡ callNumberOn end n t (take (es .n) (es .at)) conflicts ws reach (logOf counted) (logOf site) ts call)
+  where
+    -- what is held and returned is what the call leaves
+    abbrev pub Leaves : List ℕ → After → Type 0
+    Leaves after a =
+        ((ws : List ℕ) → Known ws → after ≡ calledOn end n t g conflicts ws reach counted site ts held call .held)
+        × ((ws : List ℕ) → Known ws → a ≡ afterOf (calledOn end n t g conflicts ws reach counted site ts held call .left))
+
+    same-number : (ws : List ℕ) → Known ws → number ≡ callNumberOn end n t (notifiedBy (bodyOf g)) conflicts ws reach (logOf counted) (logOf site) ts call
+    same-number ws known =
+        decided ws known ∙ ap (λ (xs : List ℕ). callNumberOn end n t xs conflicts ws reach (logOf counted) (logOf site) ts call)
+        (ap (λ (x : Events). take (x .n) (x .at)) listed ∙ (heldEvents-taken (notifiedBy (bodyOf h)) ∙ sym mapped))
+
+    pub called-refused : (number ≡ 0 → ⊥) → (a : After) → a ≡ afterOf (refusedWith number site ts) → Leaves held a
+    unfolding calledOn answeredBy
+    called-refused other a e =
+        (λ ws known. rw (← same-number ws known, ne-eqb number 0 other) refl, λ ws known. e ∙ rw (← same-number ws known, ne-eqb number 0 other) refl)
+
+    module _ (zero : number ≡ 0) where
+      called-done : (ws : List ℕ) → Known ws → calledOn end n t g conflicts ws reach counted site ts held call ≡ doneOn reach t g site ts held call
+      unfolding calledOn answeredBy
+      called-done ws known = rw (sym (same-number ws known) ∙ zero) refl
+
+      module _ (k : ℕ) (same : k ≡ threadOf call) (after : List ℕ) (a : After) where
+        pub called-begun : isGrant call ≡ true → after ≡ withHeld held k (site .variables .at) → a ≡ afterOf (runningFrom site ts k) → Leaves after a
+        unfolding doneOn
+        called-begun e p q = (λ ws known. p ∙ rw (called-done ws known, e, same) refl, λ ws known. q ∙ rw (called-done ws known, e, same) refl)
+
+        pub called-run : (finishes : Bool) → finishes ≡ isFinish call → isGrant call ≡ false
+            → after ≡ emptiedBy finishes held k → a ≡ afterOf (runOn finishes reach t g site ts held k) → Leaves after a
+        unfolding doneOn
+        called-run finishes f e p q = (λ ws known. p ∙ rw (called-done ws known, e, same, f) refl, λ ws known. q ∙ rw (called-done ws known, e, same, f) refl)
+
+      -- what stands where it is done: the thread, and the places
+      pub called-room : (ws : List ℕ) → Known ws → HasRoom t h counted site ts call
+          → (threadOf call < t) × (placesWith (logOf site) (cycleOf (threadAt ts (threadOf call) .state)) (notifiedBy (bodyOf g)) ≤ 128)
+      unfolding callNumberOn numberOn
+      called-room ws known room = rw mapped (go (isFinish call) refl)
+        where
+          k : ℕ
+          k = threadOf call
+
+          xs : List ℕ
+          xs = notifiedBy (bodyOf h)
+
+          passed : numberOn end n t (notifiedBy (bodyOf g)) conflicts ws reach (logOf counted) (logOf site) ts k ≡ 0 → (k < t) × (placesWith (logOf site) (cycleOf (threadAt ts k .state)) xs ≤ 128)
+          passed e =
+              let (c, p) = numberFor→passed t end (hazardOn n t conflicts ws reach (logOf site) ts k) (floorBelow t ts) (notifiedBy (bodyOf g)) (logOf counted) ts k e in
+              let at : cycleOf (threadAt ts k .state) ≡ c = readyCycle→cycle (threadAt ts k .state) c (p .ready) in
+              let few = isFullBy-none (floorBelow t ts) (placesWith (logOf counted) c (notifiedBy (bodyOf g))) c (p .room) in
+              (p .thread, rw at (omega (arith, room .counts c xs, ap (placesWith (logOf counted) c) mapped, few)))
+
+          go : (b : Bool) → isFinish call ≡ b → (k < t) × (placesWith (logOf site) (cycleOf (threadAt ts k .state)) xs ≤ 128)
+          go true e =
+              let (below, runs) = finishNumber→running t ts k (number-finish end n t (notifiedBy (bodyOf g)) conflicts ws reach (logOf counted) (logOf site) ts call e ∙ (sym (same-number ws known) ∙ zero)) in
+              (below, room .running e below runs)
+          go false e = passed (number-decided end n t (notifiedBy (bodyOf g)) conflicts ws reach (logOf counted) (logOf site) ts call e ∙ (sym (same-number ws known) ∙ zero))

@@ -1,2 +1,4 @@
 pub mod AnsweredLaws
+pub mod HeldLaws
 pub mod ShownLaws
+pub mod VariantLaws

@@ -1,4 +1,5 @@
-// Document 01, "Early issue": a request on a fit state, by the counts of its model and what was made of it once.
+// Document 01, "Early issue": a request on a fit state, by the counts of its model and what was made of it once. Document 02, slip 7: "Split
+// the request into two that answer as it does".
 use clock::Bound;
 use clock::Cycle;
 use clock::Stamp;
@@ -6,27 +7,31 @@ use clock::ThreadNo;
 use clock::Time;
 use early::After;
 use early::Answer;
+use early::Call;
 use early::Site;
 use model::Events;
 use model::Ran;
 use model::Segment;
 use model::Start;
 use model::State;
+use model::Thread;
 use model::Threads;
-ghost use Prim.Native.Nat.{ℕ, _+_, _<_, _≤_};
+use model::Variables;
+ghost use Prim.Native.Nat.{ℕ, _+_, _*_, _<_, _≤_};
 ghost use mathlib.Core.Path.{_≡_};
-ghost use mathlib.Core.Bool.{cond};
+ghost use mathlib.Core.Bool.{true, cond};
 ghost use lib.Dec.{ltb};
 ghost use mathlib.Core.List.{List};
 ghost use lib.ListN.{length, take};
 ghost use Rattle.model.specs.Values.{bodyOf};
 ghost use Rattle.model.specs.Statement.{notifiedBy};
-ghost use Rattle.model.specs.Record.{threadAt, cycleOf};
+ghost use Rattle.model.specs.Record.{threadAt, cycleOf, isRunning};
 ghost use Rattle.plain.specs.Wake.{floorBelow};
 ghost use Rattle.early.specs.Log.{logOf, placesWith};
 ghost use Rattle.early.specs.Request.{isFullBy, numberReady, refusedWith};
+ghost use Rattle.early.specs.Call.{heldAt, withHeld, runningFrom, finishNumber};
 ghost use Rattle.early_ports.specs.Cross.{portsIn, segmentWith, conflictsOn};
-ghost use Rattle.early_answer.specs.Answered.{hazardOn, numberOn, effectFrom, grantOn, runOn, answeredOn};
+ghost use Rattle.early_answer.specs.Answered.{threadOf, isGrant, isFinish, hazardOn, numberOn, callNumberOn, effectFrom, grantOn, storedIn, effectOn, runOn, emptiedBy, calledOn, EnoughHeld, HasRoom};
 ghost use Rattle.early_answer.specs.After.{afterOf};
 ghost use Rattle.early_answer.specs.Shown.{Shows};
 
@@ -55,7 +60,7 @@ fn is_full(t: u8, listed: Events, site: Site, threads: Threads, c: Cycle) -> boo
     clock::is_bound_before(early_deliver::floor_of(threads, t), Bound::At(c))
 }
 
-// 14, 15 or 0, of a ready thread up to the horizon.
+// 14, 15 or 0, of a ready thread up to the horizon. 15 counts in the log with what is counted.
 fn decide_ready(
     n: u8,
     t: u8,
@@ -67,13 +72,14 @@ fn decide_ready(
     row: &mut [u64],
     stepwise: bool,
     reach: &[u64],
+    counted: Site,
     site: Site,
     threads: Threads,
     at: Stamp,
 ) -> u8
     requires { ⌜ t ≤ 32 ⌝ }
     ensures kept { λ _. ⌜ length (now (row .exit)) ≡ length (now (row .entry)) ⌝ }
-    ensures number { λ r. ⌜ ((ws : List ℕ) → Shows n t ws stepwise (now (words .entry)) (length (now (row .entry))) (threads .at) → r ≡ numberReady (hazardOn n t (conflictsOn marks (now (names .entry)) starts) ws (now (reach .entry)) (logOf site) (threads .at) (at .thread .0)) (floorBelow t (threads .at)) (take (listed .n) (listed .at)) (logOf site) (at .cycle)) ⌝ }
+    ensures number { λ r. ⌜ ((ws : List ℕ) → Shows n t ws stepwise (now (words .entry)) (length (now (row .entry))) (threads .at) → r ≡ numberReady (hazardOn n t (conflictsOn marks (now (names .entry)) starts) ws (now (reach .entry)) (logOf site) (threads .at) (at .thread .0)) (floorBelow t (threads .at)) (take (listed .n) (listed .at)) (logOf counted) (at .cycle)) ⌝ }
 {
     let o = early_deliver::outlook_of(reach, site, threads, t);
     let segments = o.segments;
@@ -94,13 +100,24 @@ fn decide_ready(
         return 14;
     }
     let c = at.cycle;
-    if is_full(t, listed, site, threads, c) {
+    if is_full(t, listed, counted, threads, c) {
         return 15;
     }
     0
 }
 
-// The number on a fit state, 0 for a grant: by the counts of the model, its horizon and the events that the segment lists.
+// The number of a thread that is not ready: 19 for one "already running", 12 for any other.
+fn unready_number(s: State) -> u8
+    ensures { λ r. ⌜ r ≡ cond (isRunning s) 19 12 ⌝ }
+{
+    match s {
+        State::Ended(_) | State::Overrun(_) | State::Ready(_) | State::Waiting(_, _) => 12,
+        State::Running(_) => 19,
+    }
+}
+
+// The number of a request or a grant on a fit state, 0 where it is granted: by the counts of the model, its horizon and the events that the
+// segment lists.
 fn decide(
     horizon: Time,
     n: u8,
@@ -113,13 +130,14 @@ fn decide(
     row: &mut [u64],
     stepwise: bool,
     reach: &[u64],
+    counted: Site,
     site: Site,
     threads: Threads,
     k: ThreadNo,
 ) -> u8
     requires { ⌜ t ≤ 32 ⌝ }
     ensures kept { λ _. ⌜ length (now (row .exit)) ≡ length (now (row .entry)) ⌝ }
-    ensures number { λ r. ⌜ ((ws : List ℕ) → Shows n t ws stepwise (now (words .entry)) (length (now (row .entry))) (threads .at) → r ≡ numberOn (horizon .0 + 1) n t (take (listed .n) (listed .at)) (conflictsOn marks (now (names .entry)) starts) ws (now (reach .entry)) (logOf site) (threads .at) (k .0)) ⌝ }
+    ensures number { λ r. ⌜ ((ws : List ℕ) → Shows n t ws stepwise (now (words .entry)) (length (now (row .entry))) (threads .at) → r ≡ numberOn (horizon .0 + 1) n t (take (listed .n) (listed .at)) (conflictsOn marks (now (names .entry)) starts) ws (now (reach .entry)) (logOf counted) (logOf site) (threads .at) (k .0)) ⌝ }
 {
     if t <= k.0 {
         return 10;
@@ -128,7 +146,7 @@ fn decide(
     let x = threads.at[i];
     let s = x.state;
     let State::Ready(c) = s else {
-        return 12;
+        return unready_number(s);
     };
     if horizon.0 < c.time.0 {
         return 13;
@@ -148,9 +166,103 @@ fn decide(
         row,
         stepwise,
         reach,
+        counted,
         site,
         threads,
         at,
+    )
+}
+
+// Document 02, slip 7: 19 when "one not running is finished, checked after 10; no later number refuses a finish".
+fn finish_number(t: u8, threads: Threads, k: u8) -> u8
+    requires { ⌜ t ≤ 32 ⌝ }
+    ensures { λ r. ⌜ r ≡ finishNumber t (threads .at) k ⌝ }
+{
+    if t <= k {
+        return 10;
+    }
+    let i = buffers::wide(k);
+    let x = threads.at[i];
+    let s = x.state;
+    let State::Running(_) = s else {
+        return 19;
+    };
+    0
+}
+
+// Which thread a call is of, and which call it is.
+pub fn thread_of(call: Call) -> u8
+    ensures { λ r. ⌜ r ≡ threadOf call ⌝ }
+{
+    match call {
+        Call::Both(k) => k,
+        Call::Grant(k) => k,
+        Call::Finish(k) => k,
+    }
+}
+
+fn is_grant(call: Call) -> bool
+    ensures { λ r. ⌜ r ≡ isGrant call ⌝ }
+{
+    match call {
+        Call::Both(_) => false,
+        Call::Grant(_) => true,
+        Call::Finish(_) => false,
+    }
+}
+
+fn is_finish(call: Call) -> bool
+    ensures { λ r. ⌜ r ≡ isFinish call ⌝ }
+{
+    match call {
+        Call::Both(_) => false,
+        Call::Grant(_) => false,
+        Call::Finish(_) => true,
+    }
+}
+
+// The number of a call on a fit state.
+fn decide_call(
+    horizon: Time,
+    n: u8,
+    t: u8,
+    listed: Events,
+    starts: [Start; 32],
+    marks: [[bool; 64]; 64],
+    names: &[u64],
+    words: &[u64],
+    row: &mut [u64],
+    stepwise: bool,
+    reach: &[u64],
+    counted: Site,
+    site: Site,
+    threads: Threads,
+    call: Call,
+) -> u8
+    requires { ⌜ t ≤ 32 ⌝ }
+    ensures kept { λ _. ⌜ length (now (row .exit)) ≡ length (now (row .entry)) ⌝ }
+    ensures number { λ r. ⌜ ((ws : List ℕ) → Shows n t ws stepwise (now (words .entry)) (length (now (row .entry))) (threads .at) → r ≡ callNumberOn (horizon .0 + 1) n t (take (listed .n) (listed .at)) (conflictsOn marks (now (names .entry)) starts) ws (now (reach .entry)) (logOf counted) (logOf site) (threads .at) call) ⌝ }
+{
+    let k = thread_of(call);
+    if is_finish(call) {
+        return finish_number(t, threads, k);
+    }
+    decide(
+        horizon,
+        n,
+        t,
+        listed,
+        starts,
+        marks,
+        names,
+        words,
+        row,
+        stepwise,
+        reach,
+        counted,
+        site,
+        threads,
+        ThreadNo(k),
     )
 }
 
@@ -191,12 +303,113 @@ fn finish(reach: &[u64], t: u8, ran: Ran, site: Site, threads: Threads, at: Stam
     }
 }
 
+// Values in the set of thread k: "a grant fixes the values that the segment reads, kept with the state".
+fn hold(held: &mut [u32], k: u8, v: Variables)
+    requires { ⌜ 64 * k + 64 ≤ length (now held) ⌝ }
+    ensures { λ _. ⌜ now (held .exit) ≡ withHeld (now (held .entry)) k (v .at) ⌝ }
+{
+    let from = 64 * buffers::wide(k);
+    let mut i = 0;
+    while i < 64 {
+        held[from + i] = v.at[i];
+        i += 1;
+    }
+}
+
+// The values that are held for thread k.
+fn held_for(held: &[u32], k: u8) -> Variables
+    requires { ⌜ 64 * k + 64 ≤ length (now held) ⌝ }
+    ensures { λ r. ⌜ r .at ≡ heldAt (now (held .entry)) k ⌝ }
+{
+    let from = 64 * buffers::wide(k);
+    let mut at = [0u32; 64];
+    let mut i = 0;
+    while i < 64 {
+        at[i] = held[from + i];
+        i += 1;
+    }
+    Variables { at }
+}
+
+fn chosen(b: bool, x: u32, y: u32) -> u32
+    ensures { λ r. ⌜ r ≡ cond b x y ⌝ }
+{
+    if b { x } else { y }
+}
+
+// Document 02, slip 7: "stores the variables it writes": those of w that the segment writes, over v.
+fn store_written(g: Segment, v: Variables, w: Variables) -> Variables
+    ensures { λ r. ⌜ r .at ≡ storedIn g (v .at) (w .at) ⌝ }
+{
+    let written = early_ports::names_of(g, 0, true);
+    let mut out = v;
+    let mut i = 0;
+    while i < 64 {
+        out.at[i] = chosen(masks::has(written, i), w.at[i], v.at[i]);
+        i += 1;
+    }
+    out
+}
+
+// The values that a call's segment reads: those held at a finish, else the variables.
+fn values_for(finishes: bool, v: Variables, held: &[u32], k: u8) -> Variables
+    requires { ⌜ (finishes ≡ true → 64 * k + 64 ≤ length (now held)) ⌝ }
+    ensures { λ r. ⌜ r .at ≡ cond finishes (heldAt (now (held .entry)) k) (v .at) ⌝ }
+{
+    if finishes {
+        return held_for(held, k);
+    }
+    v
+}
+
+// What a segment does at its end or at once.
+fn ran_by(finishes: bool, g: Segment, s: u8, c: Cycle, v: Variables, held: &[u32], k: u8) -> Ran
+    requires { ⌜ (finishes ≡ true → 64 * k + 64 ≤ length (now held)) ⌝ }
+    ensures effect { λ r. ⌜ effectFrom r ≡ effectOn finishes g s c (v .at) (heldAt (now (held .entry)) k) ⌝ }
+{
+    let read = values_for(finishes, v, held, k);
+    let ran = model_effect::effect_in(g, s, c, read);
+    if finishes {
+        let made = ran.variables;
+        let notified = ran.notified;
+        let thread = ran.thread;
+        let variables = store_written(g, v, made);
+        return Ran {
+            variables,
+            notified,
+            thread,
+        };
+    }
+    ran
+}
+
+// The set of thread k is emptied by its finish.
+fn empty(finishes: bool, held: &mut [u32], k: u8)
+    requires { ⌜ (finishes ≡ true → 64 * k + 64 ≤ length (now held)) ⌝ }
+    ensures { λ _. ⌜ now (held .exit) ≡ emptiedBy finishes (now (held .entry)) k ⌝ }
+{
+    if finishes {
+        hold(held, k, Variables { at: [0u32; 64] });
+    }
+}
+
 // Document 01: "the segment runs whole", at the cycle of its thread's record.
-fn run_grant(reach: &[u64], t: u8, g: Segment, site: Site, threads: Threads, k: ThreadNo) -> After
+fn run_call(
+    finishes: bool,
+    reach: &[u64],
+    t: u8,
+    g: Segment,
+    site: Site,
+    threads: Threads,
+    held: &mut [u32],
+    k: ThreadNo,
+) -> After
     requires { ⌜ t ≤ 32 ⌝ }
     requires { ⌜ k .0 < t ⌝ }
+    requires { ⌜ (finishes ≡ true → 64 * k .0 + 64 ≤ length (now held)) ⌝ }
     requires { ⌜ placesWith (logOf site) (cycleOf (threadAt (threads .at) (k .0) .state)) (notifiedBy (bodyOf g)) ≤ 128 ⌝ }
-    ensures { λ r. ⌜ r ≡ afterOf (runOn (now (reach .entry)) t g site (threads .at) (k .0)) ⌝ }
+    ensures held { λ _. ⌜ now (held .exit) ≡ emptiedBy finishes (now (held .entry)) (k .0) ⌝ }
+    ensures left { λ r. ⌜ r ≡ afterOf (runOn finishes (now (reach .entry)) t g site (threads .at) (now (held .entry)) (k .0)) ⌝ }
 {
     let i = buffers::wide(k.0);
     let x = threads.at[i];
@@ -204,7 +417,8 @@ fn run_grant(reach: &[u64], t: u8, g: Segment, site: Site, threads: Threads, k: 
     let state = x.state;
     let c = model_effect::cycle_of(state);
     let v = site.variables;
-    let ran = model_effect::effect_in(g, s, c, v);
+    let ran = ran_by(finishes, g, s, c, v, held, k.0);
+    empty(finishes, held, k.0);
     let at = Stamp {
         cycle: c,
         thread: k,
@@ -212,9 +426,35 @@ fn run_grant(reach: &[u64], t: u8, g: Segment, site: Site, threads: Threads, k: 
     finish(reach, t, ran, site, threads, at)
 }
 
-// A request on a fit state, by the counts of its model, its horizon, the segment that the thread is in and the threads' ports: decided,
-// then run, after mapping. Distances are read in the words, or worked out from steps in the row.
-pub fn answered(
+// Document 02, slip 7: "Until its finish a thread is running": the variables are held, and its record is running at its cycle.
+fn start(site: Site, threads: Threads, held: &mut [u32], k: u8) -> After
+    requires { ⌜ (k < 32) × (64 * k + 64 ≤ length (now held)) ⌝ }
+    ensures held { λ _. ⌜ now (held .exit) ≡ withHeld (now (held .entry)) k (site .variables .at) ⌝ }
+    ensures left { λ r. ⌜ r ≡ afterOf (runningFrom site (threads .at) k) ⌝ }
+{
+    let i = buffers::wide(k);
+    let x = threads.at[i];
+    let segment = x.segment;
+    let state = x.state;
+    let c = model_effect::cycle_of(state);
+    let v = site.variables;
+    hold(held, k, v);
+    let mut begun = threads;
+    begun.at[i] = Thread {
+        segment,
+        state: State::Running(c),
+    };
+    After {
+        answer: Answer::Granted(segment, c),
+        site,
+        threads: begun,
+    }
+}
+
+// A call on a fit state, by the counts of its model, its horizon, the segment that the thread is in and the threads' ports: decided, then
+// begun or run, after mapping. Distances are read in the words, or worked out from steps in the row; `counted` has the log with what is
+// counted.
+pub fn called(
     horizon: Time,
     n: u8,
     t: u8,
@@ -226,16 +466,19 @@ pub fn answered(
     row: &mut [u64],
     stepwise: bool,
     reach: &[u64],
+    counted: Site,
     site: Site,
     threads: Threads,
-    k: ThreadNo,
+    held: &mut [u32],
+    call: Call,
 ) -> After
-    requires { ⌜ (t ≤ 32) × ((ws : List ℕ) × Shows n t ws stepwise (now words) (length (now row)) (threads .at)) ⌝ }
+    requires { ⌜ (t ≤ 32) × ((ws : List ℕ) × Shows n t ws stepwise (now words) (length (now row)) (threads .at)) × EnoughHeld t (now held) call × HasRoom t g counted site (threads .at) call ⌝ }
     ensures kept { λ _. ⌜ length (now (row .exit)) ≡ length (now (row .entry)) ⌝ }
-    ensures left { λ r. ⌜ ((ws : List ℕ) → Shows n t ws stepwise (now (words .entry)) (length (now (row .entry))) (threads .at) → r ≡ afterOf (answeredOn (horizon .0 + 1) n t (segmentWith (portsIn starts (k .0)) g) (conflictsOn marks (now (names .entry)) starts) ws (now (reach .entry)) site (threads .at) (k .0))) ⌝ }
+    ensures held { λ _. ⌜ ((ws : List ℕ) → Shows n t ws stepwise (now (words .entry)) (length (now (row .entry))) (threads .at) → now (held .exit) ≡ calledOn (horizon .0 + 1) n t (segmentWith (portsIn starts (threadOf call)) g) (conflictsOn marks (now (names .entry)) starts) ws (now (reach .entry)) counted site (threads .at) (now (held .entry)) call .held) ⌝ }
+    ensures left { λ r. ⌜ ((ws : List ℕ) → Shows n t ws stepwise (now (words .entry)) (length (now (row .entry))) (threads .at) → r ≡ afterOf (calledOn (horizon .0 + 1) n t (segmentWith (portsIn starts (threadOf call)) g) (conflictsOn marks (now (names .entry)) starts) ws (now (reach .entry)) counted site (threads .at) (now (held .entry)) call .left)) ⌝ }
 {
     let listed = model_effect::listed(g);
-    let number = decide(
+    let number = decide_call(
         horizon,
         n,
         t,
@@ -247,16 +490,30 @@ pub fn answered(
         row,
         stepwise,
         reach,
+        counted,
         site,
         threads,
-        k,
+        call,
     );
     if number != 0 {
         return refused(number, site, threads);
     }
-    let ports = early_ports::ports_of(starts, buffers::wide(k.0));
+    let k = thread_of(call);
+    if is_grant(call) {
+        return start(site, threads, held, k);
+    }
+    let ports = early_ports::ports_of(starts, buffers::wide(k));
     let own = early_ports::segment_for(ports, g);
-    run_grant(reach, t, own, site, threads, k)
+    run_call(
+        is_finish(call),
+        reach,
+        t,
+        own,
+        site,
+        threads,
+        held,
+        ThreadNo(k),
+    )
 }
 
 // The segment that thread k is in, 0 where there is no such thread.

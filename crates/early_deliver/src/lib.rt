@@ -107,7 +107,7 @@ fn bound_limit(b: Bound) -> u64
     }
 }
 
-// Document 01: chains "begin at a ready thread or a logged notification".
+// Document 01: chains "begin at a ready thread or a logged notification"; a running thread counts at its cycle as a ready one.
 fn first_limit(site: Site, s: State) -> u64
     ensures { λ r. ⌜ r ≡ firstLimit (logOf site) s ⌝ }
 {
@@ -116,6 +116,7 @@ fn first_limit(site: Site, s: State) -> u64
         State::Overrun(_) => NEVER,
         State::Ready(c) => early_ahead::limit_of(c),
         State::Waiting(e, since) => one_later(bound_limit(early_log::least_heard(site, e, since))),
+        State::Running(c) => early_ahead::limit_of(c),
     }
 }
 
@@ -244,7 +245,7 @@ fn settle_below(reach: &[u64], site: Site, threads: Threads, t: u8) -> Threads
     o.threads
 }
 
-// Document 01: "The floor (least cycle of a ready thread)".
+// Document 01: "The floor (least cycle of a ready thread)", a running one among them.
 pub fn floor_of(threads: Threads, t: u8) -> Bound
     ensures { λ r. ⌜ r ≡ floorBelow (atMost 32 t) (threads .at) ⌝ }
 {

@@ -2,7 +2,7 @@
 use Prim.Native.Nat.{ℕ, _<_, _≤_, _*_, _/_}
 use mathlib.Core.Path.{_≡_, refl, ap, sym, _∙_}
 use mathlib.Core.Logic.{inl, inr}
-use mathlib.Core.Bool.{Bool, true, false, not, _&&_, _||_, and-true, and-false, or-true}
+use mathlib.Core.Bool.{Bool, true, false, not, _&&_, _||_, and-true, and-false, or-true, or-assoc}
 use mathlib.Core.List.{List}
 use native.Mathlib.Nat.{mul-le-mul, le-of-lt}
 use native.Mathlib.Omega.{arith}
@@ -10,24 +10,26 @@ use lib.Dec.{T, ltb, leb}
 use lib.ListN.{length, getD}
 use borrow.Author.Tests.{lt-ltb, le-ltb, eq-eqb, ne-eqb}
 use Rattle.base.specs.Index.{anyBelow}
+use Rattle.base.proofs.BoolLaws.{T→false, false→T, not-or→both}
 use Rattle.base.proofs.IndexLaws.{anyBelow-here}
 use Rattle.clock.specs.declared.Cycle.{Cycle}
 use Rattle.clock.specs.Wait.{lastDelta}
 use Rattle.model.specs.declared.Model.{Model}
 use Rattle.model.specs.declared.State.{State}
-use Rattle.model.specs.declared.State.the-variants.{Waiting}
+use Rattle.model.specs.declared.State.the-variants.{Waiting, Running}
 use Rattle.model.specs.declared.Thread.{Thread}
-use Rattle.model.specs.Limits.{cutTime, recordTime}
-use Rattle.model.specs.Record.{noThread, threadAt, cycleOf, nothing, awaitedBy}
+use Rattle.model.specs.Limits.{cutTime, recordTime, endTime, isUpToHorizon}
+use Rattle.model.specs.Record.{noThread, threadAt, cycleOf, isRunning, nothing, awaitedBy}
 use Rattle.model.specs.Reach.{lacksFrom}
 use Rattle.model.specs.Rules.{modelFault}
 use Rattle.plain_laws.proofs.RecordLaws.{threadAt-at}
 use Rattle.tables.specs.Word.{allOnes}
 use Rattle.early.specs.declared.Notification.{Notification}
 use Rattle.early.specs.declared.Site.{Site}
-use Rattle.early.specs.Log.{places}
-use Rattle.early.specs.Fit.{isFitCycle, isFitWait, isFitThread, isFitPair, isFitWord, isUnfitThreads, isUnfitLog, isUnfitWords, isUnfitState, isUnfit}
-use Rattle.early_laws.proofs.FitLaws.{placeOf, →isFitWord}
+use Rattle.early.specs.Log.{places, logOf, countedLog}
+use Rattle.early.specs.Fit.{isFitCycle, isFitWait, isFitRun, isFitThread, isFitPair, isFitWord, isUnfitThreads, isUnfitLog, isUnfitPlaces, isUnfitWords, isUnfitState, isUnfit}
+use Rattle.early_laws.proofs.FitLaws.{placeOf, isFitThread→, isUnfitThreads→, →isUnfitPlaces, →isFitWord}
+use Rattle.early_log.proofs.RunningLaws.{counted-none}
 
 module _ (limit : ℕ) (c : Cycle) where
   pub isFitCycle-below : c .time .0 < limit → leb (c .delta .0) lastDelta ≡ isFitCycle limit c
@@ -40,30 +42,37 @@ module _ (limit : ℕ) (c : Cycle) where
 
 -- what is asked of a state
 abbrev pub isFitState : Model → State → Bool
-isFitState m s = isFitCycle recordTime (cycleOf s) && isFitWait m (awaitedBy s)
+isFitState m s = isFitCycle recordTime (cycleOf s) && (isFitWait m (awaitedBy s) && isFitRun m s)
 
 module _ (m : Model) (s : State) (c : Cycle) where
-  pub isFitState-still : (r : Bool) → awaitedBy s ≡ nothing → cycleOf s ≡ c → r ≡ isFitCycle recordTime c → r ≡ isFitState m s
-  unfolding isFitWait
-  isFitState-still r p q e = rw (p, q) (e ∙ sym (and-true (isFitCycle recordTime c)))
+  pub isFitState-still : (r : Bool) → awaitedBy s ≡ nothing → isRunning s ≡ false → cycleOf s ≡ c → r ≡ isFitCycle recordTime c → r ≡ isFitState m s
+  unfolding isFitWait isFitRun
+  isFitState-still r p n q e = rw (p, n, q) (e ∙ sym (and-true (isFitCycle recordTime c)))
 
   pub isFitState-waiting : (w e : ℕ) → s ≡ Waiting w c → m .e ≡ e → isFitCycle recordTime c ≡ true → ltb w e ≡ isFitState m s
-  unfolding isFitWait
-  isFitState-waiting w e p q h = rw (p, h, q) refl
+  unfolding isFitWait isFitRun
+  isFitState-waiting w e p q h = rw (p, h, q) (sym (and-true (ltb w e)))
 
   pub isFitState-late : cycleOf s ≡ c → isFitCycle recordTime c ≡ false → false ≡ isFitState m s
   isFitState-late q h = rw (q, h) refl
 
+  -- one that is running, up to the horizon or after it
+  pub isFitState-running : (r : Bool) → s ≡ Running c → c .time .0 ≤ m .horizon .0 → r ≡ isFitCycle recordTime c → r ≡ isFitState m s
+  unfolding isFitWait isFitRun isUpToHorizon
+  isFitState-running r p h e = rw (p, lt-ltb (c .time .0) (endTime m) (omega arith)) (e ∙ sym (and-true (isFitCycle recordTime c)))
+
+  pub isFitState-after : s ≡ Running c → m .horizon .0 < c .time .0 → false ≡ isFitState m s
+  unfolding isFitWait isFitRun isUpToHorizon
+  isFitState-after p h = rw (p, le-ltb (c .time .0) (endTime m) (omega arith)) (sym (and-false (isFitCycle recordTime c)))
+
 module _ (m : Model) (k : ℕ) (t : Thread) where
   pub isFitThread-below : (r : Bool) → t .segment < m .n → lacksFrom m k (t .segment) ≡ false → r ≡ isFitState m (t .state) → r ≡ isFitThread m k t
   unfolding isFitThread
-  isFitThread-below r h none e =
-      rw (lt-ltb (t .segment) (m .n) h, none) (e ∙ ap (λ (b : Bool). isFitCycle recordTime (cycleOf (t .state)) && b) (sym (and-true (isFitWait m (awaitedBy (t .state))))))
+  isFitThread-below r h none e = rw (lt-ltb (t .segment) (m .n) h, none) (e ∙ sym (and-true (isFitState m (t .state))))
 
   pub isFitThread-lacks : lacksFrom m k (t .segment) ≡ true → false ≡ isFitThread m k t
   unfolding isFitThread
-  isFitThread-lacks some =
-      rw (some, and-false (isFitWait m (awaitedBy (t .state))), and-false (isFitCycle recordTime (cycleOf (t .state)))) (sym (and-false (ltb (t .segment) (m .n))))
+  isFitThread-lacks some = rw (some, and-false (isFitState m (t .state))) (sym (and-false (ltb (t .segment) (m .n))))
 
   pub isFitThread-above : m .n ≤ t .segment → false ≡ isFitThread m k t
   unfolding isFitThread
@@ -129,9 +138,23 @@ module _ (m : Model) (site : Site) (ts : List Thread) where
   unfolding isUnfitState
   isUnfitState-model broken = rw (ne-eqb (modelFault m) 0 broken) refl
 
-  pub isUnfitState-kept : (r : Bool) → modelFault m ≡ 0 → r ≡ (isUnfitThreads m ts || isUnfitLog m site) → r ≡ isUnfitState m site ts
+  pub isUnfitState-parts : modelFault m ≡ 0 → (isUnfitThreads m ts || isUnfitLog m site) ≡ true → true ≡ isUnfitState m site ts
   unfolding isUnfitState
-  isUnfitState-kept r kept e = rw (eq-eqb (modelFault m) 0 kept) e
+  isUnfitState-parts kept e = rw (eq-eqb (modelFault m) 0 kept, ← or-assoc (isUnfitThreads m ts) (isUnfitLog m site) (isUnfitPlaces m site ts), e) refl
+
+  pub isUnfitState-places : (r : Bool) → modelFault m ≡ 0 → (isUnfitThreads m ts || isUnfitLog m site) ≡ false → r ≡ isUnfitPlaces m site ts → r ≡ isUnfitState m site ts
+  unfolding isUnfitState
+  isUnfitState-places r kept e f = rw (eq-eqb (modelFault m) 0 kept, ← or-assoc (isUnfitThreads m ts) (isUnfitLog m site) (isUnfitPlaces m site ts), e) f
+
+  -- every thread is in one of the segments
+  pub parts-segments : (isUnfitThreads m ts || isUnfitLog m site) ≡ false → (k : ℕ) → k < m .t → threadAt ts k .segment < m .n
+  parts-segments e k h =
+      let (p, q) = not-or→both (isUnfitThreads m ts) (isUnfitLog m site) (false→T (isUnfitThreads m ts || isUnfitLog m site) e) in
+      isFitThread→ m k (threadAt ts k) (isUnfitThreads→ m ts (T→false (isUnfitThreads m ts) p) .1 k h) .segment
+
+  -- the log alone has its places
+  pub isUnfitPlaces-none : length (logOf site) ≤ places → anyBelow (m .t) (λ k. isRunning (threadAt ts k .state)) ≡ false → false ≡ isUnfitPlaces m site ts
+  isUnfitPlaces-none few idle = sym (→isUnfitPlaces m site ts (rw (← counted-none m ts site idle) few))
 
   pub isUnfit-state : (ws : List ℕ) → true ≡ isUnfitState m site ts → true ≡ isUnfit m ws site ts
   unfolding isUnfit

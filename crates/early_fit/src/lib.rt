@@ -1,5 +1,6 @@
 // Document 01, "Numbers of refusal": 11 in a request.
 use clock::Cycle;
+use clock::Time;
 use early::Notification;
 use early::Site;
 use model::CUT_TIME;
@@ -16,10 +17,11 @@ ghost use lib.ListN.{length};
 ghost use Rattle.masks.specs.Mask.{bitAt};
 ghost use Rattle.model.specs.declared.Model.{Model};
 ghost use Rattle.model.specs.Limits.{recordTime};
-ghost use Rattle.model.specs.Record.{cycleOf, awaitedBy};
+ghost use Rattle.model.specs.Record.{threadAt, cycleOf, awaitedBy};
 ghost use Rattle.model.specs.Reach.{lacksFrom};
 ghost use Rattle.model_reach.specs.Lacks.{HoldsLacks};
-ghost use Rattle.early.specs.Fit.{isFitCycle, isFitWait, isFitThread, isFitPair, isUnfitThreads, isUnfitLog, isUnfitWords, isUnfitState, isUnfit};
+ghost use Rattle.early.specs.Call.{isUnfitHeld};
+ghost use Rattle.early.specs.Fit.{isFitCycle, isFitWait, isFitRun, isFitThread, isFitPair, isUnfitThreads, isUnfitLog, isUnfitPlaces, isUnfitWords, isUnfitState, isUnfit};
 
 // Document 01: "all ones apart".
 const NEVER: u64 = 18446744073709551615;
@@ -34,9 +36,9 @@ fn is_fit_cycle(c: Cycle, limit: u64) -> bool
     false
 }
 
-// The cycle of a state, whichever it is, and the event that it waits on, one of e.
-fn is_fit_state(state: State, e: u8) -> bool
-    ensures { λ r. ⌜ ((m : Model) → m .e ≡ e → r ≡ (isFitCycle recordTime (cycleOf state) && isFitWait m (awaitedBy state))) ⌝ }
+// The cycle of a state, whichever it is, the event that it waits on, one of e, and no "running record later than H".
+fn is_fit_state(state: State, e: u8, horizon: Time) -> bool
+    ensures { λ r. ⌜ ((m : Model) → m .e ≡ e → m .horizon ≡ horizon → r ≡ (isFitCycle recordTime (cycleOf state) && (isFitWait m (awaitedBy state) && isFitRun m state))) ⌝ }
 {
     match state {
         State::Ended(c) => is_fit_cycle(c, RECORD_TIME),
@@ -48,12 +50,18 @@ fn is_fit_state(state: State, e: u8) -> bool
             }
             false
         }
+        State::Running(c) => {
+            if horizon.0 < c.time.0 {
+                return false;
+            }
+            is_fit_cycle(c, RECORD_TIME)
+        }
     }
 }
 
 // No "segment not below N", and none from which its thread could reach a port it leaves unused: those are the bits of a word.
-fn is_fit_thread(x: Thread, n: u8, e: u8, lacking: u64) -> bool
-    ensures { λ r. ⌜ ((m : Model) (k : ℕ) → m .n ≡ n → m .e ≡ e → ((s : ℕ) → s < m .n → bitAt lacking s ≡ lacksFrom m k s) → r ≡ isFitThread m k x) ⌝ }
+fn is_fit_thread(x: Thread, n: u8, e: u8, horizon: Time, lacking: u64) -> bool
+    ensures { λ r. ⌜ ((m : Model) (k : ℕ) → m .n ≡ n → m .e ≡ e → m .horizon ≡ horizon → ((s : ℕ) → s < m .n → bitAt lacking s ≡ lacksFrom m k s) → r ≡ isFitThread m k x) ⌝ }
 {
     let state = x.state;
     if n <= x.segment {
@@ -62,7 +70,7 @@ fn is_fit_thread(x: Thread, n: u8, e: u8, lacking: u64) -> bool
     if masks::has(lacking, buffers::wide(x.segment)) {
         return false;
     }
-    is_fit_state(state, e)
+    is_fit_state(state, e, horizon)
 }
 
 // No "event not below E" in the log.
@@ -77,9 +85,16 @@ fn is_fit_pair(x: Notification, e: u8) -> bool
 }
 
 // The records of the first t threads; word k has the segments from which thread k could reach a port it leaves unused.
-fn is_unfit_threads(threads: Threads, t: u8, n: u8, e: u8, lacking: [u64; 32]) -> bool
+fn is_unfit_threads(
+    threads: Threads,
+    t: u8,
+    n: u8,
+    e: u8,
+    horizon: Time,
+    lacking: [u64; 32],
+) -> bool
     requires { ⌜ (t ≤ 32) × (n ≤ 64) ⌝ }
-    ensures { λ r. ⌜ ((m : Model) → m .t ≡ t → m .n ≡ n → m .e ≡ e → HoldsLacks m lacking → r ≡ isUnfitThreads m (threads .at)) ⌝ }
+    ensures { λ r. ⌜ ((m : Model) → m .t ≡ t → m .n ≡ n → m .e ≡ e → m .horizon ≡ horizon → HoldsLacks m lacking → r ≡ isUnfitThreads m (threads .at)) ⌝ }
 {
     let count = buffers::wide(t);
     let mut k = 0;
@@ -87,7 +102,7 @@ fn is_unfit_threads(threads: Threads, t: u8, n: u8, e: u8, lacking: [u64; 32]) -
         let x = threads.at[k];
         let w = lacking[k];
         k += 1;
-        if !is_fit_thread(x, n, e, w) {
+        if !is_fit_thread(x, n, e, horizon, w) {
             return true;
         }
     }
@@ -132,14 +147,34 @@ fn is_unfit_words(words: &[u64], count: usize) -> bool
 }
 
 // The records and the log, under a model of t threads, n segments and e events.
-fn are_unfit(site: Site, threads: Threads, t: u8, n: u8, e: u8, lacking: [u64; 32]) -> bool
+fn are_unfit(
+    site: Site,
+    threads: Threads,
+    t: u8,
+    n: u8,
+    e: u8,
+    horizon: Time,
+    lacking: [u64; 32],
+) -> bool
     requires { ⌜ (t ≤ 32) × (n ≤ 64) ⌝ }
-    ensures { λ r. ⌜ ((m : Model) → m .t ≡ t → m .n ≡ n → m .e ≡ e → HoldsLacks m lacking → r ≡ (isUnfitThreads m (threads .at) || isUnfitLog m site)) ⌝ }
+    ensures { λ r. ⌜ ((m : Model) → m .t ≡ t → m .n ≡ n → m .e ≡ e → m .horizon ≡ horizon → HoldsLacks m lacking → r ≡ (isUnfitThreads m (threads .at) || isUnfitLog m site)) ⌝ }
 {
-    if is_unfit_threads(threads, t, n, e, lacking) {
+    if is_unfit_threads(threads, t, n, e, horizon, lacking) {
         return true;
     }
     is_unfit_log(site, e)
+}
+
+// Document 02, slip 7: "log and counted places above 128 together". Where nothing runs nothing is counted.
+fn is_unfit_places(m: Model, site: Site, threads: Threads) -> bool
+    requires { ⌜ (m .t ≤ 32) × ((j : ℕ) → j < m .t → threadAt (threads .at) j .segment < 64) ⌝ }
+    ensures { λ r. ⌜ r ≡ isUnfitPlaces m site (threads .at) ⌝ }
+{
+    if early_log::any_running(threads, m.t) {
+        let c = early_log::counted(m, site, threads);
+        return c.full;
+    }
+    false
 }
 
 // The words, under a model of n segments: "distance words below N × N", then each of them.
@@ -166,7 +201,11 @@ pub fn is_unfit_state(m: Model, site: Site, threads: Threads) -> bool
     if model_rules::lack_in(starts, m.t, lacking) != 0 {
         return true;
     }
-    are_unfit(site, threads, m.t, m.n, m.e, lacking)
+    let horizon = m.horizon;
+    if are_unfit(site, threads, m.t, m.n, m.e, horizon, lacking) {
+        return true;
+    }
+    is_unfit_places(m, site, threads)
 }
 
 // Whether 11 applies: that, or words that do not fit the model.
@@ -177,4 +216,31 @@ pub fn is_unfit(m: Model, words: &[u64], site: Site, threads: Threads) -> bool
         return true;
     }
     is_unfit_table(words, m.n)
+}
+
+// Document 02, slip 7: fewer values held than 64 for each of t threads.
+fn is_unfit_held(t: u8, held: &[u32]) -> bool
+    ensures { λ r. ⌜ ((m : Model) → m .t ≡ t → r ≡ isUnfitHeld m (now (held .entry))) ⌝ }
+{
+    held.len() < 64 * buffers::wide(t)
+}
+
+// Whether 11 applies to a call: to the state and the words, or to what is held.
+pub fn is_unfit_call(m: Model, words: &[u64], site: Site, threads: Threads, held: &[u32]) -> bool
+    ensures { λ r. ⌜ r ≡ (isUnfit m (now (words .entry)) site (threads .at) || isUnfitHeld m (now (held .entry))) ⌝ }
+{
+    if is_unfit(m, words, site, threads) {
+        return true;
+    }
+    is_unfit_held(m.t, held)
+}
+
+// The same by rows, which have no words to test.
+pub fn is_unfit_call_by_rows(m: Model, site: Site, threads: Threads, held: &[u32]) -> bool
+    ensures { λ r. ⌜ r ≡ (isUnfitState m site (threads .at) || isUnfitHeld m (now (held .entry))) ⌝ }
+{
+    if is_unfit_state(m, site, threads) {
+        return true;
+    }
+    is_unfit_held(m.t, held)
 }

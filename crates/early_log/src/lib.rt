@@ -6,12 +6,25 @@ use clock::Time;
 use early::Notification;
 use early::Site;
 use model::Events;
+use model::Model;
+use model::State;
+use model::Threads;
 ghost use mathlib.Core.Path.{_≡_};
-ghost use Prim.Native.Nat.{_≤_, min};
+ghost use mathlib.Core.Bool.{false};
+ghost use Prim.Native.Nat.{ℕ, _<_, _≤_, min};
+ghost use lib.Dec.{ltb};
 ghost use lib.ListN.{length, take};
+ghost use Rattle.base.specs.Index.{anyBelow};
 ghost use Rattle.model.specs.Footprint.{has};
-ghost use Rattle.early.specs.Log.{pairOf, logOf, siteOf, holds, placesWith, isHeard, leastHeard, isDropped, dropBefore};
+ghost use Rattle.model.specs.Record.{threadAt, isRunning};
+ghost use Rattle.early.specs.Log.{places, pairOf, logOf, siteOf, holds, placesWith, countedLog, isHeard, leastHeard, isDropped, dropBefore};
 ghost use Rattle.early_log.specs.Noted.{noPair, notedOf};
+
+// What is counted of a log: whether it takes more than 128 places with the pairs of the running threads, and else the log with them.
+pub struct CountedLog {
+    pub full: bool,
+    pub site: Site,
+}
 
 // A count, or the number of places where it is above that.
 fn within(count: u8, places: usize) -> usize
@@ -143,6 +156,82 @@ pub fn places_with(site: Site, c: Cycle, events: Events) -> usize
         total += 1;
     }
     total
+}
+
+// Whether a thread in this state is running.
+fn is_running(state: State) -> bool
+    ensures { λ r. ⌜ r ≡ isRunning state ⌝ }
+{
+    match state {
+        State::Ended(_) => false,
+        State::Overrun(_) => false,
+        State::Ready(_) => false,
+        State::Waiting(_, _) => false,
+        State::Running(_) => true,
+    }
+}
+
+// Whether one of the first t threads is running.
+pub fn any_running(threads: Threads, t: u8) -> bool
+    requires { ⌜ t ≤ 32 ⌝ }
+    ensures { λ r. ⌜ r ≡ anyBelow t (λ k. isRunning (threadAt (threads .at) k .state)) ⌝ }
+{
+    let n = buffers::wide(t);
+    let mut k = 0;
+    while k < n {
+        let x = threads.at[k];
+        let state = x.state;
+        k += 1;
+        if is_running(state) {
+            return true;
+        }
+    }
+    false
+}
+
+// Document 02, slip 7: "its log places are counted from the grant, an equal pair once".
+pub fn counted(m: Model, site: Site, threads: Threads) -> CountedLog
+    requires { ⌜ (m .t ≤ 32) × ((j : ℕ) → j < m .t → threadAt (threads .at) j .segment < 64) ⌝ }
+    ensures { λ r. ⌜ r .full ≡ ltb places (length (countedLog m (threads .at) (logOf site))) ⌝ }
+    ensures { λ r. ⌜ (r .full ≡ false → logOf (r .site) ≡ countedLog m (threads .at) (logOf site)) ⌝ }
+{
+    let n = buffers::wide(m.t);
+    let mut s = site;
+    let mut k = 0;
+    while k < n {
+        let x = threads.at[k];
+        let state = x.state;
+        k += 1;
+        let State::Running(c) = state else {
+            continue;
+        };
+        let j = buffers::wide(x.segment);
+        let g = m.segments[j];
+        let listed = model_effect::listed(g);
+        if 128 < places_with(s, c, listed) {
+            return CountedLog {
+                full: true,
+                site: s,
+            };
+        }
+        s = note(s, c, listed);
+    }
+    CountedLog {
+        full: false,
+        site: s,
+    }
+}
+
+// The state whose log has what is counted, where there are places for it: itself where nothing runs.
+pub fn counted_site(m: Model, site: Site, threads: Threads) -> Site
+    requires { ⌜ (m .t ≤ 32) × ((j : ℕ) → j < m .t → threadAt (threads .at) j .segment < 64) × (length (countedLog m (threads .at) (logOf site)) ≤ places) ⌝ }
+    ensures { λ r. ⌜ logOf r ≡ countedLog m (threads .at) (logOf site) ⌝ }
+{
+    if any_running(threads, m.t) {
+        let c = counted(m, site, threads);
+        return c.site;
+    }
+    site
 }
 
 // Whether event e is heard of it since a cycle.

@@ -74,7 +74,7 @@ fn test_name(closer: Closer, from: u32, written: bool) -> u64
 }
 
 // The numbers from a first one on that a segment writes, or those that it writes, reads or tests.
-fn names_of(g: Segment, from: u32, written: bool) -> u64
+pub fn names_of(g: Segment, from: u32, written: bool) -> u64
     ensures { λ r. ⌜ r ≡ namesOf from written g ⌝ }
 {
     let n = places(g.n, 32);

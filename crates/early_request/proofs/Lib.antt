@@ -1,2 +1,3 @@
 pub mod FitAnswerLaws
 pub mod FreshLaws
+pub mod RowsLaws

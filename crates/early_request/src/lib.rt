@@ -4,6 +4,7 @@ use clock::Delta;
 use clock::ThreadNo;
 use clock::Time;
 use early::After;
+use early::Call;
 use early::Notification;
 use early::Site;
 use model::Model;
@@ -17,12 +18,15 @@ ghost use mathlib.Core.Bool.{false};
 ghost use lib.ListN.{length};
 ghost use Rattle.plain.specs.Start.{freshThreads};
 ghost use Rattle.tables_row.specs.Row.{Knows};
-ghost use Rattle.early.specs.Fit.{isUnfit};
+ghost use Rattle.early.specs.Fit.{isUnfit, isUnfitState};
 ghost use Rattle.early.specs.Request.{freshSite, requestOf, Answers};
 ghost use Rattle.early.specs.ByRows.{requestByRows, LeftFree};
+ghost use Rattle.early.specs.Call.{callFit, callOf, callByRows};
 ghost use Rattle.early_answer.specs.After.{afterOf};
+ghost use Rattle.early_answer.specs.Answered.{EnoughHeld};
 ghost use Rattle.early_answer.specs.Shown.{tableBy};
 ghost use Rattle.early_request.specs.Fresh.{freshOf};
+ghost use Rattle.early_request.specs.Rows.{rowsFit};
 
 // The number, 0 where the model is accepted; then the fresh state and the fresh records, all zero beside a number.
 pub struct FreshState {
@@ -92,8 +96,8 @@ pub fn fresh(m: Model) -> FreshState
     }
 }
 
-// A request on a fit state: distances are read in the words, or worked out from the steps that they are.
-fn request_fit(
+// A call on a fit state: distances are read in the words, or worked out from the steps that they are.
+fn call_fit(
     m: Model,
     marks: [[bool; 64]; 64],
     words: &[u64],
@@ -101,11 +105,13 @@ fn request_fit(
     stepwise: bool,
     site: Site,
     threads: Threads,
-    k: ThreadNo,
+    held: &mut [u32],
+    call: Call,
 ) -> After
-    requires { ⌜ (isUnfit m (tableBy stepwise m (now words)) site (threads .at) ≡ false) × Knows (m .n) (tableBy stepwise m (now words)) stepwise (now words) (length (now row)) ⌝ }
+    requires { ⌜ (isUnfit m (tableBy stepwise m (now words)) site (threads .at) ≡ false) × Knows (m .n) (tableBy stepwise m (now words)) stepwise (now words) (length (now row)) × EnoughHeld (m .t) (now held) call ⌝ }
     ensures kept { λ _. ⌜ length (now (row .exit)) ≡ length (now (row .entry)) ⌝ }
-    ensures left { λ r. ⌜ r ≡ afterOf (requestOf m marks (tableBy stepwise m (now (words .entry))) site (threads .at) (k .0)) ⌝ }
+    ensures held { λ _. ⌜ now (held .exit) ≡ callFit m marks (tableBy stepwise m (now (words .entry))) site (threads .at) (now (held .entry)) call .held ⌝ }
+    ensures left { λ r. ⌜ r ≡ afterOf (callFit m marks (tableBy stepwise m (now (words .entry))) site (threads .at) (now (held .entry)) call .left) ⌝ }
 {
     let mut reach = [0u64; 2048];
     early_reach::fill_reach(m, words, row, stepwise, &mut reach);
@@ -115,9 +121,10 @@ fn request_fit(
     let n = m.n;
     let horizon = m.horizon;
     let starts = m.starts;
-    let s = early_answer::segment_of(threads, t, k.0);
+    let s = early_answer::segment_of(threads, t, early_answer::thread_of(call));
     let g = m.segments[s];
-    early_answer::answered(
+    let counted = early_log::counted_site(m, site, threads);
+    early_answer::called(
         horizon,
         n,
         t,
@@ -129,13 +136,48 @@ fn request_fit(
         row,
         stepwise,
         &reach,
+        counted,
         site,
         threads,
-        k,
+        held,
+        call,
     )
 }
 
-// A request: 11, then 10, 12, 13, 14, 15.
+// The same in the first 64 of the words that are lent, in which rows are worked out from the steps of the segments: 16 below 64.
+fn rows_fit(
+    m: Model,
+    marks: [[bool; 64]; 64],
+    lent: &mut [u64],
+    site: Site,
+    threads: Threads,
+    held: &mut [u32],
+    call: Call,
+) -> After
+    requires { ⌜ (isUnfitState m site (threads .at) ≡ false) × EnoughHeld (m .t) (now held) call ⌝ }
+    ensures free { λ _. ⌜ LeftFree (now (lent .entry)) (now (lent .exit)) ⌝ }
+    ensures held { λ _. ⌜ now (held .exit) ≡ rowsFit m marks (length (now (lent .entry))) site (threads .at) (now (held .entry)) call .held ⌝ }
+    ensures left { λ r. ⌜ r ≡ afterOf (rowsFit m marks (length (now (lent .entry))) site (threads .at) (now (held .entry)) call .left) ⌝ }
+{
+    if lent.len() < 64 {
+        return early_answer::refused(16, site, threads);
+    }
+    let mut steps = [0u64; 64];
+    tables_row::fill_steps(m, &mut steps);
+    call_fit(
+        m,
+        marks,
+        &steps,
+        &mut lent[..64],
+        true,
+        site,
+        threads,
+        held,
+        call,
+    )
+}
+
+// A request: 11, then 10, 19, 12, 13, 14, 15.
 // What document 01 leaves free, and what holds of it, by laws of early_laws. The order in which threads are looked at: lowest first,
 // and any order leaves the same (`settled-any`). Marks: those of the first N in the row of the asking thread's segment are read, whether
 // they are symmetric or not, and no others (`requestOf-row`). Equal pairs handed in stay and count as they stand (`siteAfter-front`).
@@ -157,11 +199,22 @@ pub fn request(
         return early_answer::refused(11, site, threads);
     }
     let mut none = [0u64; 1];
-    request_fit(m, marks, words, &mut none, false, site, threads, k)
+    let mut unheld = [0u32; 1];
+    call_fit(
+        m,
+        marks,
+        words,
+        &mut none,
+        false,
+        site,
+        threads,
+        &mut unheld,
+        Call::Both(k.0),
+    )
 }
 
 // Document 02, slip 6: the same "with the same distances, answers and states after", in 64 words in which rows are worked out: 11, 16, then
-// 10, 12, 13, 14, 15. What the words hold when it is called is not read, and what they hold after it is left free; those past the first 64 stay.
+// 10, 19, 12, 13, 14, 15. What the words hold when it is called is not read, and what they hold after it is left free; those past the first 64 stay.
 pub fn request_by_rows(
     m: Model,
     marks: [[bool; 64]; 64],
@@ -176,10 +229,47 @@ pub fn request_by_rows(
     if early_fit::is_unfit_state(m, site, threads) {
         return early_answer::refused(11, site, threads);
     }
-    if row.len() < 64 {
-        return early_answer::refused(16, site, threads);
+    let mut unheld = [0u32; 1];
+    rows_fit(m, marks, row, site, threads, &mut unheld, Call::Both(k.0))
+}
+
+// Document 02, slip 7: a request, a grant or a finish, with the values that are held: 11, also where fewer than 64 are lent for each thread;
+// then as a request, or for a finish 10, 19.
+pub fn call(
+    m: Model,
+    marks: [[bool; 64]; 64],
+    words: &[u64],
+    site: Site,
+    threads: Threads,
+    held: &mut [u32],
+    call: Call,
+) -> After
+    ensures held { λ _. ⌜ now (held .exit) ≡ callOf m marks (now (words .entry)) site (threads .at) (now (held .entry)) call .held ⌝ }
+    ensures left { λ r. ⌜ r ≡ afterOf (callOf m marks (now (words .entry)) site (threads .at) (now (held .entry)) call .left) ⌝ }
+{
+    if early_fit::is_unfit_call(m, words, site, threads, held) {
+        return early_answer::refused(11, site, threads);
     }
-    let mut steps = [0u64; 64];
-    tables_row::fill_steps(m, &mut steps);
-    request_fit(m, marks, &steps, &mut row[..64], true, site, threads, k)
+    let mut none = [0u64; 1];
+    call_fit(m, marks, words, &mut none, false, site, threads, held, call)
+}
+
+// The same in 64 words: 11, 16, then as above.
+pub fn call_by_rows(
+    m: Model,
+    marks: [[bool; 64]; 64],
+    row: &mut [u64],
+    site: Site,
+    threads: Threads,
+    held: &mut [u32],
+    call: Call,
+) -> After
+    ensures free { λ _. ⌜ LeftFree (now (row .entry)) (now (row .exit)) ⌝ }
+    ensures held { λ _. ⌜ now (held .exit) ≡ callByRows m marks (length (now (row .entry))) site (threads .at) (now (held .entry)) call .held ⌝ }
+    ensures left { λ r. ⌜ r ≡ afterOf (callByRows m marks (length (now (row .entry))) site (threads .at) (now (held .entry)) call .left) ⌝ }
+{
+    if early_fit::is_unfit_call_by_rows(m, site, threads, held) {
+        return early_answer::refused(11, site, threads);
+    }
+    rows_fit(m, marks, row, site, threads, held, call)
 }
