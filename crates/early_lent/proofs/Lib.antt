@@ -1,4 +1,4 @@
-mod MovedLaws
+pub mod MovedLaws
 pub mod RowsLaws
 mod LendLaws
 mod WalkLaws

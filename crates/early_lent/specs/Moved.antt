@@ -10,8 +10,10 @@ use Rattle.model.specs.declared.Threads.{Threads}
 use Rattle.model.specs.Record.{noThread}
 use Rattle.model.specs.Refusal.{unfit}
 use Rattle.early.specs.declared.Site.{Site}
+use Rattle.early.specs.declared.Call.{Call}
 use Rattle.early.specs.Request.{Requested, refusedWith, requestOf}
 use Rattle.early.specs.ByRows.{requestByRows}
+use Rattle.early.specs.Call.{Called, callOf, callByRows}
 use Rattle.early_lent.specs.declared.Done.{Done}
 use Rattle.early_lent.specs.Answered.{askedOf}
 
@@ -48,6 +50,17 @@ requestLent m marks ws site before lent k = unlessShort m site before lent (requ
 -- by rows, in so many words
 abbrev pub rowsLent : Model → List (List Bool) → ℕ → Site → Threads → ℕ → ℕ → Requested
 rowsLent m marks words site before lent k = unlessShort m site before lent (requestByRows m marks words site (before .at) k)
+
+-- a call, with the values that are held
+abbrev pub calledUnlessShort : Model → Site → Threads → ℕ → List ℕ → Called → Called
+calledUnlessShort m site before lent held called =
+    record { left = unlessShort m site before lent (called .left); held = cond (ltb lent (m .t)) held (called .held) }
+
+abbrev pub callLent : Model → List (List Bool) → List ℕ → Site → Threads → ℕ → List ℕ → Call → Called
+callLent m marks ws site before lent held call = calledUnlessShort m site before lent held (callOf m marks ws site (before .at) held call)
+
+abbrev pub callRowsLent : Model → List (List Bool) → ℕ → Site → Threads → ℕ → List ℕ → Call → Called
+callRowsLent m marks words site before lent held call = calledUnlessShort m site before lent held (callByRows m marks words site (before .at) held call)
 
 unfoldable pub doneOf : Requested → Done
 doneOf r = record { asked = askedOf r; threads = record { at = r .threads } }

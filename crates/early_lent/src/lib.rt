@@ -2,6 +2,7 @@
 // threads; records past those are neither read nor written".
 use clock::ThreadNo;
 use early::Answer;
+use early::Call;
 use early::Site;
 use model::Model;
 use model::Thread;
@@ -11,8 +12,9 @@ ghost use Prim.Native.Nat.{_<_, _≤_};
 ghost use lib.ListN.{length, take, drop};
 ghost use Rattle.early.specs.Request.{requestOf, Answers};
 ghost use Rattle.early.specs.ByRows.{requestByRows, LeftFree};
+ghost use Rattle.early.specs.Call.{callOf, callByRows};
 ghost use Rattle.early_lent.specs.Answered.{askedOf, lentOf, requestFirst};
-ghost use Rattle.early_lent.specs.Moved.{placedAt, takenAt, loaded, stored, movedOf, requestLent, rowsLent, doneOf};
+ghost use Rattle.early_lent.specs.Moved.{placedAt, takenAt, loaded, stored, movedOf, requestLent, rowsLent, callLent, callRowsLent, doneOf};
 
 // The answer of a request, and the state beside it; the records stand in the slice.
 pub struct Asked {
@@ -178,6 +180,119 @@ pub fn request_by_rows(
     let before = load(threads, count, model_effect::no_threads());
     let done = request_of_rows(m, marks, row, site, before, records, k);
     store(threads, count, done.threads);
+    done.asked
+}
+
+// The core of a call, on the records of a slice of so many: 11 where they are fewer than the threads.
+fn call_of(
+    m: Model,
+    marks: [[bool; 64]; 64],
+    words: &[u64],
+    site: Site,
+    before: Threads,
+    lent: usize,
+    held: &mut [u32],
+    call: Call,
+) -> Done
+    ensures left { λ r. ⌜ r ≡ doneOf (callLent m marks (now (words .entry)) site before lent (now (held .entry)) call .left) ⌝ }
+    ensures held { λ _. ⌜ now (held .exit) ≡ callLent m marks (now (words .entry)) site before lent (now (held .entry)) call .held ⌝ }
+{
+    let t = m.t;
+    let needed = t as usize;
+    if lent < needed {
+        let answer = Answer::Refused(11);
+        return Done {
+            asked: Asked { answer, site },
+            threads: before,
+        };
+    }
+    let after = early_request::call(m, marks, words, site, before, held, call);
+    let answer = after.answer;
+    let site = after.site;
+    let ran = after.threads;
+    Done {
+        asked: Asked { answer, site },
+        threads: ran,
+    }
+}
+
+// Document 02, slip 7: "Split the request into two that answer as it does", or "as a grant and its finish at once". What a grant fixes is "kept with
+// the state": 64 numbers for each thread in the slice `held`, 11 where they are fewer.
+pub fn call(
+    m: Model,
+    marks: [[bool; 64]; 64],
+    words: &[u64],
+    site: Site,
+    threads: &mut [Thread],
+    held: &mut [u32],
+    call: Call,
+) -> Asked
+    ensures { λ r. ⌜ (r ≡ askedOf (callOf m marks (now (words .entry)) site (now (threads .entry)) (now (held .entry)) call .left))
+        × (now (threads .exit) ≡ callOf m marks (now (words .entry)) site (now (threads .entry)) (now (held .entry)) call .left .threads)
+        × (now (held .exit) ≡ callOf m marks (now (words .entry)) site (now (threads .entry)) (now (held .entry)) call .held) ⌝ }
+{
+    let lent = threads.len();
+    let n = moved(lent, m.t);
+    let before = load(threads, n, model_effect::no_threads());
+    let done = call_of(m, marks, words, site, before, lent, held, call);
+    store(threads, n, done.threads);
+    done.asked
+}
+
+// The core of a call by rows, on the records of a slice of so many: 11 where they are fewer than the threads.
+fn call_of_rows(
+    m: Model,
+    marks: [[bool; 64]; 64],
+    row: &mut [u64],
+    site: Site,
+    before: Threads,
+    lent: usize,
+    held: &mut [u32],
+    call: Call,
+) -> Done
+    ensures free { λ _. ⌜ LeftFree (now (row .entry)) (now (row .exit)) ⌝ }
+    ensures left { λ r. ⌜ r ≡ doneOf (callRowsLent m marks (length (now (row .entry))) site before lent (now (held .entry)) call .left) ⌝ }
+    ensures held { λ _. ⌜ now (held .exit) ≡ callRowsLent m marks (length (now (row .entry))) site before lent (now (held .entry)) call .held ⌝ }
+{
+    let t = m.t;
+    let needed = t as usize;
+    if needed > lent {
+        let answer = Answer::Refused(11);
+        return Done {
+            asked: Asked { answer, site },
+            threads: before,
+        };
+    }
+    let left = early_request::call_by_rows(m, marks, row, site, before, held, call);
+    let answer = left.answer;
+    let site = left.site;
+    let records = left.threads;
+    Done {
+        asked: Asked { answer, site },
+        threads: records,
+    }
+}
+
+// The same in 64 words, which are left free as in `request_by_rows`: 11, 16, 10, 19, then the rest.
+pub fn call_by_rows(
+    m: Model,
+    marks: [[bool; 64]; 64],
+    row: &mut [u64],
+    site: Site,
+    threads: &mut [Thread],
+    held: &mut [u32],
+    call: Call,
+) -> Asked
+    ensures { λ r. ⌜ (r ≡ askedOf (callByRows m marks (length (now (row .entry))) site (now (threads .entry)) (now (held .entry)) call .left))
+        × (now (threads .exit) ≡ callByRows m marks (length (now (row .entry))) site (now (threads .entry)) (now (held .entry)) call .left .threads)
+        × (now (held .exit) ≡ callByRows m marks (length (now (row .entry))) site (now (threads .entry)) (now (held .entry)) call .held)
+        × LeftFree (now (row .entry)) (now (row .exit)) ⌝ }
+{
+    let lent = threads.len();
+    let n = moved(lent, m.t);
+    let before = load(threads, n, model_effect::no_threads());
+    let done = call_of_rows(m, marks, row, site, before, lent, held, call);
+    store(threads, n, done.threads);
     done.asked
 }
 

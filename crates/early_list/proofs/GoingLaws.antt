@@ -1,194 +1,212 @@
--- A list of requests, from a request on: 11 is not asked again, as a request leaves a fit state fit.
---     request-keeps     a fit state after a request
+-- A list of calls, from a call on: 11 is not asked again, as a call leaves a fit state fit.
+--     neither, segment-at     what a call is asked with
 --     going-start, going-more, going-done     the loop over the list
---     requests-short, requests-refused, requests-made     for the code: the exits
+--     calls-short, calls-made, calls-same, calls-refused     for the code: the exits
 use Prim.Native.Nat.{ℕ, zero, suc, _+_, _*_, _<_, _≤_}
 use mathlib.Core.Path.{_≡_, refl, ap, sym, _∙_, subst}
-use mathlib.Core.Bool.{Bool, true, false}
-use mathlib.Core.List.{List, [], _∷_, _++_}
+use mathlib.Core.Bool.{Bool, true, false, cond, _||_}
+use mathlib.Core.List.{List, [], _∷_, _++_, map}
 use native.Mathlib.Omega.{arith}
 use native.Mathlib.Numerals.{add-one}
+use lib.Dec.{T, ltb}
 use lib.ListN.{length, getD, drop, replicate, drop-of-length-le}
 use lib.Seq.{sets, length-sets, sets-eq, drop-cons}
 use borrow.Author.Tests.{lt-ltb, le-ltb}
 use Rattle.model.specs.declared.Model.{Model}
 use Rattle.model.specs.declared.Thread.{Thread}
 use Rattle.model.specs.declared.Threads.{Threads}
+use Rattle.model.specs.Record.{threadAt}
 use Rattle.early.specs.declared.Site.{Site}
 use Rattle.early.specs.declared.Answer.{Answer}
 use Rattle.early.specs.declared.Answer.the-variants.{Granted, Refused}
+use Rattle.early.specs.declared.Call.{Call}
 use Rattle.early.specs.declared.After.{After}
-use Rattle.early.specs.Fit.{isUnfit}
-use Rattle.early.specs.Grant.{logAfter, closedThreads, threadsAfter, siteAfter}
-use Rattle.early.specs.Request.{Requested, Listed, refusedWith, grantedTo, requestOf, listedBy, requestsOf}
-use Rattle.early_laws.proofs.RequestLaws.{Asked, refused, granted, requestOf-asked}
-use Rattle.early_limits.proofs.StateLaws.{isUnfit→FitState}
-use Rattle.early_limits.proofs.DeliverLaws.{after-fit}
-use Rattle.early_list.specs.declared.Outcome.{Outcome}
+use Rattle.early.specs.Request.{Listed}
+use Rattle.early.specs.Call.{Called, calledWith, callFit, callOf, Served, servedBy, callAt}
+use Rattle.early_laws.proofs.CallLaws.{Fitting, callOf-fitting, callOf-held-length}
 use Rattle.early_answer.specs.After.{afterOf}
-use Rattle.early_list.specs.Answers.{answerWords, answersWords, grantsIn, grantedIn, isShort, leftBy, outcomeOf, answersIn}
-use Rattle.early_list.proofs.AnswerWordLaws.{words-next}
+use Rattle.early_list.specs.declared.Outcome.{Outcome}
+use Rattle.early_list.specs.Answers.{answerWords, answersWords, grantsIn, grantedIn, isShort, leftBy, outcomeOf, heldIn, answersIn}
+use Rattle.early_list.proofs.AnswerWordLaws.{words-next, words-done, answersWords-length}
+use Rattle.early_list.proofs.KeepsLaws.{call-keeps}
 
 pub grantsIn-≤ : {x : ℕ} (a : Answer) → x ≡ grantsIn a → x ≤ 1
 grantsIn-≤ (Granted s c) e = omega arith
 grantsIn-≤ (Refused n) e = omega arith
 
+-- neither the state nor what is held
+pub neither : (a b : Bool) → (a || b) ≡ false → (a ≡ false) × (b ≡ false)
+neither true b e = absurd (subst T e tt)
+neither false b e = (refl, e)
+
+-- the segment that a thread is in, by its number
+pub segment-at : (t : ℕ) (ts : List Thread) (k i s : ℕ) → i ≡ k → s ≡ cond (ltb i t) (threadAt ts i .segment) 0 → s ≡ cond (ltb k t) (threadAt ts k .segment) 0
+segment-at t ts k i s e f = rw (← e) f
+
 module _ (m : Model) (marks : List (List Bool)) (ws : List ℕ) where
-  pub request-keeps : (site : Site) (ts : List Thread) (k : ℕ) → isUnfit m ws site ts ≡ false
-      → isUnfit m ws (requestOf m marks ws site ts k .site) (requestOf m marks ws site ts k .threads) ≡ false
-  unfolding grantedTo siteAfter threadsAfter logAfter closedThreads
-  request-keeps site ts k e = go (requestOf-asked m marks ws site ts k)
-    where
-      go : {r : Requested} → Asked m marks ws site ts k r → isUnfit m ws (r .site) (r .threads) ≡ false
-      go (refused n h u) = e
-      go (granted c g) = after-fit m ws site ts (isUnfit→FitState m ws site ts e) k c (g .thread) (g .ready) (g .in-time) (g .room)
+  -- what the calls of these words leave
+  abbrev pub served : Site → List Thread → List ℕ → List ℕ → Served
+  served site ts held calls = servedBy (callOf m marks ws) site ts held (map callAt calls)
 
-  -- one request more
-  requestsOf-more : (site : Site) (ts : List Thread) (ks : List ℕ) (i : ℕ) → i < length ks
-      → requestsOf m marks ws site ts (drop i ks) ≡ requestsOf m marks ws site ts (getD ks i 0 ∷ drop (i + 1) ks)
-  requestsOf-more site ts ks i h = rw (add-one, drop-cons ks i 0 h) refl
+  -- one call more
+  served-more : (site : Site) (ts : List Thread) (held calls : List ℕ) (i : ℕ) → i < length calls
+      → served site ts held (drop i calls) ≡ served site ts held (getD calls i 0 ∷ drop (i + 1) calls)
+  served-more site ts held calls i h = rw (add-one, drop-cons calls i 0 h) refl
 
-  module _ (site₀ : Site) (ts₀ : List Thread) (ks b₀ : List ℕ) where
-    -- the requests from i on are still to come
-    pub record Going (b : List ℕ) (site : Site) (ts : List Thread) (g i : ℕ) : Type 0 where
-      pub upto : i ≤ length ks
+  module _ (site₀ : Site) (ts₀ : List Thread) (held₀ calls b₀ : List ℕ) where
+    -- all of them, and those from i on
+    abbrev all : Served
+    all = served site₀ ts₀ held₀ calls
+
+    -- the calls from i on are still to come
+    pub record Going (b : List ℕ) (site : Site) (ts : List Thread) (held : List ℕ) (g i : ℕ) : Type 0 where
+      pub upto : i ≤ length calls
       pub size : length b ≡ length b₀
-      pub fit : isUnfit m ws site ts ≡ false
+      pub many : length held ≡ length held₀
+      pub fit : Fitting m ws site ts held
       pub few : g ≤ i
-      pub words : sets b (4 * i) (answersWords (requestsOf m marks ws site ts (drop i ks) .answers)) ≡ sets b₀ 0 (answersWords (requestsOf m marks ws site₀ ts₀ ks .answers))
-      pub grants : g + grantedIn (requestsOf m marks ws site ts (drop i ks) .answers) ≡ grantedIn (requestsOf m marks ws site₀ ts₀ ks .answers)
-      pub same-site : requestsOf m marks ws site ts (drop i ks) .site ≡ requestsOf m marks ws site₀ ts₀ ks .site
-      pub same-threads : requestsOf m marks ws site ts (drop i ks) .threads ≡ requestsOf m marks ws site₀ ts₀ ks .threads
+      pub words : sets b (5 * i) (answersWords (drop i calls) (served site ts held (drop i calls) .listed .answers)) ≡ sets b₀ 0 (answersWords calls (all .listed .answers))
+      pub grants : g + grantedIn (served site ts held (drop i calls) .listed .answers) ≡ grantedIn (all .listed .answers)
+      pub same-site : served site ts held (drop i calls) .listed .site ≡ all .listed .site
+      pub same-threads : served site ts held (drop i calls) .listed .threads ≡ all .listed .threads
+      pub same-held : served site ts held (drop i calls) .held ≡ all .held
 
-    pub going-start : isUnfit m ws site₀ ts₀ ≡ false → Going b₀ site₀ ts₀ 0 0
+    pub going-start : Fitting m ws site₀ ts₀ held₀ → Going b₀ site₀ ts₀ held₀ 0 0
     going-start e =
         record {
           upto = omega arith;
           size = refl;
+          many = refl;
           fit = e;
           few = omega arith;
           words = refl;
           grants = omega arith;
           same-site = refl;
           same-threads = refl;
+          same-held = refl;
         }
 
-    module _ (b : List ℕ) (site : Site) (ts : List Thread) (g i : ℕ) (so : Going b site ts g i) where
-      -- what the next request leaves
-      step : (bs : List ℕ) (x : ℕ) → i < length ks → bs ≡ sets b (4 * i) (answerWords (requestOf m marks ws site ts (getD ks i 0) .answer))
-          → x ≡ grantsIn (requestOf m marks ws site ts (getD ks i 0) .answer)
-          → Going bs (requestOf m marks ws site ts (getD ks i 0) .site) (requestOf m marks ws site ts (getD ks i 0) .threads) (g + x) (i + 1)
-      unfolding listedBy grantedIn
+    module _ (b : List ℕ) (site : Site) (ts : List Thread) (held : List ℕ) (g i : ℕ) (so : Going b site ts held g i) where
+      -- the next call
+      abbrev next : Called
+      next = callOf m marks ws site ts held (callAt (getD calls i 0))
+
+      step : (bs : List ℕ) (x : ℕ) → i < length calls → bs ≡ sets b (5 * i) (answerWords (getD calls i 0) (next .left .answer)) → x ≡ grantsIn (next .left .answer)
+          → Going bs (next .left .site) (next .left .threads) (next .held) (g + x) (i + 1)
+      unfolding servedBy grantedIn
       step bs x h p q =
-          let a = requestOf m marks ws site ts (getD ks i 0) in
-          let r = requestsOf m marks ws (a .site) (a .threads) (drop (i + 1) ks) in
-          let e = requestsOf-more site ts ks i h in
-          let counted = ap (λ (y : Listed). grantedIn (y .answers)) e in
+          let r = served (next .left .site) (next .left .threads) (next .held) (drop (i + 1) calls) in
+          let e = served-more site ts held calls i h in
+          let counted = ap (λ (y : Served). grantedIn (y .listed .answers)) e in
           record {
             upto = omega arith;
-            size = ap length p ∙ (length-sets b (4 * i) (answerWords (a .answer)) ∙ so .size);
-            fit = request-keeps site ts (getD ks i 0) (so .fit);
-            few = omega (arith, so .few, grantsIn-≤ (a .answer) q);
+            size = ap length p ∙ (length-sets b (5 * i) (answerWords (getD calls i 0) (next .left .answer)) ∙ so .size);
+            many = callOf-held-length m marks ws site ts held (callAt (getD calls i 0)) ∙ so .many;
+            fit = call-keeps m marks ws site ts held (callAt (getD calls i 0)) (so .fit);
+            few = omega (arith, so .few, grantsIn-≤ (next .left .answer) q);
             words =
-                words-next b bs i (a .answer) (r .answers) p
-                ∙ (ap (λ (y : Listed). sets b (4 * i) (answersWords (y .answers))) (sym e) ∙ so .words);
+                words-next b bs calls i (next .left .answer) (r .listed .answers) h p
+                ∙ (ap (λ (y : Served). sets b (5 * i) (answersWords (drop i calls) (y .listed .answers))) (sym e) ∙ so .words);
             grants = rw q (omega (arith, counted, so .grants));
-            same-site = ap (λ (y : Listed). y .site) (sym e) ∙ so .same-site;
-            same-threads = ap (λ (y : Listed). y .threads) (sym e) ∙ so .same-threads;
+            same-site = ap (λ (y : Served). y .listed .site) (sym e) ∙ so .same-site;
+            same-threads = ap (λ (y : Served). y .listed .threads) (sym e) ∙ so .same-threads;
+            same-held = ap (λ (y : Served). y .held) (sym e) ∙ so .same-held;
           }
 
-      pub going-more : (a : After) (bs : List ℕ) (x : ℕ) → i < length ks → a ≡ afterOf (requestOf m marks ws site ts (getD ks i 0))
-          → bs ≡ sets b (4 * i) (answerWords (a .answer)) → x ≡ grantsIn (a .answer) → Going bs (a .site) (a .threads .at) (g + x) (i + 1)
+      pub going-more : (call : Call) (a : After) (hs bs : List ℕ) (x : ℕ) → i < length calls → call ≡ callAt (getD calls i 0)
+          → a ≡ afterOf (callFit m marks ws site ts held call .left) → hs ≡ callFit m marks ws site ts held call .held
+          → bs ≡ sets b (5 * i) (answerWords (getD calls i 0) (a .answer)) → x ≡ grantsIn (a .answer) → Going bs (a .site) (a .threads .at) hs (g + x) (i + 1)
       unfolding afterOf
-      going-more a bs x h e p q =
-          subst
-          (λ (y : After). Going bs (y .site) (y .threads .at) (g + x) (i + 1))
-          (sym e)
-          (step bs x h (p ∙ ap (λ (y : After). sets b (4 * i) (answerWords (y .answer))) e) (q ∙ ap (λ (y : After). grantsIn (y .answer)) e))
+      going-more call a hs bs x h same e f p q =
+          let fits : callFit m marks ws site ts held call ≡ next = sym (callOf-fitting m marks ws site ts held call (so .fit)) ∙ ap (callOf m marks ws site ts held) same in
+          let left : a ≡ afterOf (next .left) = e ∙ ap (λ (y : Called). afterOf (y .left)) fits in
+          rw (f ∙ ap (λ (y : Called). y .held) fits)
+          (subst
+          (λ (y : After). Going bs (y .site) (y .threads .at) (next .held) (g + x) (i + 1))
+          (sym left)
+          (step bs x h (p ∙ ap (λ (y : After). sets b (5 * i) (answerWords (getD calls i 0) (y .answer))) left) (q ∙ ap (λ (y : After). grantsIn (y .answer)) left)))
 
-      none : length ks ≤ i → requestsOf m marks ws site ts (drop i ks) ≡ requestsOf m marks ws site ts []
-      none h = ap (requestsOf m marks ws site ts) (drop-of-length-le ks h)
-
-      pub going-done : (us : Threads) → us .at ≡ ts → length ks ≤ i
-          → (record { number = 0; granted = g; site = site; threads = us } ≡ leftBy (requestsOf m marks ws site₀ ts₀ ks))
-          × (b ≡ sets b₀ 0 (answersWords (requestsOf m marks ws site₀ ts₀ ks .answers)))
-      unfolding listedBy grantedIn answersWords
+      pub going-done : (us : Threads) → us .at ≡ ts → length calls ≤ i
+          → (record { number = 0; granted = g; site = site; threads = us } ≡ leftBy (all .listed)) × (held ≡ all .held) × (b ≡ sets b₀ 0 (answersWords calls (all .listed .answers)))
+      unfolding servedBy grantedIn
       going-done us f h =
-          let e = none h in
-          let counted = ap (λ (y : Listed). grantedIn (y .answers)) e in
-          let granted : g ≡ grantedIn (requestsOf m marks ws site₀ ts₀ ks .answers) = omega (arith, so .grants, counted) in
-          let left : site ≡ requestsOf m marks ws site₀ ts₀ ks .site = ap (λ (y : Listed). y .site) (sym e) ∙ so .same-site in
-          let stay : us ≡ record { at = requestsOf m marks ws site₀ ts₀ ks .threads } =
-          ap (λ (xs : List Thread). record { at = xs }) (f ∙ (ap (λ (y : Listed). y .threads) (sym e) ∙ so .same-threads)) in
-          (rw (granted, left, stay) refl, ap (λ (y : Listed). sets b (4 * i) (answersWords (y .answers))) (sym e) ∙ so .words)
+          let e : served site ts held (drop i calls) ≡ served site ts held [] = ap (served site ts held) (drop-of-length-le calls h) in
+          let counted = ap (λ (y : Served). grantedIn (y .listed .answers)) e in
+          let granted : g ≡ grantedIn (all .listed .answers) = omega (arith, so .grants, counted) in
+          let left : site ≡ all .listed .site = ap (λ (y : Served). y .listed .site) (sym e) ∙ so .same-site in
+          let stay : us ≡ record { at = all .listed .threads } =
+          ap (λ (xs : List Thread). record { at = xs }) (f ∙ (ap (λ (y : Served). y .listed .threads) (sym e) ∙ so .same-threads)) in (
+            rw (granted, left, stay) refl,
+            ap (λ (y : Served). y .held) (sym e) ∙ so .same-held,
+            sym (words-done b calls i (served site ts held (drop i calls) .listed .answers) h) ∙ so .words,
+          )
 
 -- a number that changes nothing is every answer
-module _ (ask : Site → List Thread → ℕ → Requested) (n : ℕ) (site : Site) (ts : List Thread) (each : (k : ℕ) → ask site ts k ≡ refusedWith n site ts) where
-  pub record AllRefused (r : Listed) (count : ℕ) : Type 0 where
-    pub answers : r .answers ≡ replicate count (Refused n)
-    pub same-site : r .site ≡ site
-    pub same-threads : r .threads ≡ ts
+module _ (ask : Site → List Thread → List ℕ → Call → Called) (n : ℕ) (site : Site) (ts : List Thread) (held : List ℕ) (each : (c : Call) → ask site ts held c ≡ calledWith n site ts held) where
+  pub record AllRefused (r : Served) (count : ℕ) : Type 0 where
+    pub answers : r .listed .answers ≡ replicate count (Refused n)
+    pub same-site : r .listed .site ≡ site
+    pub same-threads : r .listed .threads ≡ ts
+    pub same-held : r .held ≡ held
 
-  pub all-refused : (ks : List ℕ) → AllRefused (listedBy ask site ts ks) (length ks)
-  unfolding listedBy
-  all-refused [] = record { answers = refl; same-site = refl; same-threads = refl }
-  all-refused (k ∷ ks) =
-      let rest = all-refused ks in
-      rw (each k) (record { answers = ap (λ (xs : List Answer). Refused n ∷ xs) (rest .answers); same-site = rest .same-site; same-threads = rest .same-threads })
+  pub all-refused : (calls : List ℕ) → AllRefused (servedBy ask site ts held (map callAt calls)) (length calls)
+  unfolding servedBy
+  all-refused [] = record { answers = refl; same-site = refl; same-threads = refl; same-held = refl }
+  all-refused (w ∷ calls) =
+      let rest = all-refused calls in
+      rw (each (callAt w))
+      (record {
+        answers = ap (λ (xs : List Answer). Refused n ∷ xs) (rest .answers);
+        same-site = rest .same-site;
+        same-threads = rest .same-threads;
+        same-held = rest .same-held;
+      })
 
 none-granted : (n count : ℕ) → grantedIn (replicate count (Refused n)) ≡ 0
 unfolding grantedIn
 none-granted n zero = refl
 none-granted n (suc count) = omega (arith, none-granted n count)
 
-answersWords-length : (xs : List Answer) → length (answersWords xs) ≡ 4 * length xs
-unfolding answersWords
-answersWords-length [] = refl
-answersWords-length (a ∷ xs) = let rest = answersWords-length xs in omega arith
-
-answers-length : (ask : Site → List Thread → ℕ → Requested) (ks : List ℕ) (site : Site) (ts : List Thread) → length (listedBy ask site ts ks .answers) ≡ length ks
-unfolding listedBy
-answers-length ask [] site ts = refl
-answers-length ask (k ∷ ks) site ts =
-    let a = ask site ts k in
-    ap suc (answers-length ask ks (a .site) (a .threads))
-
--- 11 on an unfit state is every answer
-pub words-unfit : (m : Model) (marks : List (List Bool)) (ws : List ℕ) (site : Site) (ts : List Thread) → isUnfit m ws site ts ≡ true → (k : ℕ) → requestOf m marks ws site ts k ≡ refusedWith 11 site ts
-unfolding requestOf
-words-unfit m marks ws site ts e k = rw e refl
+answers-length : (ask : Site → List Thread → List ℕ → Call → Called) (calls : List ℕ) (site : Site) (ts : List Thread) (held : List ℕ)
+    → length (servedBy ask site ts held (map callAt calls) .listed .answers) ≡ length calls
+unfolding servedBy
+answers-length ask [] site ts held = refl
+answers-length ask (w ∷ calls) site ts held =
+    let a = ask site ts held (callAt w) in
+    ap suc (answers-length ask calls (a .left .site) (a .left .threads) (a .held))
 
 -- for the code: the exits
-module _ (ask : Site → List Thread → ℕ → Requested) (site : Site) (threads : Threads) (ks b : List ℕ) where
-  abbrev all : Listed
-  all = listedBy ask site (threads .at) ks
+module _ (ask : Site → List Thread → List ℕ → Call → Called) (site : Site) (threads : Threads) (held calls b : List ℕ) where
+  abbrev every : Served
+  every = servedBy ask site (threads .at) held (map callAt calls)
 
-  abbrev Left : Outcome → List ℕ → Type 0
-  Left r bs = (r ≡ outcomeOf all site (threads .at) ks b) × (bs ≡ answersIn all ks b)
+  abbrev Left : Outcome → List ℕ → List ℕ → Type 0
+  Left r hs bs = (r ≡ outcomeOf every site (threads .at) calls b) × (hs ≡ heldIn every held calls b) × (bs ≡ answersIn every calls b)
 
-  pub requests-short : (r : Outcome) → r ≡ record { number = 11; granted = 0; site = site; threads = threads } → length b < 4 * length ks → Left r b
-  unfolding outcomeOf answersIn isShort
-  requests-short r e h = rw (e, lt-ltb (length b) (4 * length ks) h) (refl, refl)
+  pub calls-short : (r : Outcome) → r ≡ record { number = 11; granted = 0; site = site; threads = threads } → length b < 5 * length calls → Left r held b
+  unfolding outcomeOf heldIn answersIn isShort
+  calls-short r e h = rw (e, lt-ltb (length b) (5 * length calls) h) (refl, refl, refl)
 
-  module _ (h : 4 * length ks ≤ length b) where
-    pub requests-made : (r : Outcome) (bs : List ℕ) → r ≡ leftBy all → bs ≡ sets b 0 (answersWords (all .answers)) → Left r bs
-    unfolding outcomeOf answersIn isShort
-    requests-made r bs p q =
-        let xs = all .answers in
-        let size : length (answersWords xs) ≡ 4 * length ks = answersWords-length xs ∙ ap (λ (n : ℕ). 4 * n) (answers-length ask ks site (threads .at)) in
-        let f : 0 + length (answersWords xs) ≡ 4 * length ks = omega arith in
-        rw (le-ltb (length b) (4 * length ks) h)
-        (p, q ∙ (sets-eq (answersWords xs) b 0 (omega arith) ∙ ap (λ (n : ℕ). answersWords xs ++ drop n b) f))
+  module _ (h : 5 * length calls ≤ length b) where
+    pub calls-made : (r : Outcome) (hs bs : List ℕ) → r ≡ leftBy (every .listed) → hs ≡ every .held → bs ≡ sets b 0 (answersWords calls (every .listed .answers)) → Left r hs bs
+    unfolding outcomeOf heldIn answersIn isShort
+    calls-made r hs bs p o q =
+        let xs = answersWords calls (every .listed .answers) in
+        let size : length xs ≡ 5 * length calls = answersWords-length calls (every .listed .answers) (answers-length ask calls site (threads .at) held) in
+        let f : 0 + length xs ≡ 5 * length calls = omega arith in
+        rw (le-ltb (length b) (5 * length calls) h)
+        (p, o, q ∙ (sets-eq xs b 0 (omega arith) ∙ ap (λ (n : ℕ). xs ++ drop n b) f))
 
     -- the same list, asked otherwise
-    pub requests-same : (r : Listed) → all ≡ r → (o : Outcome) (bs : List ℕ) → o ≡ leftBy r → bs ≡ sets b 0 (answersWords (r .answers)) → Left o bs
-    requests-same r e o bs p q = requests-made o bs (rw e p) (rw e q)
+    pub calls-same : (r : Served) → every ≡ r → (o : Outcome) (hs bs : List ℕ) → o ≡ leftBy (r .listed) → hs ≡ r .held → bs ≡ sets b 0 (answersWords calls (r .listed .answers)) → Left o hs bs
+    calls-same r e o hs bs p f q = calls-made o hs bs (rw e p) (rw e f) (rw e q)
 
-    pub requests-refused : (n : ℕ) → ((k : ℕ) → ask site (threads .at) k ≡ refusedWith n site (threads .at)) → (r : Outcome) (bs : List ℕ)
-        → r ≡ record { number = 0; granted = 0; site = site; threads = threads } → bs ≡ sets b 0 (answersWords (replicate (length ks) (Refused n))) → Left r bs
-    requests-refused n each r bs e q =
-        let said = all-refused ask n site (threads .at) each ks in
-        let none : grantedIn (all .answers) ≡ 0 = ap grantedIn (said .answers) ∙ none-granted n (length ks) in
-        requests-made r bs
+    pub calls-refused : (n : ℕ) → ((c : Call) → ask site (threads .at) held c ≡ calledWith n site (threads .at) held) → (r : Outcome) (bs : List ℕ)
+        → r ≡ record { number = 0; granted = 0; site = site; threads = threads } → bs ≡ sets b 0 (answersWords calls (replicate (length calls) (Refused n))) → Left r held bs
+    calls-refused n each r bs e q =
+        let said = all-refused ask n site (threads .at) held each calls in
+        let none : grantedIn (every .listed .answers) ≡ 0 = ap grantedIn (said .answers) ∙ none-granted n (length calls) in
+        calls-made r held bs
         (e ∙ rw (none, said .same-site, said .same-threads) refl)
-        (q ∙ ap (λ (xs : List Answer). sets b 0 (answersWords xs)) (sym (said .answers)))
+        (sym (said .same-held))
+        (q ∙ ap (λ (xs : List Answer). sets b 0 (answersWords calls xs)) (sym (said .answers)))

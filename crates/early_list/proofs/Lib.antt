@@ -1,3 +1,4 @@
 pub mod AnswerWordLaws
+pub mod KeepsLaws
 pub mod GoingLaws
 pub mod Edges

@@ -1,14 +1,17 @@
-// A list of requests, all of it made on the fresh state: of a held model, and of a file's bytes.
+// A list of calls, all of it made on the fresh state: of a held model, and of a file's bytes.
 use early::Site;
 use model::Model;
 use model::Threads;
+ghost use Prim.Native.Nat.{_*_};
 ghost use mathlib.Core.Path.{_≡_};
+ghost use mathlib.Core.Bool.{_||_};
+ghost use lib.Dec.{ltb};
 ghost use lib.ListN.{length};
 ghost use Rattle.reader.specs.File.{readFile};
 ghost use Rattle.early.specs.ByRows.{LeftFree};
-ghost use Rattle.replay.specs.Replay.{refusedWith, replayedOn, wordsOn, answersOn, replayedByRows, answersByRows, replayedOf, wordsAfter, answersAfter, Keeps};
+ghost use Rattle.replay.specs.Replay.{refusedWith, replayedOn, wordsOn, heldOn, answersOn, replayedByRows, heldByRows, answersByRows, replayedOf, wordsAfter, heldAfter, answersAfter, Keeps};
 
-// What a replay leaves: the number of the refusal or 0, how many requests were granted, the counts of variables and threads, the state
+// What a replay leaves: the number of the refusal or 0, how many calls were not refused, the counts of variables and threads, the state
 // and the records.
 pub struct Replayed {
     pub number: u8,
@@ -33,15 +36,33 @@ fn refused(number: u8) -> Replayed
     }
 }
 
-// Every request of the list, the first on the fresh state of a held model, each later one on what the last one left: 11 for a buffer of
-// fewer than 4 words for each request, then 11 and 16 of the tables. Demand 3 is said of what is left.
-pub fn replay_on(m: Model, words: &mut [u64], ks: &[u8], answers: &mut [u64]) -> Replayed
-    ensures outcome { λ r. ⌜ r ≡ replayedOn m (now (words .entry)) (now (ks .entry)) (now (answers .entry)) ⌝ }
-    ensures tables { λ _. ⌜ now (words .exit) ≡ wordsOn m (now (words .entry)) (now (ks .entry)) (now (answers .entry)) ⌝ }
-    ensures written { λ _. ⌜ now (answers .exit) ≡ answersOn m (now (words .entry)) (now (ks .entry)) (now (answers .entry)) ⌝ }
-    ensures keeps { λ r. ⌜ (r .number ≡ 0 → Keeps m (now (ks .entry)) r) ⌝ }
+// 11 of what is lent: fewer than 5 words for each call, or fewer than 64 held values for each of t threads.
+fn is_unfit_lent(t: u8, held: usize, calls: usize, words: usize) -> bool
+    ensures { λ r. ⌜ r ≡ ltb words (5 * calls) || ltb held (64 * t) ⌝ }
 {
-    if answers.len() / 4 < ks.len() {
+    if words / 5 < calls {
+        return true;
+    }
+    held < 64 * buffers::wide(t)
+}
+
+// Every call of the list, the first on the fresh state of a held model, each later one on what the last one left: 11 for a buffer of
+// fewer than 5 words for each call or fewer than 64 held values for each thread, then 11 and 16 of the tables. The held values are left as
+// the list leaves them, so that a thread that is still running can be finished. Demand 3 is said of what is left.
+pub fn replay_on(
+    m: Model,
+    words: &mut [u64],
+    held: &mut [u32],
+    calls: &[u16],
+    answers: &mut [u64],
+) -> Replayed
+    ensures outcome { λ r. ⌜ r ≡ replayedOn m (now (words .entry)) (now (held .entry)) (now (calls .entry)) (now (answers .entry)) ⌝ }
+    ensures tables { λ _. ⌜ now (words .exit) ≡ wordsOn m (now (words .entry)) (now (held .entry)) (now (calls .entry)) (now (answers .entry)) ⌝ }
+    ensures holds { λ _. ⌜ now (held .exit) ≡ heldOn m (now (words .entry)) (now (held .entry)) (now (calls .entry)) (now (answers .entry)) ⌝ }
+    ensures written { λ _. ⌜ now (answers .exit) ≡ answersOn m (now (words .entry)) (now (held .entry)) (now (calls .entry)) (now (answers .entry)) ⌝ }
+    ensures keeps { λ r. ⌜ (r .number ≡ 0 → Keeps m (now (held .entry)) (now (calls .entry)) r (now (held .exit))) ⌝ }
+{
+    if is_unfit_lent(m.t, held.len(), calls.len(), answers.len()) {
         return refused(11);
     }
     let number = tables_distance::distances(m, words);
@@ -54,7 +75,16 @@ pub fn replay_on(m: Model, words: &mut [u64], ks: &[u8], answers: &mut [u64]) ->
     let marks = tables_conflict::conflict_marks(m);
     let n = buffers::wide(m.n);
     let size = n * n;
-    let left = early_list::requests(m, marks, &words[..size], site, threads, ks, answers);
+    let left = early_list::calls(
+        m,
+        marks,
+        &words[..size],
+        site,
+        threads,
+        held,
+        calls,
+        answers,
+    );
     let site = left.site;
     let threads = left.threads;
     Replayed {
@@ -67,14 +97,21 @@ pub fn replay_on(m: Model, words: &mut [u64], ks: &[u8], answers: &mut [u64]) ->
     }
 }
 
-// Document 02, slip 6: the same by rows, in 64 words that are left free: 11 for a short buffer of answers, 11 for the model, then 16.
-pub fn replay_by_rows(m: Model, row: &mut [u64], ks: &[u8], answers: &mut [u64]) -> Replayed
+// Document 02, slip 6: the same by rows, in 64 words that are left free: 11 for what is lent, 11 for the model, then 16.
+pub fn replay_by_rows(
+    m: Model,
+    row: &mut [u64],
+    held: &mut [u32],
+    calls: &[u16],
+    answers: &mut [u64],
+) -> Replayed
     ensures free { λ _. ⌜ LeftFree (now (row .entry)) (now (row .exit)) ⌝ }
-    ensures outcome { λ r. ⌜ r ≡ replayedByRows m (length (now (row .entry))) (now (ks .entry)) (now (answers .entry)) ⌝ }
-    ensures written { λ _. ⌜ now (answers .exit) ≡ answersByRows m (length (now (row .entry))) (now (ks .entry)) (now (answers .entry)) ⌝ }
-    ensures keeps { λ r. ⌜ (r .number ≡ 0 → Keeps m (now (ks .entry)) r) ⌝ }
+    ensures outcome { λ r. ⌜ r ≡ replayedByRows m (length (now (row .entry))) (now (held .entry)) (now (calls .entry)) (now (answers .entry)) ⌝ }
+    ensures holds { λ _. ⌜ now (held .exit) ≡ heldByRows m (length (now (row .entry))) (now (held .entry)) (now (calls .entry)) (now (answers .entry)) ⌝ }
+    ensures written { λ _. ⌜ now (answers .exit) ≡ answersByRows m (length (now (row .entry))) (now (held .entry)) (now (calls .entry)) (now (answers .entry)) ⌝ }
+    ensures keeps { λ r. ⌜ (r .number ≡ 0 → Keeps m (now (held .entry)) (now (calls .entry)) r (now (held .exit))) ⌝ }
 {
-    if answers.len() / 4 < ks.len() {
+    if is_unfit_lent(m.t, held.len(), calls.len(), answers.len()) {
         return refused(11);
     }
     let fresh = early_request::fresh(m);
@@ -87,7 +124,7 @@ pub fn replay_by_rows(m: Model, row: &mut [u64], ks: &[u8], answers: &mut [u64])
     let site = fresh.site;
     let threads = fresh.threads;
     let marks = tables_conflict::conflict_marks(m);
-    let after = early_list::requests_by_rows(m, marks, row, site, threads, ks, answers);
+    let after = early_list::calls_by_rows(m, marks, row, site, threads, held, calls, answers);
     let site = after.site;
     let threads = after.threads;
     Replayed {
@@ -101,16 +138,23 @@ pub fn replay_by_rows(m: Model, row: &mut [u64], ks: &[u8], answers: &mut [u64])
 }
 
 // The same as `replay_on` from a file's bytes: the file's number first.
-pub fn replay(file: &[u8], words: &mut [u64], ks: &[u8], answers: &mut [u64]) -> Replayed
-    ensures outcome { λ r. ⌜ r ≡ replayedOf (now (file .entry)) (now (words .entry)) (now (ks .entry)) (now (answers .entry)) ⌝ }
-    ensures tables { λ _. ⌜ now (words .exit) ≡ wordsAfter (now (file .entry)) (now (words .entry)) (now (ks .entry)) (now (answers .entry)) ⌝ }
-    ensures written { λ _. ⌜ now (answers .exit) ≡ answersAfter (now (file .entry)) (now (words .entry)) (now (ks .entry)) (now (answers .entry)) ⌝ }
-    ensures keeps { λ r. ⌜ (r .number ≡ 0 → Keeps (readFile (now (file .entry)) .model) (now (ks .entry)) r) ⌝ }
+pub fn replay(
+    file: &[u8],
+    words: &mut [u64],
+    held: &mut [u32],
+    calls: &[u16],
+    answers: &mut [u64],
+) -> Replayed
+    ensures outcome { λ r. ⌜ r ≡ replayedOf (now (file .entry)) (now (words .entry)) (now (held .entry)) (now (calls .entry)) (now (answers .entry)) ⌝ }
+    ensures tables { λ _. ⌜ now (words .exit) ≡ wordsAfter (now (file .entry)) (now (words .entry)) (now (held .entry)) (now (calls .entry)) (now (answers .entry)) ⌝ }
+    ensures holds { λ _. ⌜ now (held .exit) ≡ heldAfter (now (file .entry)) (now (words .entry)) (now (held .entry)) (now (calls .entry)) (now (answers .entry)) ⌝ }
+    ensures written { λ _. ⌜ now (answers .exit) ≡ answersAfter (now (file .entry)) (now (words .entry)) (now (held .entry)) (now (calls .entry)) (now (answers .entry)) ⌝ }
+    ensures keeps { λ r. ⌜ (r .number ≡ 0 → Keeps (readFile (now (file .entry)) .model) (now (held .entry)) (now (calls .entry)) r (now (held .exit))) ⌝ }
 {
     let read = reader_file::read_file(file);
     if read.number != 0 {
         return refused(read.number);
     }
     let m = read.model;
-    replay_on(m, words, ks, answers)
+    replay_on(m, words, held, calls, answers)
 }

@@ -55,14 +55,15 @@ use Rattle.model.proofs.Thread as T
 use Rattle.model.proofs.Threads as U
 use Rattle.model.proofs.Threads.Laws as U′
 use Rattle.early.specs.declared.Site.{Site}
-use Rattle.early.specs.Request.{Requested, requestOf}
+use Rattle.early.specs.Request.{requestOf}
+use Rattle.early.specs.Call.{Called}
 use Rattle.early_laws.proofs.RequestLaws.{requestOf-answers}
 use Rattle.early.proofs.Site as Sit
 use Rattle.early.proofs.Site.Laws as Sit′
 use Rattle.early_lent.specs.declared.Done.{Done}
 use Rattle.early_lent.specs.Answered.{askedOf}
 use Rattle.early_lent.specs.Moved.{loaded, stored, noThreads, movedOf, requestLent, doneOf}
-use Rattle.early_lent.proofs.MovedLaws.{moved-asked, moved-back, requestOf-moves}
+use Rattle.early_lent.proofs.MovedLaws.{moved-asked, moved-back, holdingNone, requestOf-moves}
 use Rattle.early_lent.proofs.WalkLaws.{threadsVal, clause}
 use Rattle.early_lent.proofs.RequestWalk.{askedVal, modelTy, modelVal, pastCounts, doneTy, Stands, stands, recordsTy, Again, Known, knows, loads, stores}
 use Rattle.early_lent.proofs.Asked as Ans
@@ -173,11 +174,11 @@ module _ {M : Type 1} (𝓤 : URA M) (H : Heap 𝓤) (A : Atoms 𝓤) (W : Given
 
   exits : (us : List Thread) → us ≡ stored ts n (left .threads) → length us ≡ length ts → Is Ans.the-row (left .asked) (askedVal (left .asked) ∷ []) → ent 𝓤 (⋆ 𝓤 H A (Ended us)) (Post (askedVal (left .asked)))
   exits us e long is =
-      let asked : List Thread → Requested = λ us. requestOf m marks (ds .now) site us (k .0) in
-      let right : left .asked ≡ askedOf (asked ts) = moved-asked m site asked (requestOf-moves m marks (ds .now) site (k .0)) ts in
+      let asked : List Thread → Called = λ us. holdingNone (requestOf m marks (ds .now) site us (k .0)) in
+      let right : left .asked ≡ askedOf (asked ts .left) = moved-asked m site [] asked (requestOf-moves m marks (ds .now) site (k .0)) ts in
       qed W (Ended us) ∵
       suffices ! _ (ends-at 𝓤 H A request.ended stayed (request.clauses 𝓤 H A mem run) W (((κ, (κ′, tt)), (q, (q′, tt)), tt, args, words), tt) (askedVal (left .asked)) (left .asked) (tt, (tt, (tt, (tt, (us, (tt, tt)))))) (tt, (tt, (tt, (tt, (long, (tt, tt))))))) $
-      says ! (right, e ∙ moved-back m site asked (requestOf-moves m marks (ds .now) site (k .0)) ts, rw right (requestOf-answers m marks (ds .now) site ts (k .0))) $
+      says ! (right, e ∙ moved-back m site [] asked (requestOf-moves m marks (ds .now) site (k .0)) ts, rw right (requestOf-answers m marks (ds .now) site ts (k .0))) $
       move ! (2 ∷ []) $ split ! $ move ! (0 ∷ 2 ∷ []) $ join ! $ frame ! $ drop ! $
       nothing ! $ owned ! No.the-row (Is No.the-row) (LL.makes No.the-type No′.the-plain 𝓤 H A) k _ k-is $ fjoin ! $ move ! (1 ∷ 0 ∷ []) $ fjoin ! $
       owned ! Sit.the-row (Is Sit.the-row) (LL.makes Sit.the-type Sit′.the-plain 𝓤 H A) site _ site-is $ fjoin ! $ move ! (1 ∷ 0 ∷ []) $ fjoin ! $
@@ -192,8 +193,12 @@ module _ {M : Type 1} (𝓤 : URA M) (H : Heap 𝓤) (A : Atoms 𝓤) (W : Given
     abbrev wordsTy : Ty
     wordsTy = sliceTy (tyRef (named 0) imm (tyInt w64))
 
+    -- what lies past the slice of records, and all
+    abbrev Past : Env 𝓤 H
+    Past = (τk, l₆) ∷ (tyInt w64, l₇) ∷ (tyInt w64, l₈) ∷ (U′.mir, l₉) ∷ (doneTy νd τa, l₁₀) ∷ (Again, l₁₁) ∷ (sliceTy Again, l₁₂) ∷ (U′.mir, l₁₃) ∷ (tyUnit, l₁₄) ∷ (Again, l₁₅) ∷ (sliceTy Again, l₁₆) ∷ []
+
     abbrev En : Env 𝓤 H
-    En = (τa, l₀) ∷ (modelTy ν τh τp, l₁) ∷ (τx, l₂) ∷ (wordsTy, l₃) ∷ (τs, l₄) ∷ (recordsTy, l₅) ∷ (τk, l₆) ∷ (tyInt w64, l₇) ∷ (tyInt w64, l₈) ∷ (U′.mir, l₉) ∷ (doneTy νd τa, l₁₀) ∷ (Again, l₁₁) ∷ (sliceTy Again, l₁₂) ∷ (U′.mir, l₁₃) ∷ (tyUnit, l₁₄) ∷ (Again, l₁₅) ∷ (sliceTy Again, l₁₆) ∷ []
+    En = (τa, l₀) ∷ (modelTy ν τh τp, l₁) ∷ (τx, l₂) ∷ (wordsTy, l₃) ∷ (τs, l₄) ∷ (recordsTy, l₅) ∷ Past
 
     -- what `loads` takes, then what is passed on, then the locals to come, then that each local ends
     abbrev Begun : List (Item 𝓤)
@@ -206,7 +211,7 @@ module _ {M : Type 1} (𝓤 : URA M) (H : Heap 𝓤) (A : Atoms 𝓤) (W : Given
 
     begun : Sq W Begun (runs C Λ En steps.t-1 (atRet En Left))
     begun =
-        loads 𝓤 H A W mem run C Λ fm (known .moves) κ′ q′ b o γ ts room m vh vp t-is ν τh τp (τa, l₀) (τx, l₂) (wordsTy, l₃) (τs, l₄) (τk, l₆) (doneTy νd τa, l₁₀) l₁ l₅ l₇ l₈ l₉ l₁₁ l₁₂ l₁₃ ((tyUnit, l₁₄) ∷ (Again, l₁₅) ∷ (sliceTy Again, l₁₆) ∷ []) (λ is.
+        loads 𝓤 H A W mem run C Λ fm (known .moves) κ′ q′ b o γ ts room m vh vp t-is ν τh τp (τa, l₀) (τx, l₂) (wordsTy, l₃) (τs, l₄) Past l₁ l₅ l₇ l₈ l₉ l₁₁ l₁₂ l₁₃ 7 8 9 11 12 13 refl refl refl refl refl refl (λ is.
         -- `request_of`
         move ! (11 ∷ []) $ use1 W (‵ Words ⊛ ‵ Words) (shr-slice-copy 𝓤 H A W (named 0) κ u64 .twice ds (w ∷ [])) $ split ! $ move ! (12 ∷ 0 ∷ []) $
         use2 W (raw (Ask 𝓤 H A mem run .pre to-ask)) (asks-ask is) $
@@ -218,7 +223,7 @@ module _ {M : Type 1} (𝓤 : URA M) (H : Heap 𝓤) (A : Atoms 𝓤) (W : Given
         land ! (from ! (stop !)) (init ! 16 refl (returned r v e r-is .typed)) $ rewrite ! 16 (λ (y : Val). ‵ (fat fullShare (doneTy νd τa) l₁₀ 0 y)) (returned r v e r-is .is) refl $
         -- [κ's token; the words; the slice; κ′'s token; …]
         move ! (2 ∷ 3 ∷ 5 ∷ 7 ∷ 16 ∷ 17 ∷ 18 ∷ 19 ∷ 20 ∷ []) $
-        stores 𝓤 H A W mem run C Λ fm (known .moves) κ′ q′ b o γ ts room m (left .threads) (returned r v e r-is .threads) νd τa va (returned r v e r-is .asked-typed) (modelTy ν τh τp, l₁) (τx, l₂) (wordsTy, l₃) (τs, l₄) (τk, l₆) (tyInt w64, l₇) (U′.mir, l₉) l₀ l₅ l₈ l₁₀ l₁₄ l₁₅ l₁₆ ((Again, l₁₁) ∷ (sliceTy Again, l₁₂) ∷ (U′.mir, l₁₃) ∷ (tyUnit, l₁₄) ∷ (Again, l₁₅) ∷ (sliceTy Again, l₁₆) ∷ []) 14 15 16 refl refl refl (λ us e₂ long.
+        stores 𝓤 H A W mem run C Λ fm (known .moves) κ′ q′ b o γ ts room m (left .threads) (returned r v e r-is .threads) νd τa va (returned r v e r-is .asked-typed) (modelTy ν τh τp, l₁) (τx, l₂) (wordsTy, l₃) (τs, l₄) Past l₀ l₅ l₈ l₁₀ l₁₄ l₁₅ l₁₆ 8 10 14 15 16 refl refl refl refl refl (λ us e₂ long.
         -- [κ′'s token; the last records; …]: every local is freed
         returns ! (look ! 8 refl) $ forget ! 2 refl $ forget ! 3 refl $ forget ! 4 refl $ forget ! 8 refl $ forget ! 11 refl $ forget ! 12 refl $ forget ! 13 refl $ forget ! 17 refl $ forget ! 18 refl $ forget ! 19 refl $ forget ! 20 refl $
         move ! (8 ∷ 21 ∷ 11 ∷ 22 ∷ 17 ∷ 23 ∷ 18 ∷ 24 ∷ 19 ∷ 25 ∷ 2 ∷ 26 ∷ 20 ∷ 27 ∷ 12 ∷ 28 ∷ 3 ∷ 29 ∷ 13 ∷ 30 ∷ 4 ∷ 31 ∷ 14 ∷ 32 ∷ 15 ∷ 33 ∷ 16 ∷ 34 ∷ 5 ∷ 35 ∷ 6 ∷ 36 ∷ 7 ∷ 37 ∷ []) $

@@ -54,14 +54,14 @@ use Rattle.model.proofs.Thread as T
 use Rattle.model.proofs.Threads as U
 use Rattle.model.proofs.Threads.Laws as U′
 use Rattle.early.specs.declared.Site.{Site}
-use Rattle.early.specs.Request.{Requested}
+use Rattle.early.specs.Call.{Called}
 use Rattle.early.specs.ByRows.{requestByRows, LeftFree}
 use Rattle.early.proofs.Site as Sit
 use Rattle.early.proofs.Site.Laws as Sit′
 use Rattle.early_lent.specs.declared.Done.{Done}
 use Rattle.early_lent.specs.Answered.{askedOf}
 use Rattle.early_lent.specs.Moved.{loaded, stored, noThreads, movedOf, rowsLent, doneOf}
-use Rattle.early_lent.proofs.MovedLaws.{moved-asked, moved-back}
+use Rattle.early_lent.proofs.MovedLaws.{moved-asked, moved-back, holdingNone}
 use Rattle.early_lent.proofs.RowsLaws.{requestByRows-moves}
 use Rattle.early_lent.proofs.WalkLaws.{threadsVal}
 use Rattle.early_lent.proofs.RequestWalk.{askedVal, modelTy, modelVal, pastCounts, doneTy, Stands, stands, recordsTy, Again, Known, knows, loads, stores}
@@ -173,11 +173,11 @@ module _ {M : Type 1} (𝓤 : URA M) (H : Heap 𝓤) (A : Atoms 𝓤) (W : Given
 
   exits : (us : List Thread) → us ≡ stored ts n (left .threads) → length us ≡ length ts → (zs : List ℕ) → LeftFree (rs .now) zs → Is Ans.the-row (left .asked) (askedVal (left .asked) ∷ []) → ent 𝓤 (⋆ 𝓤 H A (Ended us zs)) (Post (askedVal (left .asked)))
   exits us e long zs free is =
-      let asked : List Thread → Requested = λ us. requestByRows m marks (length (rs .now)) site us (k .0) in
-      let right : left .asked ≡ askedOf (asked ts) = moved-asked m site asked (requestByRows-moves m marks (length (rs .now)) site (k .0)) ts in
+      let asked : List Thread → Called = λ us. holdingNone (requestByRows m marks (length (rs .now)) site us (k .0)) in
+      let right : left .asked ≡ askedOf (asked ts .left) = moved-asked m site [] asked (requestByRows-moves m marks (length (rs .now)) site (k .0)) ts in
       qed W (Ended us zs) ∵
       suffices ! _ (ends-at 𝓤 H A rows.ended stayed (rows.clauses 𝓤 H A mem run) W (((κ, (κ′, tt)), (q, (q′, tt)), tt, args, words), tt) (askedVal (left .asked)) (left .asked) (tt, (tt, (zs, (tt, (us, (tt, tt)))))) (tt, (tt, (free .as-many, (tt, (long, (tt, tt))))))) $
-      says ! (right, e ∙ moved-back m site asked (requestByRows-moves m marks (length (rs .now)) site (k .0)) ts, free) $
+      says ! (right, e ∙ moved-back m site [] asked (requestByRows-moves m marks (length (rs .now)) site (k .0)) ts, free) $
       move ! (2 ∷ []) $ split ! $ move ! (0 ∷ 2 ∷ []) $ join ! $ frame ! $ drop ! $
       nothing ! $ owned ! No.the-row (Is No.the-row) (LL.makes No.the-type No′.the-plain 𝓤 H A) k _ k-is $ fjoin ! $ move ! (1 ∷ 0 ∷ []) $ fjoin ! $
       owned ! Sit.the-row (Is Sit.the-row) (LL.makes Sit.the-type Sit′.the-plain 𝓤 H A) site _ site-is $ fjoin ! $ move ! (1 ∷ 0 ∷ []) $ fjoin ! $
@@ -195,8 +195,12 @@ module _ {M : Type 1} (𝓤 : URA M) (H : Heap 𝓤) (A : Atoms 𝓤) (W : Given
     abbrev Row : Ty
     Row = tyRef erased mut (tyInt w64)
 
+    -- what lies past the slice of records, and all
+    abbrev Past : Env 𝓤 H
+    Past = (τk, l₆) ∷ (tyInt w64, l₇) ∷ (tyInt w64, l₈) ∷ (U′.mir, l₉) ∷ (doneTy νd τa, l₁₀) ∷ (Again, l₁₁) ∷ (sliceTy Again, l₁₂) ∷ (U′.mir, l₁₃) ∷ (Row, l₁₄) ∷ (sliceTy Row, l₁₅) ∷ (tyUnit, l₁₆) ∷ (Again, l₁₇) ∷ (sliceTy Again, l₁₈) ∷ []
+
     abbrev En : Env 𝓤 H
-    En = (τa, l₀) ∷ (modelTy ν τh τp, l₁) ∷ (τx, l₂) ∷ (wordsTy, l₃) ∷ (τs, l₄) ∷ (recordsTy, l₅) ∷ (τk, l₆) ∷ (tyInt w64, l₇) ∷ (tyInt w64, l₈) ∷ (U′.mir, l₉) ∷ (doneTy νd τa, l₁₀) ∷ (Again, l₁₁) ∷ (sliceTy Again, l₁₂) ∷ (U′.mir, l₁₃) ∷ (Row, l₁₄) ∷ (sliceTy Row, l₁₅) ∷ (tyUnit, l₁₆) ∷ (Again, l₁₇) ∷ (sliceTy Again, l₁₈) ∷ []
+    En = (τa, l₀) ∷ (modelTy ν τh τp, l₁) ∷ (τx, l₂) ∷ (wordsTy, l₃) ∷ (τs, l₄) ∷ (recordsTy, l₅) ∷ Past
 
     -- what `loads` takes, then what is passed on, then the locals to come, then that each local ends
     abbrev Begun : List (Item 𝓤)
@@ -209,7 +213,7 @@ module _ {M : Type 1} (𝓤 : URA M) (H : Heap 𝓤) (A : Atoms 𝓤) (W : Given
 
     begun : Sq W Begun (runs C Λ En steps.t-1 (atRet En Left))
     begun =
-        loads 𝓤 H A W mem run C Λ fm (known .moves) κ′ q′ b o γ ts room m vh vp t-is ν τh τp (τa, l₀) (τx, l₂) (wordsTy, l₃) (τs, l₄) (τk, l₆) (doneTy νd τa, l₁₀) l₁ l₅ l₇ l₈ l₉ l₁₁ l₁₂ l₁₃ ((Row, l₁₄) ∷ (sliceTy Row, l₁₅) ∷ (tyUnit, l₁₆) ∷ (Again, l₁₇) ∷ (sliceTy Again, l₁₈) ∷ []) (λ is.
+        loads 𝓤 H A W mem run C Λ fm (known .moves) κ′ q′ b o γ ts room m vh vp t-is ν τh τp (τa, l₀) (τx, l₂) (wordsTy, l₃) (τs, l₄) Past l₁ l₅ l₇ l₈ l₉ l₁₁ l₁₂ l₁₃ 7 8 9 11 12 13 refl refl refl refl refl refl (λ is.
         -- the words, to be given up
         assigns ! (addr ! (from ! (fld ! refl (hop ! (look-in ! 13 (sub ! 0 refl (whole !))) (stop !))))) (from ! (stop !)) (init ! 21 refl (tt, tt)) $
         assigns ! (agg ! (and-then ! (load ! (from ! (stop !)) (look ! 21 refl)) (and-then ! (load ! (from ! (fld ! refl (stop !))) (look-in ! 13 (sub ! 1 refl (whole !)))) (no-more !)))) (from ! (stop !)) (init ! 22 refl (tt, (tt, (record { fits = rs-room .0 }, tt)))) $
@@ -225,7 +229,7 @@ module _ {M : Type 1} (𝓤 : URA M) (H : Heap 𝓤) (A : Atoms 𝓤) (W : Given
         land ! (from ! (stop !)) (init ! 16 refl (returned r v e r-is .typed)) $ rewrite ! 16 (λ (y : Val). ‵ (fat fullShare (doneTy νd τa) l₁₀ 0 y)) (returned r v e r-is .is) refl $
         -- [κ's token; the last words; the slice; κ′'s token; …]
         move ! (2 ∷ 3 ∷ 5 ∷ 7 ∷ 16 ∷ 17 ∷ 18 ∷ 19 ∷ 20 ∷ []) $
-        stores 𝓤 H A W mem run C Λ fm (known .moves) κ′ q′ b o γ ts room m (left .threads) (returned r v e r-is .threads) νd τa va (returned r v e r-is .asked-typed) (modelTy ν τh τp, l₁) (τx, l₂) (wordsTy, l₃) (τs, l₄) (τk, l₆) (tyInt w64, l₇) (U′.mir, l₉) l₀ l₅ l₈ l₁₀ l₁₆ l₁₇ l₁₈ ((Again, l₁₁) ∷ (sliceTy Again, l₁₂) ∷ (U′.mir, l₁₃) ∷ (Row, l₁₄) ∷ (sliceTy Row, l₁₅) ∷ (tyUnit, l₁₆) ∷ (Again, l₁₇) ∷ (sliceTy Again, l₁₈) ∷ []) 16 17 18 refl refl refl (λ us e₂ long.
+        stores 𝓤 H A W mem run C Λ fm (known .moves) κ′ q′ b o γ ts room m (left .threads) (returned r v e r-is .threads) νd τa va (returned r v e r-is .asked-typed) (modelTy ν τh τp, l₁) (τx, l₂) (wordsTy, l₃) (τs, l₄) Past l₀ l₅ l₈ l₁₀ l₁₆ l₁₇ l₁₈ 8 10 16 17 18 refl refl refl refl refl (λ us e₂ long.
         -- [κ′'s token; the last records; …]: every local is freed
         returns ! (look ! 8 refl) $ forget ! 2 refl $ forget ! 3 refl $ forget ! 4 refl $ forget ! 8 refl $ forget ! 11 refl $ forget ! 12 refl $ forget ! 13 refl $ forget ! 17 refl $ forget ! 18 refl $ forget ! 19 refl $ forget ! 20 refl $ forget ! 21 refl $ forget ! 22 refl $
         move ! (8 ∷ 23 ∷ 11 ∷ 24 ∷ 17 ∷ 25 ∷ 18 ∷ 26 ∷ 19 ∷ 27 ∷ 2 ∷ 28 ∷ 20 ∷ 29 ∷ 12 ∷ 30 ∷ 3 ∷ 31 ∷ 13 ∷ 32 ∷ 4 ∷ 33 ∷ 14 ∷ 34 ∷ 15 ∷ 35 ∷ 16 ∷ 36 ∷ 21 ∷ 37 ∷ 22 ∷ 38 ∷ 5 ∷ 39 ∷ 6 ∷ 40 ∷ 7 ∷ 41 ∷ []) $

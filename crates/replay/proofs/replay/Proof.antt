@@ -6,19 +6,21 @@ use Rattle.replay.proofs.replay.Tie as tie
 
 returns : tie.Need-returns
 returns c =
-    let a = c .before .before .before .before .before .before .before .before .args in
-    let r = c .before .before .before .read-file in
-    replay-refused (a .file .now) (a .words .now) (a .ks .now) (a .answers .now) (r .result) (r .ensures) (c .before .if1 .taken) (c .refused .result) (c .refused .ensures)
+    let f = c .before .before .before in
+    let a = f .before .before .before .before .before .before .args in
+    let r = f .read-file in
+    replay-refused (a .file .now) (a .words .now) (a .held .now) (a .calls .now) (a .answers .now) (r .result) (r .ensures) (c .before .if1 .taken) (c .refused .result) (c .refused .ensures)
 
 returns-2 : tie.Need-returns-2
 returns-2 c =
-    let a = c .before .before .before .before .before .before .before .before .before .before .before .before .before .before .before .args in
-    let r = c .before .before .before .before .before .before .before .before .before .before .read-file in
-    let o = c .before .before .before .before .replay-on in
-    replay-accepted (a .file .now) (a .words .now) (a .ks .now) (a .answers .now) (r .result) (r .ensures) (c .before .before .before .before .before .before .before .before .if1 .left) (o .result) _ _ (o .ensures)
+    let o = c .before .before .before .before .before .before .replay-on in
+    let f = c .before .before .before .before .before .before .before .before .before .before .before .before .before in
+    let a = f .before .before .before .before .before .before .args in
+    let r = f .read-file in
+    replay-accepted (a .file .now) (a .words .now) (a .held .now) (a .calls .now) (a .answers .now) (r .result) (r .ensures) (c .before .before .before .before .before .before .before .before .before .before .before .if1 .left) (o .result) _ _ _ (o .ensures)
 
 pub replay-spec : {M : Type 1} → statement M
 replay-spec =
     tie.close
     (tie.spec (λ c κs. search needs) (λ c κs. search needs) returns (λ c κs. search needs) (λ c. search needs)
-    (λ c. search needs) returns-2)
+    (λ c. search needs) (λ c. search needs) returns-2)
