@@ -1,4 +1,4 @@
--- What `replayrun` prints of a list of requests, byte by byte, in ASCII: a line for each request, the sheet's lines of the
+-- What `replayrun` prints of a list of calls, byte by byte, in ASCII: a line for each call, the sheet's lines of the
 -- variables and the threads, a line for each logged notification.
 use Prim.Native.Nat.{ℕ, zero, suc, _+_, _*_, min}
 use mathlib.Core.Bool.{Bool, cond, _||_}
@@ -20,25 +20,36 @@ use Rattle.transcript.specs.Label.{noNumber}
 unfoldable pub labelWord : ℕ → List ℕ
 labelWord x = cond (eqb x noNumber) (63 ∷ []) (digitsOf x)
 
--- "A request answers either the segment run with its cycle, or one refusal number": `granted SEG TIME DELTA` or `refused N`
-unfoldable pub printedAnswer : ℕ → ℕ → ℕ → ℕ → List (List ℕ)
-printedAnswer number segment time delta =
+-- what a call's word says of its line: `r`, from 256 on `g`, from 512 on `f`
+unfoldable pub letterOf : ℕ → ℕ
+letterOf w = cond (ltb w 256) 114 (cond (ltb w 512) 103 102)
+
+-- `granted`, of a finish `finished`
+unfoldable pub doneWord : ℕ → List ℕ
+doneWord w = cond (ltb w 512) (103 ∷ 114 ∷ 97 ∷ 110 ∷ 116 ∷ 101 ∷ 100 ∷ []) (102 ∷ 105 ∷ 110 ∷ 105 ∷ 115 ∷ 104 ∷ 101 ∷ 100 ∷ [])
+
+-- "A request answers either the segment run with its cycle, or one refusal number", and a grant and a finish "answer as it does":
+-- `granted SEG TIME DELTA` or `refused N`
+unfoldable pub printedAnswer : ℕ → ℕ → ℕ → ℕ → ℕ → List (List ℕ)
+printedAnswer w number segment time delta =
     cond (eqb number accepted)
-    ((103 ∷ 114 ∷ 97 ∷ 110 ∷ 116 ∷ 101 ∷ 100 ∷ []) ∷ digitsOf segment ∷ digitsOf time ∷ digitsOf delta ∷ [])
+    (doneWord w ∷ digitsOf segment ∷ digitsOf time ∷ digitsOf delta ∷ [])
     ((114 ∷ 101 ∷ 102 ∷ 117 ∷ 115 ∷ 101 ∷ 100 ∷ []) ∷ digitsOf number ∷ [])
 
--- `r`, the label, the answer
-unfoldable pub rLine : ℕ → ℕ → ℕ → ℕ → ℕ → List ℕ
-rLine label number segment time delta = lineOf (114 ∷ []) (labelWord label ∷ printedAnswer number segment time delta)
+-- the letter, the label, the answer
+unfoldable pub callLine : ℕ → ℕ → ℕ → ℕ → ℕ → ℕ → List ℕ
+callLine label w number segment time delta =
+    lineOf (letterOf w ∷ []) (labelWord label ∷ printedAnswer w number segment time delta)
 
--- the answer of request i stands at words 4 i to 4 i + 3: number, segment, time, delta
-unfoldable pub rLineAt : List ℕ → List ℕ → ℕ → List ℕ
-rLineAt labels ws i = rLine (getD labels i 0) (getD ws (4 * i) 0) (getD ws (4 * i + 1) 0) (getD ws (4 * i + 2) 0) (getD ws (4 * i + 3) 0)
+-- the answer of call i stands at words 5 i to 5 i + 4: the call's word, number, segment, time, delta
+unfoldable pub callLineAt : List ℕ → List ℕ → ℕ → List ℕ
+callLineAt labels ws i =
+    callLine (getD labels i 0) (getD ws (5 * i) 0) (getD ws (5 * i + 1) 0) (getD ws (5 * i + 2) 0) (getD ws (5 * i + 3) 0) (getD ws (5 * i + 4) 0)
 
--- the lines of the first so many requests
-unfoldable pub rLines : ℕ → List ℕ → List ℕ → List ℕ
-rLines zero labels ws = []
-rLines (suc i) labels ws = rLines i labels ws ++ rLineAt labels ws i
+-- the lines of the first so many calls
+unfoldable pub callLines : ℕ → List ℕ → List ℕ → List ℕ
+callLines zero labels ws = []
+callLines (suc i) labels ws = callLines i labels ws ++ callLineAt labels ws i
 
 -- a logged notification: event, cycle
 unfoldable pub lLine : Notification → List ℕ
@@ -57,15 +68,15 @@ closingOf v t site ts =
 abbrev pub mostRequests : ℕ
 mostRequests = 1024
 
--- more requests than a transcript holds, or fewer than 4 words for each
+-- more calls than a transcript holds, or fewer than 5 words for each
 unfoldable pub isUnfitList : List ℕ → List ℕ → Bool
-isUnfitList labels ws = ltb mostRequests (length labels) || ltb (length ws) (4 * length labels)
+isUnfitList labels ws = ltb mostRequests (length labels) || ltb (length ws) (5 * length labels)
 
 -- the whole text; only `refused 11` of an unfit list
 unfoldable pub transcriptOf : List ℕ → List ℕ → ℕ → ℕ → Site → List Thread → List ℕ
 transcriptOf labels ws v t site ts =
-    cond (isUnfitList labels ws) (refusedLine unfit) (rLines (length labels) labels ws ++ closingOf v t site ts)
+    cond (isUnfitList labels ws) (refusedLine unfit) (callLines (length labels) labels ws ++ closingOf v t site ts)
 
--- how many bytes a transcript has at most: 1,024 lines of 94, 64 of 44, 32 of 112, 128 of 65, with 20 digits for each number
+-- how many bytes a transcript has at most: 1,024 lines of 95, 64 of 44, 32 of 112, 128 of 65, with 20 digits for each number
 abbrev pub longestTranscript : ℕ
-longestTranscript = 110976
+longestTranscript = 112000

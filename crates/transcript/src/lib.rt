@@ -1,1 +1,1 @@
-// The transcript of a list of requests that `replayrun` prints. Definitions only; crate `transcript_print` has the code.
+// The transcript of a list of calls that `replayrun` prints. Definitions only; crate `transcript_print` has the code.

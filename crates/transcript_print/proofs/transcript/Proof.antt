@@ -35,8 +35,8 @@ returns-3 c =
     let a = k .before .before .before .before .before .args in
     let g = k .before .if1 .left in
     let whole = transcript-whole (a .labels .now) (a .answers .now) (a .v) (a .t) (a .site) (a .threads .at) g (k .if2 .left) in
-    let put = puts-then {ys = closingOf (a .v) (a .t) (a .site) (a .threads .at)} (rs .put-r-lines .ensures .0) (cs .put-closing .ensures .0) in
-    held-text put (omega arith) (whole-fits (a .labels .now) g (rs .put-r-lines .ensures .1) (cs .put-closing .ensures .1)) whole (c .before .before .copy-in .ensures)
+    let put = puts-then {ys = closingOf (a .v) (a .t) (a .site) (a .threads .at)} (rs .put-call-lines .ensures .0) (cs .put-closing .ensures .0) in
+    held-text put (omega arith) (whole-fits (a .labels .now) g (rs .put-call-lines .ensures .1) (cs .put-closing .ensures .1)) whole (c .before .before .copy-in .ensures)
 
 pub transcript-spec : {M : Type 1} → statement M
 transcript-spec =
