@@ -4,14 +4,14 @@ use std::time::Instant;
 
 extern "C" {
     fn teaselauger_replay(
-        file: *const u8, n: usize, words: *mut u64, w: usize, threads: *const u8, t: usize, answers: *mut u64, a: usize, variables: *mut u32, v: usize, log: *mut u64, l: usize, records: *mut u64, r: usize,
+        file: *const u8, n: usize, words: *mut u64, w: usize, held: *mut u32, h: usize, calls: *const u16, c: usize, answers: *mut u64, a: usize, variables: *mut u32, v: usize, log: *mut u64, l: usize, records: *mut u64, r: usize,
     ) -> u8;
     fn teaselauger_fresh(file: *const u8, n: usize, variables: *mut u32, v: usize, log: *mut u64, l: usize, records: *mut u64, r: usize) -> u8;
     fn teaselauger_request(
         file: *const u8, n: usize, words: *const u64, w: usize, variables: *mut u32, v: usize, log: *mut u64, l: usize, records: *mut u64, r: usize, thread: u8, answer: *mut u64, a: usize,
     ) -> u8;
     fn teaselauger_replay_by_rows(
-        file: *const u8, n: usize, row: *mut u64, w: usize, threads: *const u8, t: usize, answers: *mut u64, a: usize, variables: *mut u32, v: usize, log: *mut u64, l: usize, records: *mut u64, r: usize,
+        file: *const u8, n: usize, row: *mut u64, w: usize, held: *mut u32, h: usize, calls: *const u16, c: usize, answers: *mut u64, a: usize, variables: *mut u32, v: usize, log: *mut u64, l: usize, records: *mut u64, r: usize,
     ) -> u8;
     fn teaselauger_request_by_rows(
         file: *const u8, n: usize, row: *mut u64, w: usize, variables: *mut u32, v: usize, log: *mut u64, l: usize, records: *mut u64, r: usize, thread: u8, answer: *mut u64, a: usize,
@@ -75,21 +75,22 @@ struct Entry {
     variables: [u32; 64],
     log: [u64; 385],
     records: [u64; 160],
+    held: Vec<u32>,
     answers: Vec<u64>,
 }
 
 impl Entry {
     fn new(words: usize, by_rows: bool, requests: usize) -> Entry {
-        Entry { words: vec![u64::MAX; words], by_rows, variables: [0; 64], log: [0; 385], records: [0; 160], answers: vec![0; 4 * requests] }
+        Entry { words: vec![u64::MAX; words], by_rows, variables: [0; 64], log: [0; 385], records: [0; 160], held: vec![0; 2048], answers: vec![0; 5 * requests] }
     }
 
     // The nanoseconds of a list.
-    fn list(&mut self, b: &[u8], ks: &[u8]) -> f64 {
+    fn list(&mut self, b: &[u8], ks: &[u16]) -> f64 {
         let call = if self.by_rows { teaselauger_replay_by_rows } else { teaselauger_replay };
-        let Entry { words, variables: v, log: l, records: r, answers: x, .. } = self;
+        let Entry { words, variables: v, log: l, records: r, held: h, answers: x, .. } = self;
         let start = Instant::now();
         let number = unsafe {
-            call(black_box(b.as_ptr()), b.len(), words.as_mut_ptr(), words.len(), ks.as_ptr(), ks.len(), x.as_mut_ptr(), x.len(), v.as_mut_ptr(), v.len(), l.as_mut_ptr(), l.len(), r.as_mut_ptr(), r.len())
+            call(black_box(b.as_ptr()), b.len(), words.as_mut_ptr(), words.len(), h.as_mut_ptr(), h.len(), ks.as_ptr(), ks.len(), x.as_mut_ptr(), x.len(), v.as_mut_ptr(), v.len(), l.as_mut_ptr(), l.len(), r.as_mut_ptr(), r.len())
         };
         let took = start.elapsed().as_nanos() as f64;
         assert_eq!(number, 0);
@@ -98,7 +99,7 @@ impl Entry {
 
     // The nanoseconds of the same requests one at a time; the list was made before.
     fn one_at_a_time(&mut self, b: &[u8], ks: &[u8]) -> f64 {
-        let Entry { words, by_rows, variables: v, log: l, records: r, answers: x } = self;
+        let Entry { words, by_rows, variables: v, log: l, records: r, answers: x, .. } = self;
         let mut answer = [0; 3];
         let start = Instant::now();
         assert_eq!(unsafe { teaselauger_fresh(b.as_ptr(), b.len(), v.as_mut_ptr(), v.len(), l.as_mut_ptr(), l.len(), r.as_mut_ptr(), r.len()) }, 0);
@@ -110,7 +111,7 @@ impl Entry {
                     teaselauger_request(b.as_ptr(), b.len(), words.as_ptr(), words.len(), v.as_mut_ptr(), v.len(), l.as_mut_ptr(), l.len(), r.as_mut_ptr(), r.len(), k, answer.as_mut_ptr(), 3)
                 }
             };
-            assert_eq!(number as u64, x[4 * i]);
+            assert_eq!(number as u64, x[5 * i + 1]);
         }
         start.elapsed().as_nanos() as f64
     }
@@ -128,6 +129,7 @@ fn main() {
         let n = 2000usize;
         let mut seed = 1u64;
         let ks: Vec<u8> = (0..n).map(|_| { seed = seed.wrapping_mul(6364136223846793005).wrapping_add(1442695040888963407); ((seed >> 33) % t as u64) as u8 }).collect();
+        let calls: Vec<u16> = ks.iter().map(|&k| k as u16).collect();
         let (mut full, mut by_rows, mut y) = (Entry::new(segments * segments, false, n), Entry::new(64, true, n), vec![0u64; 4 * n]);
         let (mut granted, mut ahead) = (0u64, 0u64);
         let mut native = |n: usize, y: &mut Vec<u64>| unsafe {
@@ -138,10 +140,11 @@ fn main() {
         // Of each: no requests, then all.
         let mut least = [f64::INFINITY; 6];
         for _ in 0..15 {
-            let took = [full.list(&b, &[]), native(0, &mut y), by_rows.list(&b, &[]), full.list(&b, &ks), native(n, &mut y), by_rows.list(&b, &ks)];
+            let took = [full.list(&b, &[]), native(0, &mut y), by_rows.list(&b, &[]), full.list(&b, &calls), native(n, &mut y), by_rows.list(&b, &calls)];
             least = std::array::from_fn(|i| least[i].min(took[i]));
         }
-        assert!(full.answers == y && full.answers == by_rows.answers, "the answers of {name} differ");
+        let same = full.answers.chunks(5).zip(y.chunks(4)).all(|(a, b)| &a[1..] == b);
+        assert!(same && full.answers == by_rows.answers, "the answers of {name} differ");
         let mut ones = [f64::INFINITY; 2];
         for _ in 0..5 {
             let took = [full.one_at_a_time(&b, &ks), by_rows.one_at_a_time(&b, &ks)];

@@ -8,10 +8,11 @@
 
 enum { STACK = 1 << 22, PAINT = 0xa5, LIST = 256 };
 
-static uint8_t file[65536], out[TEASELAUGER_SHEET], threads[LIST], *stack;
+static uint8_t file[65536], out[TEASELAUGER_SHEET], *stack;
+static uint16_t calls_made[LIST];
 static size_t n;
-static uint64_t words[TEASELAUGER_WORDS], row[TEASELAUGER_ROW], log_words[TEASELAUGER_LOG], records[TEASELAUGER_RECORDS], answers[4 * LIST];
-static uint32_t variables[TEASELAUGER_VARIABLES], numbers[TEASELAUGER_MODEL];
+static uint64_t words[TEASELAUGER_WORDS], row[TEASELAUGER_ROW], log_words[TEASELAUGER_LOG], records[TEASELAUGER_RECORDS], answers[5 * LIST];
+static uint32_t variables[TEASELAUGER_VARIABLES], held[TEASELAUGER_HELD], numbers[TEASELAUGER_MODEL];
 static uint8_t again[TEASELAUGER_FILE];
 
 static void call_read(void) { teaselauger_read(file, n); }
@@ -25,8 +26,8 @@ static void call_request(void) {
                       answers, 3);
 }
 static void call_replay(void) {
-  teaselauger_replay(file, n, words, TEASELAUGER_WORDS, threads, LIST, answers, 4 * LIST, variables, TEASELAUGER_VARIABLES, log_words, TEASELAUGER_LOG,
-                     records, TEASELAUGER_RECORDS);
+  teaselauger_replay(file, n, words, TEASELAUGER_WORDS, held, TEASELAUGER_HELD, calls_made, LIST, answers, 5 * LIST, variables, TEASELAUGER_VARIABLES,
+                     log_words, TEASELAUGER_LOG, records, TEASELAUGER_RECORDS);
 }
 static void call_load_by_rows(void) { teaselauger_load_by_rows(file, n, row, TEASELAUGER_ROW); }
 static void call_request_by_rows(void) {
@@ -34,8 +35,24 @@ static void call_request_by_rows(void) {
                               TEASELAUGER_RECORDS, 0, answers, 3);
 }
 static void call_replay_by_rows(void) {
-  teaselauger_replay_by_rows(file, n, row, TEASELAUGER_ROW, threads, LIST, answers, 4 * LIST, variables, TEASELAUGER_VARIABLES, log_words,
-                             TEASELAUGER_LOG, records, TEASELAUGER_RECORDS);
+  teaselauger_replay_by_rows(file, n, row, TEASELAUGER_ROW, held, TEASELAUGER_HELD, calls_made, LIST, answers, 5 * LIST, variables,
+                             TEASELAUGER_VARIABLES, log_words, TEASELAUGER_LOG, records, TEASELAUGER_RECORDS);
+}
+static void call_grant(void) {
+  teaselauger_grant(file, n, words, TEASELAUGER_WORDS, held, TEASELAUGER_HELD, variables, TEASELAUGER_VARIABLES, log_words, TEASELAUGER_LOG, records,
+                    TEASELAUGER_RECORDS, 0, answers, 3);
+}
+static void call_finish(void) {
+  teaselauger_finish(file, n, words, TEASELAUGER_WORDS, held, TEASELAUGER_HELD, variables, TEASELAUGER_VARIABLES, log_words, TEASELAUGER_LOG, records,
+                     TEASELAUGER_RECORDS, 0, answers, 3);
+}
+static void call_grant_by_rows(void) {
+  teaselauger_grant_by_rows(file, n, row, TEASELAUGER_ROW, held, TEASELAUGER_HELD, variables, TEASELAUGER_VARIABLES, log_words, TEASELAUGER_LOG,
+                            records, TEASELAUGER_RECORDS, 0, answers, 3);
+}
+static void call_finish_by_rows(void) {
+  teaselauger_finish_by_rows(file, n, row, TEASELAUGER_ROW, held, TEASELAUGER_HELD, variables, TEASELAUGER_VARIABLES, log_words, TEASELAUGER_LOG,
+                             records, TEASELAUGER_RECORDS, 0, answers, 3);
 }
 static void call_model(void) { teaselauger_model(file, n, numbers, TEASELAUGER_MODEL); }
 static void call_write(void) { teaselauger_write(numbers, TEASELAUGER_MODEL, again, sizeof again, answers, 1); }
@@ -71,6 +88,10 @@ int main(int argc, char **argv) {
       {"fresh", call_fresh},
       {"request", call_request},
       {"request_by_rows", call_request_by_rows},
+      {"grant", call_grant},
+      {"finish", call_finish},
+      {"grant_by_rows", call_grant_by_rows},
+      {"finish_by_rows", call_finish_by_rows},
       {"replay", call_replay},
       {"replay_by_rows", call_replay_by_rows},
       {"model", call_model},
@@ -79,7 +100,7 @@ int main(int argc, char **argv) {
   enum { CALLS = sizeof calls / sizeof *calls };
   size_t most[CALLS] = {0};
   stack = aligned_alloc(4096, STACK);
-  for (int i = 0; i < LIST; i++) threads[i] = (uint8_t)(i % 4);
+  for (int i = 0; i < LIST; i++) calls_made[i] = (uint16_t)(i % 4);
   size_t none = depth(call_none);
   for (int a = 1; a < argc; a++) {
     FILE *f = fopen(argv[a], "rb");
@@ -88,6 +109,7 @@ int main(int argc, char **argv) {
     fclose(f);
     for (int i = 0; i < CALLS; i++) {
       call_fresh();
+      if (calls[i].call == call_finish || calls[i].call == call_finish_by_rows) call_grant();
       size_t d = depth(calls[i].call) - none;
       if (d > most[i]) most[i] = d;
     }

@@ -1,18 +1,25 @@
-/* Teaselauger for C: a model file's number, tables and sheet, requests one at a time or as a list, and models as numbers, to be drawn,
- * changed and saved.
+/* Teaselauger for C: a model file's number, tables and sheet, requests, grants and finishes one at a time or as a list, and models as
+ * numbers, to be drawn, changed and saved.
  *
- * Every call answers for every argument. A number of refusal is 1 to 18 (docs/REFUSALS.md lists them, docs/RULES.md says exactly
+ * Every call answers for every argument. A number of refusal is 1 to 19 (docs/REFUSALS.md lists them, docs/RULES.md says exactly
  * when each applies); 0 says that there is none. Of several that apply the first is answered, in one order in all calls: the reader's
  * number of the file (1 to 9, 17, 18); 11 for a buffer of the state, of the answer or of the answers that is too short, or for numbers that are
- * none of a state; 16 for too few words of a table that is to be made, or, reading a file or making a list by rows, of a row; then a
- * request's own numbers, 11, by rows 16 for too few words of a row, 10, 12, 13, 14, 15. Beside each call stands after the word ORDER which of
- * these it has. On a refusal every buffer holds what it held, but for the words of a row.
+ * none of a state; 16 for too few words of a table that is to be made, or, reading a file or making a list by rows, of a row; then the own
+ * numbers of a request, a grant or a finish, 11, by rows 16 for too few words of a row, 10, 19, 12, 13, 14, 15. Beside each call stands after
+ * the word ORDER which of these it has. On a refusal every buffer holds what it held, but for the words of a row.
  *
- * There are two entries. The full one keeps a file's distance table, N x N words: 8 x N x N bytes, 32,768 at most. The entry by rows
- * (teaselauger_load_by_rows, teaselauger_request_by_rows, teaselauger_replay_by_rows) keeps none: it asks for 64 words, 512 bytes, and
- * works out in them the distances from one segment when they are needed, which takes time (bench/requests.rs measures it). Numbers, answers
- * and the state after a request are the same, and a state of the one entry is a state of the other. The 64 words ARE LEFT FREE: they may hold
- * anything before and after every call, a refused one included, and nothing hangs on what they hold.
+ * There are two entries. The full one keeps a file's distance table, N x N words: 8 x N x N bytes, 32,768 at most. The entry by rows (the
+ * calls whose names end in _by_rows) keeps none: it asks for 64 words, 512 bytes, and works out in them the distances from one segment
+ * when they are needed, which takes time (bench/requests.rs measures it). Numbers, answers and the state after a call are the same, and a
+ * state of the one entry is a state of the other. The 64 words ARE LEFT FREE: they may hold anything before and after every call, a
+ * refused one included, and nothing hangs on what they hold.
+ *
+ * A request runs a segment at once. To run segments on several cores, ask for a grant and for its finish apart: between the two the thread is
+ * running, and others can be granted and finished. A grant fixes the values that the segment reads, the variables as they are: they are
+ * HELD for the thread, 64 numbers a thread, in a buffer beside the state, and are part of it. The finish works out the segment on them,
+ * stores the variables that it writes and no others, logs what it notifies, closes the segment, and leaves 0 in their place. Of threads
+ * that are not running nothing that is held is read, so that the buffer may hold anything before the first grant. Finishes may come in any
+ * order.
  *
  * +-----------------------------------------------------------------------------------------------------------------------------+
  * | WORDS AND A STATE ARE USED AS GIVEN. A request does NOT know which file they were made from: of words and state it tests    |
@@ -20,8 +27,8 @@
  * | words or a state that the caller has written to. To keep file, words and state together is THE CALLER'S PART.               |
  * |                                                                                                                             |
  * | Demand 3 (docs/RULES.md, 8: every order ends alike) speaks ONLY of a state that BEGAN WITH teaselauger_fresh OF THE SAME    |
- * | FILE and that NOTHING BUT requests with that file have changed: teaselauger_request with words that teaselauger_load made   |
- * | of THE SAME FILE, or teaselauger_request_by_rows, which needs no words of the file; the two may take turns.                 |
+ * | FILE and that, with the values held beside it, NOTHING BUT requests, grants and finishes with that file have changed, with  |
+ * | words that teaselauger_load made of THE SAME FILE, or by rows, which needs no words of the file; all may take turns.        |
  * | teaselauger_replay makes words and state itself, and teaselauger_replay_by_rows the state.                                  |
  * +-----------------------------------------------------------------------------------------------------------------------------+
  *
@@ -29,7 +36,7 @@
  * buffers that a call is given overlap. Words past those that a call speaks of are neither read nor written.
  *
  * The library holds no state, uses no heap, and reads and writes nothing but the buffers: several threads may call it at once,
- * each with its own buffers. A call needs at most 216 KB of stack (bench/stack.sh measures it).
+ * each with its own buffers. A call needs at most 258 KB of stack (bench/stack.sh measures it).
  *
  * Link target/staticlib/libexports.a (`rt staticlib exports` makes it), x86-64.
  */
@@ -56,6 +63,13 @@ extern "C" {
 /* Records of threads, five words each: segment, state, event (0 unless waiting), time, delta. A model of T threads needs 5 x T
  * words, and no call looks at words past them or writes to them; these are enough for every model. */
 #define TEASELAUGER_RECORDS 160
+/* The values that are held for running threads, 64 for each: those of thread k begin at 64 * k. A model of T threads needs 64 x T, and no
+ * call looks at those past them or writes to them; these are enough for every model. */
+#define TEASELAUGER_HELD 2048
+/* A call in a list, a number of 16 bits: a request is its thread's number; a grant 256 more, a finish 512 more. What is 768 or above is a
+ * finish of a thread that no model has. */
+#define TEASELAUGER_GRANT(thread) (256 + (thread))
+#define TEASELAUGER_FINISH(thread) (512 + (thread))
 /* Bytes that are enough for every sheet. */
 #define TEASELAUGER_SHEET 8192
 /* A model as numbers of 32 bits: H, V, E, N, T; then 104 for each segment: the closer's kind (0 end, 1 wait for time, 2 wait for event),
@@ -71,9 +85,9 @@ extern "C" {
 /* Bytes that are enough for every model file. */
 #define TEASELAUGER_FILE 13934
 
-/* States of a thread record. The segment of a record is the next to run; of an ended thread, the last that ran. The cycle is that
- * at which it is ready, ended or overrun, or in which its wait began. */
-enum { TEASELAUGER_ENDED, TEASELAUGER_OVERRUN, TEASELAUGER_READY, TEASELAUGER_WAITING };
+/* States of a thread record. The segment of a record is the next to run; of an ended thread, the last that ran; of a running one, that
+ * which was granted. The cycle is that at which it is ready, ended, overrun or running, or in which its wait began. */
+enum { TEASELAUGER_ENDED, TEASELAUGER_OVERRUN, TEASELAUGER_READY, TEASELAUGER_WAITING, TEASELAUGER_RUNNING };
 
 /* The reader's number of a model file: 0, or 1 to 9, 17 or 18.
  * ORDER: as docs/RULES.md, 7, has it for a file. */
@@ -100,9 +114,10 @@ uint8_t teaselauger_fresh(const uint8_t *file, size_t file_count, uint32_t *vari
  * teaselauger_load made of the same file. WORDS AND STATE ARE USED AS GIVEN (see above). 0 where it is granted: answer has segment,
  * time and delta (3 words), and the buffers the state after it.
  * ORDER: the reader's number; 11 for a buffer that is too short, for a count of the log above 128, or for a number that no state has in
- * the record of a thread or in a place below the count (a state above 3, an event beside a state that does not wait, a segment or
- * event above 255, a delta above 4,294,967,295); the request's own 11 (fewer than N x N words among them, and a record from
- * whose segment its thread could reach a port that it leaves unused), 10, 12, 13, 14, 15. */
+ * the record of a thread or in a place below the count (a state above 4, an event beside a state that does not wait, a segment or
+ * event above 255, a delta above 4,294,967,295); the request's own 11 (fewer than N x N words among them, a record from
+ * whose segment its thread could reach a port that it leaves unused, a running record later than H, and more than 128 places of the log
+ * with those that running segments notify), 10, 19 for a running thread, 12, 13, 14, 15. */
 uint8_t teaselauger_request(const uint8_t *file, size_t file_count, const uint64_t *words, size_t words_count, uint32_t *variables,
                             size_t variables_count, uint64_t *log, size_t log_count, uint64_t *records, size_t records_count,
                             uint8_t thread, uint64_t *answer, size_t answer_count);
@@ -110,27 +125,56 @@ uint8_t teaselauger_request(const uint8_t *file, size_t file_count, const uint64
 /* The same request by rows: as teaselauger_request with the words that teaselauger_load made of the file, but with no words of the file.
  * The 64 words of the row are left free, also on a refusal. THE STATE IS USED AS GIVEN (see above).
  * ORDER: the reader's number; 11 as teaselauger_request has it for buffers and numbers; the request's own 11, with no words to test; 16 for
- * fewer than 64 words; 10, 12, 13, 14, 15. */
+ * fewer than 64 words; 10, 19, 12, 13, 14, 15. */
 uint8_t teaselauger_request_by_rows(const uint8_t *file, size_t file_count, uint64_t *row, size_t row_count, uint32_t *variables,
                                     size_t variables_count, uint64_t *log, size_t log_count, uint64_t *records, size_t records_count,
                                     uint8_t thread, uint64_t *answer, size_t answer_count);
 
-/* A list of requests from the fresh state on. 0 where the list was made: answers has 4 words for each request (its number, 0 where it
- * was granted, then segment, time and delta, 0 where it was refused), words the distance table, and the other buffers the state after
- * the list.
- * ORDER: the reader's number; 11 for a buffer of the state that is too short, or for fewer than 4 words of answers for each request;
- * 16 for fewer than N x N words. */
-uint8_t teaselauger_replay(const uint8_t *file, size_t file_count, uint64_t *words, size_t words_count, const uint8_t *threads,
-                           size_t threads_count, uint64_t *answers, size_t answers_count, uint32_t *variables,
+/* One grant of a thread, on the state in variables, log and records and the values in held, with the words of the file as teaselauger_request
+ * has them. 0 where it is granted: answer has segment, time and delta, the thread's record is running, the variables are held for it, and
+ * the variables and the places of the log below its count are as they were; words of the log past them are 0.
+ * ORDER: as teaselauger_request, with 11 also for fewer than 64 held values for each thread. */
+uint8_t teaselauger_grant(const uint8_t *file, size_t file_count, const uint64_t *words, size_t words_count,
+                          uint32_t *held, size_t held_count, uint32_t *variables, size_t variables_count,
+                          uint64_t *log, size_t log_count, uint64_t *records, size_t records_count, uint8_t thread,
+                          uint64_t *answer, size_t answer_count);
+
+/* The finish of a running thread, on the values that are held for it. 0 where it is finished: answer has the segment that was granted, its
+ * time and its delta, and the buffers the state after it; 0 is held for the thread.
+ * ORDER: as teaselauger_grant up to 10; 19 for a thread that is not running, and no number after it. */
+uint8_t teaselauger_finish(const uint8_t *file, size_t file_count, const uint64_t *words, size_t words_count,
+                           uint32_t *held, size_t held_count, uint32_t *variables, size_t variables_count,
+                           uint64_t *log, size_t log_count, uint64_t *records, size_t records_count, uint8_t thread,
+                           uint64_t *answer, size_t answer_count);
+
+/* The same by rows, with no words of the file. The 64 words of the row are left free, also on a refusal.
+ * ORDER: as teaselauger_grant and teaselauger_finish, with no words to test, and 16 for fewer than 64 words between 11 and 10. */
+uint8_t teaselauger_grant_by_rows(const uint8_t *file, size_t file_count, uint64_t *row, size_t row_count,
+                                  uint32_t *held, size_t held_count, uint32_t *variables, size_t variables_count,
+                                  uint64_t *log, size_t log_count, uint64_t *records, size_t records_count, uint8_t thread,
+                                  uint64_t *answer, size_t answer_count);
+uint8_t teaselauger_finish_by_rows(const uint8_t *file, size_t file_count, uint64_t *row, size_t row_count,
+                                   uint32_t *held, size_t held_count, uint32_t *variables, size_t variables_count,
+                                   uint64_t *log, size_t log_count, uint64_t *records, size_t records_count, uint8_t thread,
+                                   uint64_t *answer, size_t answer_count);
+
+/* A list of calls from the fresh state on: requests, and grants and finishes as TEASELAUGER_GRANT and TEASELAUGER_FINISH have them. 0 where
+ * the list was made: answers has 5 words for each call (the call as it was given, its number, 0 where it was not refused, then segment, time
+ * and delta, 0 where it was refused), words the distance table, held the values of the threads that are still running, and the other
+ * buffers the state after the list. What is held before it is not read.
+ * ORDER: the reader's number; 11 for a buffer of the state that is too short, for fewer than 5 words of answers for each call, or for
+ * fewer than 64 held values for each thread; 16 for fewer than N x N words. */
+uint8_t teaselauger_replay(const uint8_t *file, size_t file_count, uint64_t *words, size_t words_count, uint32_t *held, size_t held_count,
+                           const uint16_t *calls, size_t calls_count, uint64_t *answers, size_t answers_count, uint32_t *variables,
                            size_t variables_count, uint64_t *log, size_t log_count, uint64_t *records, size_t records_count);
 
 /* The same list by rows: the same answers and the same state after it, and no distance table. The 64 words of the row are left free, also
  * on a refusal.
- * ORDER: the reader's number; 11 for a buffer of the state that is too short, or for fewer than 4 words of answers for each request;
- * 16 for fewer than 64 words. */
-uint8_t teaselauger_replay_by_rows(const uint8_t *file, size_t file_count, uint64_t *row, size_t row_count, const uint8_t *threads,
-                                   size_t threads_count, uint64_t *answers, size_t answers_count, uint32_t *variables,
-                                   size_t variables_count, uint64_t *log, size_t log_count, uint64_t *records, size_t records_count);
+ * ORDER: as teaselauger_replay, with 16 for fewer than 64 words. */
+uint8_t teaselauger_replay_by_rows(const uint8_t *file, size_t file_count, uint64_t *row, size_t row_count, uint32_t *held,
+                                   size_t held_count, const uint16_t *calls, size_t calls_count, uint64_t *answers, size_t answers_count,
+                                   uint32_t *variables, size_t variables_count, uint64_t *log, size_t log_count, uint64_t *records,
+                                   size_t records_count);
 
 /* The model of a file as numbers, TEASELAUGER_NUMBERS(N, T) of them, zero past each n, with TEASELAUGER_UNUSED for each unused port: 0
  * where they are there.

@@ -2,10 +2,10 @@
 //!
 //! The library itself uses words and a state as it is given them, of whatever model they are. Here a [`Site`] owns a file's bytes and
 //! the words made of them (opened by rows it has none and needs none), a [`State`] knows its site and can be read but not written to, and
-//! a request with a state of another site is [`RequestError::OtherSite`]. So every answer is one that demand 3 (`docs/RULES.md`, 8) speaks of.
+//! a call with a state of another site is [`RequestError::OtherSite`]. So every answer is one that demand 3 (`docs/RULES.md`, 8) speaks of.
 //!
 //! Every buffer is an array of the length that the library asks, so that a buffer that is too short (11 or 16) cannot be handed in.
-//! The library holds no state: any thread may call it, on a stack of 256 KB or more.
+//! The library holds no state: any thread may call it, on a stack of 320 KB or more.
 //!
 //! ```
 //! let site = teaselauger::Site::new(&std::fs::read("../../models/m.model")?)?;
@@ -14,6 +14,9 @@
 //! assert_eq!((grant.segment, grant.time, grant.delta), (2, 0, 0));
 //! # Ok::<(), Box<dyn std::error::Error>>(())
 //! ```
+//!
+//! A request runs a segment at once. To run segments on several cores a thread is granted ([`Site::grant`]) and finished ([`Site::finish`])
+//! apart: between the two it is running, and others can be granted. `examples/pool.rs` does so.
 #![deny(unsafe_code)]
 #![warn(missing_docs)]
 
@@ -22,10 +25,10 @@ mod calls;
 #[cfg(test)]
 mod tests;
 
-use calls::{Kept, Words, ANSWER, FILE, LOG, MODEL, RECORDS, ROW, SHEET, VARIABLES};
+use calls::{Kept, Words, ANSWER, FILE, HELD, LOG, MODEL, RECORDS, ROW, SHEET, VARIABLES};
 use std::{error, fmt, sync::Arc};
 
-/// A number of refusal, 1 to 18.
+/// A number of refusal, 1 to 19.
 ///
 /// ```
 /// assert_eq!(teaselauger::Refused(14).to_string(), "refused 14");
@@ -49,7 +52,7 @@ fn checked(number: u8) -> Result<(), Refused> {
     }
 }
 
-/// Why a request was not granted. The state is as it was.
+/// Why a request or a grant was not granted, or a thread not finished. The state is as it was.
 ///
 /// ```
 /// use teaselauger::{RequestError, Refused, Site};
@@ -82,7 +85,7 @@ impl fmt::Display for RequestError {
 
 impl error::Error for RequestError {}
 
-/// A grant: the segment that ran, and its cycle.
+/// A grant: the segment that is run, and its cycle. A finish answers that which was granted.
 ///
 /// ```
 /// let site = teaselauger::Site::new(&std::fs::read("../../models/m.model")?)?;
@@ -91,7 +94,7 @@ impl error::Error for RequestError {}
 /// ```
 #[derive(Clone, Copy, Debug, PartialEq, Eq)]
 pub struct Grant {
-    /// The segment that ran.
+    /// The segment.
     pub segment: u8,
     /// The time of its cycle.
     pub time: u64,
@@ -104,9 +107,45 @@ fn grant(segment: u64, time: u64, delta: u64) -> Grant {
     Grant { segment: segment as u8, time, delta: delta as u32 }
 }
 
-// Of the four words of a list's answer.
+// Of the five words of a list's answer, the first of which is the call's own.
 fn answered(a: &[u64]) -> Result<Grant, Refused> {
-    checked(a[0] as u8).map(|()| grant(a[1], a[2], a[3]))
+    checked(a[1] as u8).map(|()| grant(a[2], a[3], a[4]))
+}
+
+/// A call of a list, of a thread. A thread's number alone is a request.
+///
+/// ```
+/// use teaselauger::{Call, Site};
+/// let site = Site::new(&std::fs::read("../../models/m.model")?)?;
+/// assert_eq!(site.replay(&[Call::Grant(0), Call::Finish(0)]).1, site.replay(&[Call::Both(0)]).1);
+/// assert_eq!(site.replay(&[Call::Both(0)]), site.replay(&[0]));
+/// # Ok::<(), Box<dyn std::error::Error>>(())
+/// ```
+#[derive(Clone, Copy, Debug, PartialEq, Eq)]
+pub enum Call {
+    /// A request: a grant and its finish at once, as [`Site::request`].
+    Both(u8),
+    /// A grant, as [`Site::grant`].
+    Grant(u8),
+    /// A finish, as [`Site::finish`].
+    Finish(u8),
+}
+
+impl From<u8> for Call {
+    fn from(thread: u8) -> Call {
+        Call::Both(thread)
+    }
+}
+
+impl Call {
+    // As the library has it in a list.
+    fn word(self) -> u16 {
+        match self {
+            Call::Both(thread) => thread.into(),
+            Call::Grant(thread) => 256 + u16::from(thread),
+            Call::Finish(thread) => 512 + u16::from(thread),
+        }
+    }
 }
 
 /// Whether a model file keeps the rules.
@@ -300,7 +339,7 @@ impl Site {
         Ok(Site(Arc::new(Opened { file: file.into(), words: Some(words) })))
     }
 
-    /// Reads a model file and makes no table: a request or a list works out one segment's distances at a time, when they are needed, in 512
+    /// Reads a model file and makes no table: a call or a list works out one segment's distances at a time, when they are needed, in 512
     /// bytes of stack. A site of [`Site::new`] keeps 32,768 bytes, a list on it takes as many again while it is made, and requests on
     /// large sites are faster.
     ///
@@ -350,39 +389,99 @@ impl Site {
     /// # Ok::<(), Box<dyn std::error::Error>>(())
     /// ```
     pub fn request(&self, state: &mut State, thread: u8) -> Result<Grant, RequestError> {
+        self.call(state, Call::Both(thread))
+    }
+
+    /// A grant of a thread, on a state of this site: the values that its segment reads are fixed, and until [`Site::finish`] the thread is
+    /// running. If it is not granted the state is as it was.
+    ///
+    /// ```
+    /// use teaselauger::{RequestError, Refused, Site};
+    /// let site = Site::new(&std::fs::read("../../models/m.model")?)?;
+    /// let mut state = site.fresh();
+    /// let grant = site.grant(&mut state, 0)?;
+    /// assert_eq!(site.grant(&mut state, 0), Err(RequestError::Refused(Refused(19))));
+    /// assert_eq!((state.variables()[0], site.finish(&mut state, 0)?), (0, grant));
+    /// assert_eq!(state.variables()[0], 1);
+    /// # Ok::<(), Box<dyn std::error::Error>>(())
+    /// ```
+    pub fn grant(&self, state: &mut State, thread: u8) -> Result<Grant, RequestError> {
+        self.call(state, Call::Grant(thread))
+    }
+
+    /// The finish of a running thread, on a state of this site: what its segment writes is stored, and what it notifies is heard. Threads may
+    /// be finished in any order. No other number than 10 and 19 refuses it, and then the state is as it was.
+    ///
+    /// ```
+    /// use teaselauger::{RequestError, Refused, Site};
+    /// let site = Site::new(&std::fs::read("../../models/loops.model")?)?;
+    /// let mut state = site.fresh();
+    /// assert_eq!(site.finish(&mut state, 0), Err(RequestError::Refused(Refused(19))));
+    /// site.grant(&mut state, 0)?;
+    /// site.grant(&mut state, 1)?;
+    /// site.finish(&mut state, 1)?;
+    /// site.finish(&mut state, 0)?;
+    /// assert_eq!(state, site.replay(&[0, 1]).1);
+    /// # Ok::<(), Box<dyn std::error::Error>>(())
+    /// ```
+    pub fn finish(&self, state: &mut State, thread: u8) -> Result<Grant, RequestError> {
+        self.call(state, Call::Finish(thread))
+    }
+
+    /// A request, a grant or a finish.
+    ///
+    /// ```
+    /// use teaselauger::{Call, Site};
+    /// let site = Site::new(&std::fs::read("../../models/m.model")?)?;
+    /// let (mut one, mut other) = (site.fresh(), site.fresh());
+    /// assert_eq!(site.call(&mut one, Call::Grant(1)), site.grant(&mut other, 1));
+    /// assert_eq!(one, other);
+    /// # Ok::<(), Box<dyn std::error::Error>>(())
+    /// ```
+    pub fn call(&self, state: &mut State, call: Call) -> Result<Grant, RequestError> {
         if state.site != *self {
             return Err(RequestError::OtherSite);
         }
-        let (file, mut answer) = (&self.0.file, [0; ANSWER]);
-        checked(match &self.0.words {
-            Some(words) => calls::request(file, words, &mut state.kept, thread, &mut answer),
-            None => calls::request_by_rows(file, &mut [0; ROW], state.kept.lent(), thread, &mut answer),
+        let (file, kept, answer, row) = (&self.0.file, &mut state.kept, &mut [0; ANSWER], &mut [0; ROW]);
+        checked(match (call, &self.0.words) {
+            (Call::Both(thread), Some(words)) => calls::request(file, words, kept, thread, answer),
+            (Call::Both(thread), None) => calls::request_by_rows(file, row, kept.lent(), thread, answer),
+            (Call::Grant(thread), Some(words)) => calls::grant(file, words, kept.lent(), thread, answer),
+            (Call::Grant(thread), None) => calls::grant_by_rows(file, row, kept.lent(), thread, answer),
+            (Call::Finish(thread), Some(words)) => calls::finish(file, words, kept.lent(), thread, answer),
+            (Call::Finish(thread), None) => calls::finish_by_rows(file, row, kept.lent(), thread, answer),
         })?;
-        let [segment, time, delta] = answer;
+        let [segment, time, delta] = *answer;
         Ok(grant(segment, time, delta))
     }
 
-    /// A list of requests from the fresh state on: each answer, and the state after the list.
+    /// A list of calls from the fresh state on, or of threads, each of which makes a request: each answer, and the state after the list.
     ///
     /// ```
+    /// use teaselauger::Call::{Both, Finish, Grant};
     /// let site = teaselauger::Site::new(&std::fs::read("../../models/m.model")?)?;
     /// let (answers, state) = site.replay(&[0, 0]);
     /// assert_eq!(answers[1], Err(teaselauger::Refused(14)));
     /// assert_eq!(state.variables()[0], 1);
+    /// let (answers, state) = site.replay(&[Grant(1), Grant(0), Both(1), Finish(0), Finish(1)]);
+    /// assert_eq!(answers[2], Err(teaselauger::Refused(19)));
+    /// assert_eq!(state.variables()[0], 1);
     /// # Ok::<(), Box<dyn std::error::Error>>(())
     /// ```
-    pub fn replay(&self, threads: &[u8]) -> (Vec<Result<Grant, Refused>>, State) {
+    pub fn replay<C: Copy + Into<Call>>(&self, list: &[C]) -> (Vec<Result<Grant, Refused>>, State) {
+        let words: Vec<u16> = list.iter().map(|&call| call.into().word()).collect();
         let (file, mut kept) = (&self.0.file, Box::new(Kept::zero()));
         let (number, answers) = match self.0.words {
-            Some(_) => calls::replay(file, &mut calls::no_words(), threads, &mut kept),
-            None => calls::replay_by_rows(file, &mut [0; ROW], threads, kept.lent()),
+            Some(_) => calls::replay(file, &mut calls::no_words(), &words, kept.lent()),
+            None => calls::replay_by_rows(file, &mut [0; ROW], &words, kept.lent()),
         };
-        (answers.chunks(4).map(answered).collect(), self.state(number, kept))
+        (answers.chunks(5).map(answered).collect(), self.state(number, kept))
     }
 }
 
-/// The state of a site and its thread records, as numbers. It begins with [`Site::fresh`] or [`Site::replay`], and [`Site::request`]
-/// alone changes it. To keep a run beyond the program, keep the list of the threads that were asked, and replay it.
+/// The state of a site, its thread records and the values that are held for running threads, as numbers. It begins with [`Site::fresh`] or
+/// [`Site::replay`], and [`Site::request`], [`Site::grant`] and [`Site::finish`] alone change it. To keep a run beyond the program, keep the
+/// list of the calls that were made, and replay it.
 ///
 /// ```
 /// let site = teaselauger::Site::new(&std::fs::read("../../models/m.model")?)?;
@@ -439,7 +538,7 @@ impl State {
         &self.kept.log
     }
 
-    /// For each of 32 threads: segment, state (0 ended, 1 overrun, 2 ready, 3 waiting), event (0 unless waiting), time, delta.
+    /// For each of 32 threads: segment, state (0 ended, 1 overrun, 2 ready, 3 waiting, 4 running), event (0 unless waiting), time, delta.
     ///
     /// ```
     /// let site = teaselauger::Site::new(&std::fs::read("../../models/m.model")?)?;
@@ -448,5 +547,18 @@ impl State {
     /// ```
     pub fn records(&self) -> &[u64; RECORDS] {
         &self.kept.records
+    }
+
+    /// For each of 32 threads 64 values: the variables as they were when it was granted, while it is running, and else 0.
+    ///
+    /// ```
+    /// use teaselauger::Call::{Both, Grant};
+    /// let site = teaselauger::Site::new(&std::fs::read("../../models/m.model")?)?;
+    /// let state = site.replay(&[Both(0), Grant(1)]).1;
+    /// assert_eq!((&state.held()[..64], &state.held()[64..128]), (&[0; 64][..], &state.variables()[..]));
+    /// # Ok::<(), Box<dyn std::error::Error>>(())
+    /// ```
+    pub fn held(&self) -> &[u32; HELD] {
+        &self.kept.held
     }
 }

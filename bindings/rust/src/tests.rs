@@ -1,5 +1,6 @@
 use super::*;
 use calls::Lent;
+use Call::{Both, Finish, Grant as Granting};
 
 fn file(name: &str) -> Vec<u8> {
     std::fs::read(format!("{}/../../models/{name}.model", env!("CARGO_MANIFEST_DIR"))).expect("a model file")
@@ -87,7 +88,7 @@ fn replay_is_the_requests_in_turn() {
         let asked: Vec<_> = threads.iter().map(|&k| site.request(&mut state, k)).collect();
         assert_eq!(answers.into_iter().map(|a| a.map_err(RequestError::from)).collect::<Vec<_>>(), asked);
         assert_eq!(replayed, state);
-        assert_eq!(site.replay(&[]), (vec![], site.fresh()));
+        assert_eq!(site.replay::<Call>(&[]), (vec![], site.fresh()));
     }
 }
 
@@ -255,13 +256,15 @@ fn no_buffer_is_too_short() {
 }
 
 #[test]
-fn any_thread_may_call_on_256_kb_of_stack() {
+fn any_thread_may_call_on_320_kb_of_stack() {
     let work = |open: fn(&[u8]) -> Result<Site, Refused>| {
         let site = open(&largest()).expect("an accepted file");
         let mut state = site.fresh();
-        (issue(&site, &mut state), site.replay(&[0; 100]).1, sheet(&largest(), 100), state)
+        let mut apart = site.fresh();
+        let calls: Vec<_> = (0..32).map(Granting).chain((0..32).map(Finish)).map(|call| site.call(&mut apart, call)).collect();
+        (issue(&site, &mut state), calls, apart, site.replay(&[0; 100]).1, sheet(&largest(), 100), state)
     };
-    let small = |open| std::thread::Builder::new().stack_size(256 * 1024).spawn(move || work(open)).expect("a thread");
+    let small = |open| std::thread::Builder::new().stack_size(320 * 1024).spawn(move || work(open)).expect("a thread");
     let [one, other, rows] = [Site::new, Site::new, Site::by_rows].map(small).map(|thread| thread.join().expect("enough stack"));
     assert_eq!(one, other);
     assert_eq!(one, rows);
@@ -276,30 +279,68 @@ fn junk(turn: usize, left: Vec<u64>) -> Vec<u64> {
     }
 }
 
-/// A list by rows, as a list and one at a time, in 64 words of junk: the answers and the states of the table.
-fn same_by_rows(bytes: &[u8], threads: &[u8]) {
+/// The buffers with junk in the held values of threads that do not run.
+fn strewn(mut kept: Box<Kept>, turn: usize) -> Box<Kept> {
+    for (k, set) in kept.held.chunks_mut(64).enumerate() {
+        if kept.records[5 * k + 1] != 4 {
+            set.fill(3 * turn as u32 + k as u32 + 1);
+        }
+    }
+    kept
+}
+
+/// The buffers, but for the held values of threads that do not run, which are 0.
+fn without_junk(mut kept: Box<Kept>) -> Box<Kept> {
+    for (k, set) in kept.held.chunks_mut(64).enumerate() {
+        if kept.records[5 * k + 1] != 4 {
+            set.fill(0);
+        }
+    }
+    kept
+}
+
+fn words(list: &[Call]) -> Vec<u16> {
+    list.iter().map(|call| call.word()).collect()
+}
+
+/// A call by rows.
+fn call_by_rows(bytes: &[u8], row: &mut [u64], lent: Lent, call: Call, answer: &mut [u64; ANSWER]) -> u8 {
+    match call {
+        Both(thread) => calls::request_by_rows(bytes, row, lent, thread, answer),
+        Granting(thread) => calls::grant_by_rows(bytes, row, lent, thread, answer),
+        Finish(thread) => calls::finish_by_rows(bytes, row, lent, thread, answer),
+    }
+}
+
+/// A list by rows, as a list and one at a time, in 64 words of junk and with junk held for threads that do not run: the answers and the
+/// states of the table.
+fn same_by_rows<C: Copy + Into<Call>>(bytes: &[u8], list: &[C]) {
+    let list: Vec<Call> = list.iter().map(|&call| call.into()).collect();
     let site = Site::new(bytes).expect("an accepted file");
-    let (expected, after) = site.replay(threads);
+    let (expected, after) = site.replay(&list);
     let mut row = vec![0; ROW];
     for turn in 0..3 {
         row = junk(turn, row);
-        let mut kept = Kept::zero();
-        let (number, answers) = calls::replay_by_rows(bytes, &mut row, threads, kept.lent());
-        assert_eq!((number, answers.chunks(4).map(answered).collect()), (0, expected.clone()));
-        assert_eq!(kept, *after.kept);
+        let mut kept = strewn(Box::new(Kept::zero()), turn);
+        let (number, answers) = calls::replay_by_rows(bytes, &mut row, &words(&list), kept.lent());
+        assert_eq!((number, answers.chunks(5).map(answered).collect()), (0, expected.clone()));
+        assert!(answers.chunks(5).map(|a| a[0]).eq(words(&list).into_iter().map(u64::from)));
+        assert_eq!(without_junk(kept), after.kept);
     }
     for first in 0..3 {
         let mut state = site.fresh();
         let mut kept = state.kept.clone();
-        for (i, &k) in threads.iter().enumerate() {
+        for (i, &call) in list.iter().enumerate() {
             row = junk(first + i, row);
-            let mut answer = [0; ANSWER];
-            let number = calls::request_by_rows(bytes, &mut row, kept.lent(), k, &mut answer);
-            assert_eq!(answered(&[number as u64, answer[0], answer[1], answer[2]]), expected[i]);
-            assert_eq!(site.request(&mut state, k), expected[i].map_err(RequestError::from));
-            assert_eq!(kept, state.kept);
+            kept = strewn(kept, first + i);
+            let (before, mut answer) = (kept.held, [0; ANSWER]);
+            let number = call_by_rows(bytes, &mut row, kept.lent(), call, &mut answer);
+            assert_eq!(answered(&[0, number as u64, answer[0], answer[1], answer[2]]), expected[i]);
+            assert_eq!(site.call(&mut state, call), expected[i].map_err(RequestError::from));
+            assert!(matches!(call, Granting(_) | Finish(_)) && number == 0 || kept.held == before);
+            assert_eq!(without_junk(kept.clone()), state.kept);
         }
-        assert_eq!(kept, after.kept);
+        assert_eq!(without_junk(kept), after.kept);
     }
 }
 
@@ -361,7 +402,7 @@ fn a_row_has_64_words() {
         assert_eq!(calls::request_by_rows(&file("m"), &mut vec![0; words], waits.lent(), 1, &mut [0; ANSWER]), number);
     }
     // A number that no state has, and one that does not fit the model, before it.
-    for (place, value) in [(1, 4), (0, 4)] {
+    for (place, value) in [(1, 5), (0, 4)] {
         let mut kept = site("m").fresh().kept;
         kept.records[place] = value;
         for words in [63, 64] {
@@ -380,12 +421,184 @@ fn a_file_or_a_list_by_rows_takes_64_words() {
             let (mut kept, mut row) = (Kept::zero(), vec![7; words]);
             let expected = if number == 0 && short { 16 } else { number };
             assert_eq!(calls::load_by_rows(&bytes, &row), expected);
-            assert_eq!(calls::replay_by_rows(&bytes, &mut row, &[0, 9], kept.lent()).0, expected);
+            assert_eq!(calls::replay_by_rows(&bytes, &mut row, &[0, 9, 256, 512], kept.lent()).0, expected);
             assert!(row.iter().skip(ROW).all(|&word| word == 7));
             assert!(expected == 0 || kept == Kept::zero());
             // 11 for no records after the reader's number, and before 16.
             let lent = Lent { records: &mut [], ..kept.lent() };
             assert_eq!(calls::replay_by_rows(&bytes, &mut row, &[0, 9], lent).0, if number == 0 { 11 } else { number });
+            // So for 63 held values.
+            let lent = kept.lent();
+            let lent = Lent { held: &mut lent.held[..63], ..lent };
+            assert_eq!(calls::replay_by_rows(&bytes, &mut row, &[0, 9], lent).0, if number == 0 { 11 } else { number });
+        }
+    }
+}
+
+#[test]
+fn a_grant_holds_and_a_finish_stores() {
+    for m in both("m") {
+        let mut state = m.fresh();
+        assert_eq!(m.grant(&mut state, 0), granted(0, 0, 0));
+        assert_eq!((state.variables(), state.log()), (&[0; 64], &[0; 385]));
+        assert_eq!(state.records()[..10], [0, 4, 0, 0, 0, 2, 2, 0, 0, 0]);
+        assert_eq!(m.grant(&mut state, 1), granted(2, 0, 0));
+        assert_eq!(m.finish(&mut state, 0), granted(0, 0, 0));
+        // Kept in the log, since thread 1 runs at (0, 0).
+        assert_eq!((state.variables()[0], &state.log()[..4]), (1, &[1, 0, 0, 0][..]));
+        assert_eq!(m.finish(&mut state, 1), granted(2, 0, 0));
+        assert_eq!((state.log()[0], &state.records()[5..10]), (0, &[3, 2, 0, 0, 1][..]));
+        assert_eq!(state.held(), &[0; 2048]);
+    }
+}
+
+#[test]
+fn out_of_turn_is_19() {
+    for m in both("m") {
+        let list = [Finish(0), Granting(0), Granting(0), Both(0), Finish(1), Finish(2), Granting(2), Finish(0), Finish(0)];
+        let numbers: Vec<u8> = m.replay(&list).0.into_iter().map(|a| a.err().map_or(0, |refused| refused.0)).collect();
+        assert_eq!(numbers, [19, 0, 19, 19, 19, 10, 10, 0, 19]);
+        let mut state = m.fresh();
+        issue(&m, &mut state);
+        // Thread 0 has ended, and thread 1 waits.
+        for k in [0, 1] {
+            assert_eq!([m.grant(&mut state, k), m.finish(&mut state, k)], [refused(12), refused(19)]);
+        }
+    }
+}
+
+/// What a thread reads is fixed by its grant: a state in which others have finished since is no matter.
+#[test]
+fn finishes_in_any_order_end_as_the_plain_run() {
+    for name in ["m", "case02", "case06", "case07", "case08", "calls", "loops"] {
+        for site in both(name) {
+            let mut plain = site.fresh();
+            let count = issue(&site, &mut plain).len();
+            for seed in 0..20u32 {
+                let (mut state, mut list, mut draw) = (site.fresh(), Vec::new(), seed);
+                // Threads from a number on that the seed draws, and finishes or requests first.
+                loop {
+                    draw = draw.wrapping_mul(1_103_515_245).wrapping_add(12_345);
+                    let kinds: [fn(u8) -> Call; 3] =
+                        [[Granting, Finish, Both], [Finish, Granting, Both], [Both, Granting, Finish]][(draw >> 16) as usize % 3];
+                    let threads = (0..32u8).map(|k| k.wrapping_add((draw >> 20) as u8) % 32);
+                    let next = kinds
+                        .into_iter()
+                        .flat_map(|kind| threads.clone().map(kind))
+                        .find(|&call| site.call(&mut state, call).is_ok());
+                    let Some(call) = next else { break };
+                    list.push(call);
+                }
+                assert_eq!(state, plain);
+                assert_eq!(list.iter().filter(|call| !matches!(call, Finish(_))).count(), count);
+                assert_eq!(site.replay(&list).1, plain);
+            }
+        }
+    }
+}
+
+#[test]
+fn a_request_is_a_grant_and_its_finish() {
+    for site in ["m", "case06", "case07", "case08", "calls", "loops"].into_iter().flat_map(both) {
+        let mut state = site.fresh();
+        loop {
+            let mut asked = Vec::new();
+            for k in 0..4 {
+                let (mut apart, mut at_once) = (state.clone(), state.clone());
+                let granted = site.grant(&mut apart, k);
+                assert_eq!(granted, site.request(&mut at_once, k));
+                let other =
+                    granted
+                        .map_err(|e| if e == RequestError::Refused(Refused(10)) { e } else { RequestError::Refused(Refused(19)) });
+                assert_eq!(site.finish(&mut apart, k), other);
+                assert_eq!(apart, at_once);
+                asked.extend(granted.is_ok().then_some(at_once));
+            }
+            let Some(next) = asked.pop() else { break };
+            state = next;
+        }
+    }
+}
+
+#[test]
+fn lists_of_calls_by_rows() {
+    for name in ["m", "case02", "case06", "case07", "case08", "calls", "loops"] {
+        let bytes = file(name);
+        let mut draw = 7u32;
+        for _ in 0..10 {
+            let list: Vec<Call> = (0..40)
+                .map(|_| {
+                    draw = draw.wrapping_mul(1_103_515_245).wrapping_add(12_345);
+                    let k = (draw >> 16) as u8 % 4;
+                    [Granting(k), Finish(k), Both(k)][(draw >> 24) as usize % 3]
+                })
+                .collect();
+            same_by_rows(&bytes, &list);
+            let site = site(name);
+            let mut state = site.fresh();
+            let asked: Vec<_> = list.iter().map(|&call| site.call(&mut state, call)).collect();
+            let (answers, replayed) = site.replay(&list);
+            assert_eq!(answers.into_iter().map(|a| a.map_err(RequestError::from)).collect::<Vec<_>>(), asked);
+            assert_eq!(replayed, state);
+        }
+    }
+    let all: Vec<Call> = (0..32).map(Granting).chain((0..32).rev().map(Finish)).collect();
+    same_by_rows(&largest(), &all);
+}
+
+#[test]
+fn a_call_is_a_word() {
+    for (call, word) in
+        [(Both(0), 0), (Both(255), 255), (Granting(0), 256), (Granting(255), 511), (Finish(0), 512), (Finish(255), 767)]
+    {
+        assert_eq!(call.word(), word);
+    }
+    // From 768 on, of a thread that no model has.
+    let list = [255, 511, 767, 768, 1023, 1024, u16::MAX];
+    let (number, answers) = calls::replay_by_rows(&file("m"), &mut [0; ROW], &list, Kept::zero().lent());
+    assert_eq!(number, 0);
+    assert!(answers.chunks(5).zip(list).all(|(a, word)| *a == [u64::from(word), 10, 0, 0, 0]));
+}
+
+/// M has two threads, and so 128 held values: with fewer a grant or a finish is refused with 11, before 16 and 10, and nothing is written.
+#[test]
+fn so_many_values_are_held() {
+    let (bytes, mut table) = (file("m"), calls::no_words());
+    assert_eq!(calls::load(&bytes, &mut table), 0);
+    for (call, list) in [(Granting(1), &[][..]), (Granting(9), &[]), (Finish(0), &[Granting(0)]), (Finish(1), &[Granting(0)])] {
+        for (values, words) in [(0, 64), (127, 64), (127, 63), (128, 64), (128, 63), (2048, 64)] {
+            let mut kept = site("m").replay(list).1.kept;
+            let (before, mut answer) = (kept.clone(), [9; ANSWER]);
+            let Lent { variables, log, records, held } = kept.lent();
+            let lent = Lent { variables, log, records, held: &mut held[..values] };
+            let number = call_by_rows(&bytes, &mut vec![7; words], lent, call, &mut answer);
+            let own = match call {
+                Granting(9) => 10,
+                Finish(1) => 19,
+                _ => 0,
+            };
+            assert_eq!(
+                number,
+                if values < 128 {
+                    11
+                } else if words < 64 {
+                    16
+                } else {
+                    own
+                },
+                "{call:?}, {values} values, {words} words"
+            );
+            assert!(number == 0 || kept == before && answer == [9; ANSWER]);
+            if words == 64 {
+                let mut full = before.clone();
+                let Lent { variables, log, records, held } = full.lent();
+                let lent = Lent { variables, log, records, held: &mut held[..values] };
+                let again = match call {
+                    Finish(thread) => calls::finish(&bytes, &table, lent, thread, &mut answer),
+                    Both(thread) | Granting(thread) => calls::grant(&bytes, &table, lent, thread, &mut answer),
+                };
+                assert_eq!((again, full), (number, kept));
+            }
         }
     }
 }

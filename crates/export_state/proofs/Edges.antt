@@ -5,7 +5,7 @@ use mathlib.Core.Bool.{true, false}
 use mathlib.Core.List.{List, [], _∷_, _++_}
 use lib.ListN.{replicate, set}
 use Rattle.clock.specs.Cycle.{cycleAt}
-use Rattle.model.specs.declared.State.the-variants.{Ended, Overrun, Ready, Waiting}
+use Rattle.model.specs.declared.State.the-variants.{Ended, Overrun, Ready, Waiting, Running}
 use Rattle.early.proofs.EdgeModels.{note, inState}
 use Rattle.export_state.specs.Numbers.{logWords, recordWords, pairAt, stateFrom, threadFrom, variablesFrom, placeFrom, siteFrom, threadsFrom, heldThreads, isPairHeld, isEventHeld, isRecordHeld, isLogHeld, areRecordsHeld, areHeld}
 use Rattle.export_state.proofs.Computed.{computed}
@@ -18,8 +18,8 @@ logWords-order = refl
 
 -- segment, state, event, time, delta
 pub recordWords-order :
-    recordWords (inState 7 (Ended (cycleAt 5 2)) ∷ inState 8 (Overrun (cycleAt 6 3)) ∷ inState 9 (Ready (cycleAt 7 4)) ∷ inState 10 (Waiting 11 (cycleAt 8 5)) ∷ []) ≡
-    7 ∷ 0 ∷ 0 ∷ 5 ∷ 2 ∷ 8 ∷ 1 ∷ 0 ∷ 6 ∷ 3 ∷ 9 ∷ 2 ∷ 0 ∷ 7 ∷ 4 ∷ 10 ∷ 3 ∷ 11 ∷ 8 ∷ 5 ∷ []
+    recordWords (inState 7 (Ended (cycleAt 5 2)) ∷ inState 8 (Overrun (cycleAt 6 3)) ∷ inState 9 (Ready (cycleAt 7 4)) ∷ inState 10 (Waiting 11 (cycleAt 8 5)) ∷ inState 12 (Running (cycleAt 9 6)) ∷ []) ≡
+    7 ∷ 0 ∷ 0 ∷ 5 ∷ 2 ∷ 8 ∷ 1 ∷ 0 ∷ 6 ∷ 3 ∷ 9 ∷ 2 ∷ 0 ∷ 7 ∷ 4 ∷ 10 ∷ 3 ∷ 11 ∷ 8 ∷ 5 ∷ 12 ∷ 4 ∷ 0 ∷ 9 ∷ 6 ∷ []
 unfolding computed
 recordWords-order = refl
 
@@ -35,9 +35,10 @@ pub stateFrom-edges :
     (stateFrom 1 7 (cycleAt 5 2) ≡ Overrun (cycleAt 5 2)) ×
     (stateFrom 2 7 (cycleAt 5 2) ≡ Ready (cycleAt 5 2)) ×
     (stateFrom 3 7 (cycleAt 5 2) ≡ Waiting 7 (cycleAt 5 2)) ×
-    (stateFrom 4 7 (cycleAt 5 2) ≡ Waiting 7 (cycleAt 5 2))
+    (stateFrom 4 7 (cycleAt 5 2) ≡ Running (cycleAt 5 2)) ×
+    (stateFrom 5 7 (cycleAt 5 2) ≡ Running (cycleAt 5 2))
 unfolding computed
-stateFrom-edges = (refl, refl, refl, refl, refl)
+stateFrom-edges = (refl, refl, refl, refl, refl, refl)
 
 -- the second record; a segment and an event modulo 2 ^ 8, a delta modulo 2 ^ 32
 pub threadFrom-edges :
@@ -72,18 +73,20 @@ unfolding computed
 isPairHeld-edges = (refl, refl, refl)
 
 pub isEventHeld-edges :
-    (isEventHeld 0 0 ≡ true) × (isEventHeld 1 1 ≡ false) × (isEventHeld 2 0 ≡ true) × (isEventHeld 2 1 ≡ false) × (isEventHeld 3 0 ≡ true) × (isEventHeld 3 255 ≡ true) × (isEventHeld 3 256 ≡ false)
+    (isEventHeld 0 0 ≡ true) × (isEventHeld 1 1 ≡ false) × (isEventHeld 2 0 ≡ true) × (isEventHeld 2 1 ≡ false) × (isEventHeld 3 0 ≡ true) × (isEventHeld 3 255 ≡ true) × (isEventHeld 3 256 ≡ false) × (isEventHeld 4 0 ≡ true) × (isEventHeld 4 1 ≡ false)
 unfolding computed
-isEventHeld-edges = (refl, refl, refl, refl, refl, refl, refl)
+isEventHeld-edges = (refl, refl, refl, refl, refl, refl, refl, refl, refl)
 
 pub isRecordHeld-edges :
     (isRecordHeld (255 ∷ 3 ∷ 255 ∷ 2 ^ 64 ∷ 4294967295 ∷ []) 0 ≡ true) ×
     (isRecordHeld (256 ∷ 3 ∷ 0 ∷ 0 ∷ 0 ∷ []) 0 ≡ false) ×
-    (isRecordHeld (0 ∷ 4 ∷ 0 ∷ 0 ∷ 0 ∷ []) 0 ≡ false) ×
+    (isRecordHeld (0 ∷ 4 ∷ 0 ∷ 0 ∷ 0 ∷ []) 0 ≡ true) ×
+    (isRecordHeld (0 ∷ 4 ∷ 1 ∷ 0 ∷ 0 ∷ []) 0 ≡ false) ×
+    (isRecordHeld (0 ∷ 5 ∷ 0 ∷ 0 ∷ 0 ∷ []) 0 ≡ false) ×
     (isRecordHeld (0 ∷ 2 ∷ 1 ∷ 0 ∷ 0 ∷ []) 0 ≡ false) ×
     (isRecordHeld (0 ∷ 0 ∷ 0 ∷ 0 ∷ 4294967296 ∷ []) 0 ≡ false)
 unfolding computed
-isRecordHeld-edges = (refl, refl, refl, refl, refl)
+isRecordHeld-edges = (refl, refl, refl, refl, refl, refl, refl)
 
 -- 384, 385 words; a count of 128, 129; the last place below the count, and the first past it
 pub isLogHeld-edges :

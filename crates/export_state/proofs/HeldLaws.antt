@@ -38,21 +38,21 @@ pub isRecordHeld-segment : (ws : List ℕ) (k a : ℕ) → a ≡ getD ws (5 * k)
 unfolding isRecordHeld
 isRecordHeld-segment ws k a p h = rw (← p, le-ltb a 256 h) refl
 
-pub isRecordHeld-state : (ws : List ℕ) (k a n : ℕ) → a ≡ getD ws (5 * k) 0 → a < 256 → n ≡ getD ws (5 * k + 1) 0 → 4 ≤ n → false ≡ isRecordHeld ws k
+pub isRecordHeld-state : (ws : List ℕ) (k a n : ℕ) → a ≡ getD ws (5 * k) 0 → a < 256 → n ≡ getD ws (5 * k + 1) 0 → 5 ≤ n → false ≡ isRecordHeld ws k
 unfolding isRecordHeld
-isRecordHeld-state ws k a n p h q g = rw (← p, ← q, lt-ltb a 256 h, le-ltb n 4 g) refl
+isRecordHeld-state ws k a n p h q g = rw (← p, ← q, lt-ltb a 256 h, le-ltb n 5 g) refl
 
 pub isRecordHeld-event :
-    (ws : List ℕ) (k a n e : ℕ) (b : Bool) → a ≡ getD ws (5 * k) 0 → a < 256 → n ≡ getD ws (5 * k + 1) 0 → n < 4 → e ≡ getD ws (5 * k + 2) 0 → b ≡ isEventHeld n e → b ≡ false →
+    (ws : List ℕ) (k a n e : ℕ) (b : Bool) → a ≡ getD ws (5 * k) 0 → a < 256 → n ≡ getD ws (5 * k + 1) 0 → n < 5 → e ≡ getD ws (5 * k + 2) 0 → b ≡ isEventHeld n e → b ≡ false →
     false ≡ isRecordHeld ws k
 unfolding isRecordHeld
-isRecordHeld-event ws k a n e b p h q g o f z = rw (← p, ← q, ← o, lt-ltb a 256 h, lt-ltb n 4 g, ← f, z) refl
+isRecordHeld-event ws k a n e b p h q g o f z = rw (← p, ← q, ← o, lt-ltb a 256 h, lt-ltb n 5 g, ← f, z) refl
 
 pub isRecordHeld-delta :
-    (ws : List ℕ) (k a n e d : ℕ) (b : Bool) → a ≡ getD ws (5 * k) 0 → a < 256 → n ≡ getD ws (5 * k + 1) 0 → n < 4 → e ≡ getD ws (5 * k + 2) 0 → b ≡ isEventHeld n e → b ≡ true →
+    (ws : List ℕ) (k a n e d : ℕ) (b : Bool) → a ≡ getD ws (5 * k) 0 → a < 256 → n ≡ getD ws (5 * k + 1) 0 → n < 5 → e ≡ getD ws (5 * k + 2) 0 → b ≡ isEventHeld n e → b ≡ true →
     d ≡ getD ws (5 * k + 4) 0 → ltb d 4294967296 ≡ isRecordHeld ws k
 unfolding isRecordHeld
-isRecordHeld-delta ws k a n e d b p h q g o f z u = rw (← p, ← q, ← o, ← u, lt-ltb a 256 h, lt-ltb n 4 g, ← f, z) refl
+isRecordHeld-delta ws k a n e d b p h q g o f z u = rw (← p, ← q, ← o, ← u, lt-ltb a 256 h, lt-ltb n 5 g, ← f, z) refl
 
 pub isLogHeld-short : (ws : List ℕ) → length ws < 385 → false ≡ isLogHeld ws
 unfolding isLogHeld

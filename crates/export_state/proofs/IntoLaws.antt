@@ -6,7 +6,7 @@ use native.Mathlib.Omega.{arith}
 use lib.ListN.{length, take, set}
 use lib.Seq.{sets, take-all}
 use Rattle.model.specs.declared.State.{State}
-use Rattle.model.specs.declared.State.the-variants.{Ended, Overrun, Ready, Waiting}
+use Rattle.model.specs.declared.State.the-variants.{Ended, Overrun, Ready, Waiting, Running}
 use Rattle.model.specs.declared.Thread.{Thread}
 use Rattle.buffers.specs.Write.{placedIn}
 use Rattle.buffers.proofs.WriteLaws.{placedIn-stored}
@@ -20,6 +20,7 @@ recordOf-length s (Ended c) = refl
 recordOf-length s (Overrun c) = refl
 recordOf-length s (Ready c) = refl
 recordOf-length s (Waiting e c) = refl
+recordOf-length s (Running c) = refl
 
 pub threadWords-length : (x : Thread) → length (threadWords x) ≡ 5
 threadWords-length x = recordOf-length (x .segment) (x .state)

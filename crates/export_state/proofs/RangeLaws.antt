@@ -15,7 +15,7 @@ use Rattle.clock.specs.Cycle.{cycleAt}
 use Rattle.clock.proofs.Cycle as cycle
 use Rattle.model.specs.declared.Variables.{Variables}
 use Rattle.model.specs.declared.State.{State}
-use Rattle.model.specs.declared.State.the-variants.{Ended, Overrun, Ready, Waiting}
+use Rattle.model.specs.declared.State.the-variants.{Ended, Overrun, Ready, Waiting, Running}
 use Rattle.model.specs.declared.Thread.{Thread}
 use Rattle.model.specs.Record.{cycleOf}
 use Rattle.model.proofs.Variables as variables
@@ -62,6 +62,7 @@ thread-range x vs g = record { segment = g .1 .1 .0 .1; event = state-range (x .
     state-range s (Overrun c) h = (omega arith, delta-range c (h .1 .1 .1 .1 .0))
     state-range s (Ready c) h = (omega arith, delta-range c (h .1 .1 .1 .1 .0))
     state-range s (Waiting e c) h = (h .1 .1 .1 .1 .0 .1, delta-range c (h .1 .1 .1 .1 .1 .0))
+    state-range s (Running c) h = (omega arith, delta-range c (h .1 .1 .1 .1 .0))
 
 -- what is owned of each element of an array is owned of the one at i
 each-at :

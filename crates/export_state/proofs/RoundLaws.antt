@@ -13,7 +13,7 @@ use lib.ListN.{length, getD, drop, List·getD-append}
 use borrow.Author.Tests.{lt-ltb, le-ltb}
 use Rattle.clock.specs.Cycle.{cycleAt}
 use Rattle.model.specs.declared.State.{State}
-use Rattle.model.specs.declared.State.the-variants.{Ended, Overrun, Ready, Waiting}
+use Rattle.model.specs.declared.State.the-variants.{Ended, Overrun, Ready, Waiting, Running}
 use Rattle.model.specs.declared.Thread.{Thread}
 use Rattle.model.specs.Record.{noThread, cycleOf}
 use Rattle.buffers.specs.Write.{placedIn}
@@ -67,6 +67,7 @@ threadFrom-words s (Ended c) h k l a n e t d p q o u v = rw (p, q, u, v, mod-eq-
 threadFrom-words s (Overrun c) h k l a n e t d p q o u v = rw (p, q, u, v, mod-eq-of-lt h, mod-eq-of-lt l) refl
 threadFrom-words s (Ready c) h k l a n e t d p q o u v = rw (p, q, u, v, mod-eq-of-lt h, mod-eq-of-lt l) refl
 threadFrom-words s (Waiting w c) h k l a n e t d p q o u v = rw (p, q, o, u, v, mod-eq-of-lt h, mod-eq-of-lt k, mod-eq-of-lt l) refl
+threadFrom-words s (Running c) h k l a n e t d p q o u v = rw (p, q, u, v, mod-eq-of-lt h, mod-eq-of-lt l) refl
 
 module _ (ts : List Thread) (r : (k : ℕ) → k < length ts → ThreadRange (getD ts k noThread)) (rest : List ℕ) where
   record-word : (k j : ℕ) → k < length ts → j < 5 → getD (recordWords ts ++ rest) (5 * k + j) 0 ≡ getD (threadWords (getD ts k noThread)) j 0

@@ -10,7 +10,7 @@ use Rattle.clock.specs.declared.Cycle.{Cycle}
 use Rattle.clock.specs.Cycle.{cycleAt}
 use Rattle.model.specs.declared.Variables.{Variables}
 use Rattle.model.specs.declared.State.{State}
-use Rattle.model.specs.declared.State.the-variants.{Ended, Overrun, Ready, Waiting}
+use Rattle.model.specs.declared.State.the-variants.{Ended, Overrun, Ready, Waiting, Running}
 use Rattle.model.specs.declared.Thread.{Thread}
 use Rattle.model.specs.Record.{noThread}
 use Rattle.early.specs.declared.Notification.{Notification}
@@ -21,12 +21,13 @@ use Rattle.early.specs.Log.{places, pairOf}
 abbrev pub pairWords : Notification → List ℕ
 pairWords x = x .event ∷ x .cycle .time .0 ∷ x .cycle .delta .0 ∷ []
 
--- segment s, state (0 ended, 1 overrun, 2 ready, 3 waiting), event (0 unless waiting), time, delta
+-- segment s, state (0 ended, 1 overrun, 2 ready, 3 waiting, 4 running), event (0 unless waiting), time, delta
 abbrev pub recordOf : ℕ → State → List ℕ
 recordOf s (Ended c) = s ∷ 0 ∷ 0 ∷ c .time .0 ∷ c .delta .0 ∷ []
 recordOf s (Overrun c) = s ∷ 1 ∷ 0 ∷ c .time .0 ∷ c .delta .0 ∷ []
 recordOf s (Ready c) = s ∷ 2 ∷ 0 ∷ c .time .0 ∷ c .delta .0 ∷ []
 recordOf s (Waiting e c) = s ∷ 3 ∷ e ∷ c .time .0 ∷ c .delta .0 ∷ []
+recordOf s (Running c) = s ∷ 4 ∷ 0 ∷ c .time .0 ∷ c .delta .0 ∷ []
 
 abbrev pub threadWords : Thread → List ℕ
 threadWords x = recordOf (x .segment) (x .state)
@@ -47,9 +48,9 @@ recordWords ts = inTurn threadWords ts
 unfoldable pub pairAt : List ℕ → ℕ → Notification
 pairAt ws i = pairOf (getD ws (3 * i + 1) 0 % 2 ^ 8) (cycleAt (getD ws (3 * i + 2) 0) (getD ws (3 * i + 3) 0 % 2 ^ 32))
 
--- a state by its number; from 3 on, waiting
+-- a state by its number; from 4 on, running
 unfoldable pub stateFrom : ℕ → ℕ → Cycle → State
-stateFrom n e c = cond (eqb n 0) (Ended c) (cond (eqb n 1) (Overrun c) (cond (eqb n 2) (Ready c) (Waiting e c)))
+stateFrom n e c = cond (eqb n 0) (Ended c) (cond (eqb n 1) (Overrun c) (cond (eqb n 2) (Ready c) (cond (eqb n 3) (Waiting e c) (Running c))))
 
 -- the record of thread k
 unfoldable pub threadFrom : List ℕ → ℕ → Thread
@@ -89,7 +90,7 @@ isEventHeld n e = cond (eqb n 3) (ltb e (2 ^ 8)) (eqb e 0)
 unfoldable pub isRecordHeld : List ℕ → ℕ → Bool
 isRecordHeld ws k =
     ltb (getD ws (5 * k) 0) (2 ^ 8) &&
-    (ltb (getD ws (5 * k + 1) 0) 4 && (isEventHeld (getD ws (5 * k + 1) 0) (getD ws (5 * k + 2) 0) && ltb (getD ws (5 * k + 4) 0) (2 ^ 32)))
+    (ltb (getD ws (5 * k + 1) 0) 5 && (isEventHeld (getD ws (5 * k + 1) 0) (getD ws (5 * k + 2) 0) && ltb (getD ws (5 * k + 4) 0) (2 ^ 32)))
 
 -- long enough, no "log count above 128", and every place below the count
 unfoldable pub isLogHeld : List ℕ → Bool

@@ -58,7 +58,7 @@ fn pair_at(log: &[u64], i: usize) -> Notification
     }
 }
 
-// A state by its number; from 3 on, waiting.
+// A state by its number; from 4 on, running.
 fn state_from(number: u64, event: u8, c: Cycle) -> State
     ensures { λ r. ⌜ r ≡ stateFrom number event c ⌝ }
 {
@@ -71,7 +71,10 @@ fn state_from(number: u64, event: u8, c: Cycle) -> State
     if number == 2 {
         return State::Ready(c);
     }
-    State::Waiting(event, c)
+    if number == 3 {
+        return State::Waiting(event, c);
+    }
+    State::Running(c)
 }
 
 // The place numbered i of a log: those from its count on are not read.
@@ -208,6 +211,7 @@ fn thread_words(x: Thread) -> [u64; 5]
             c.time.0,
             buffers::long_word(c.delta.0),
         ],
+        State::Running(c) => [first, 4, 0, c.time.0, buffers::long_word(c.delta.0)],
     }
 }
 
@@ -326,7 +330,7 @@ fn is_record_held(records: &[u64], k: usize) -> bool
     if buffers::word_at(records, p) >= 256 {
         return false;
     }
-    if number >= 4 {
+    if number >= 5 {
         return false;
     }
     if is_event_held(number, buffers::word_at(records, p + 2)) {

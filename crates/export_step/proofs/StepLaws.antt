@@ -5,7 +5,8 @@ use mathlib.Core.Bool.{Bool, true, false, cond, _&&_}
 use mathlib.Core.List.{List, [], _∷_}
 use native.Mathlib.Nat.{zero-add}
 use native.Mathlib.Omega.{arith}
-use lib.Dec.{ltb, leb}
+use native.Mathlib.Decide.{ℕ-discrete}
+use lib.Dec.{ltb, leb, eqb}
 use lib.ListN.{length, getD, take, drop}
 use lib.Seq.{getD-take, take-at, length-take-le, ext-getD}
 use borrow.Author.Tests.{lt-ltb, le-leb, lt-leb, eq-eqb, ne-eqb}
@@ -33,18 +34,22 @@ use Rattle.early.specs.declared.Answer.the-variants.{Granted, Refused}
 use Rattle.early.specs.Answer.{numberOf, valuesOf}
 use Rattle.early.specs.Request.{Requested, requestOf, freshSite}
 use Rattle.early.specs.ByRows.{requestByRows}
+use Rattle.early.specs.declared.Call.{Call}
+use Rattle.early.specs.Call.{Called, callOf, callByRows}
 use Rattle.early_request.specs.declared.FreshState.{FreshState}
 use Rattle.early_laws.proofs.AgreeLaws.{Agree}
 use Rattle.early_laws.proofs.AlikeLaws.{requestOf-length}
+use Rattle.early_laws.proofs.CallLaws.{callOf-refused, callByRows-refused}
 use Rattle.early_answer.specs.After.{afterOf}
 use Rattle.early_request.specs.Fresh.{freshOf}
 use Rattle.early_lent.specs.declared.Lent.{Lent}
 use Rattle.early_lent.specs.Answered.{askedOf, lentOf, requestFirst}
-use Rattle.early_lent.proofs.RowsLaws.{requestByRows-moves}
+use Rattle.early_lent.proofs.MovedLaws.{Moves, callOf-moves}
+use Rattle.early_lent.proofs.RowsLaws.{requestByRows-moves, callByRows-moves}
 use Rattle.replay.specs.declared.Replayed.{Replayed}
 use Rattle.replay.specs.Replay.{Keeps}
 use Rattle.export_state.specs.Numbers.{logWords, recordWords, threadFrom, siteFrom, threadsFrom, heldThreads, areHeld}
-use Rattle.export_step.specs.Step.{Kept, keeps, hasRoom, holding, freshNumber, freshKept, askedNumber, requestBy, rowsBy, requestNumber, keptBy, requestKept, requestAnswer, replayNumber, replayKept, replayBuffer, Freshens, Requests, Replays}
+use Rattle.export_step.specs.Step.{Kept, keeps, hasRoom, holding, freshNumber, freshKept, askedNumber, requestBy, rowsBy, callBy, callRowsBy, requestNumber, keptBy, requestKept, requestAnswer, callHeld, replayNumber, replayKept, replayBuffer, Freshens, Requests, Calls, Replays}
 use Rattle.export_step.specs.Left.{leftOf}
 use Rattle.export_state.proofs.TurnLaws.{tabulate-same}
 
@@ -145,6 +150,12 @@ pub record Right (q : Requested) (t : ℕ) (after : After) : Type 0 where
   pub site : after .site ≡ q .site
   pub threads : take t (after .threads .at) ≡ q .threads
 
+-- and what a call leaves, with the values that are held before and after it
+pub record RightCall (q : Called) (t : ℕ) (held : List ℕ) (after : After) (holds : List ℕ) : Type 0 where
+  pub left : Right (q .left) t after
+  pub values : holds ≡ q .held
+  pub refused : (numberOf (q .left .answer) ≡ 0 → ⊥) → q .held ≡ held
+
 module _ (m : Model) (few : m .t ≤ 32) (marks : List (List Bool)) (ws : List ℕ) (site : Site) (rs : List ℕ) (k : ℕ) where
   lent-is : requestFirst m marks ws site (heldThreads rs (m .t)) (m .t) k ≡ lentOf (requestOf m marks ws site (threadsFrom rs (m .t)) k) (drop (m .t) (heldThreads rs (m .t)))
   unfolding requestFirst
@@ -169,8 +180,8 @@ module _ (m : Model) (few : m .t ≤ 32) (marks : List (List Bool)) (ws : List �
         threads = lent-back;
       }
 
--- by rows, on 32 records by value of which the first are those of the threads
-module _ (m : Model) (few : m .t ≤ 32) (marks : List (List Bool)) (lent : ℕ) (site : Site) (rs : List ℕ) (k : ℕ) where
+-- on 32 records by value of which the first are those of the threads
+module _ (m : Model) (few : m .t ≤ 32) (rs : List ℕ) where
   abbrev by-value : List Thread
   by-value = take 32 (heldThreads rs (m .t))
 
@@ -188,22 +199,27 @@ module _ (m : Model) (few : m .t ≤ 32) (marks : List (List Bool)) (lent : ℕ)
       f : ℕ → Thread
       f k = cond (ltb k (m .t)) (threadFrom rs k) noThread
 
-  pub rows-left : Right (requestByRows m marks lent site (threadsFrom rs (m .t)) k) (m .t) (afterOf (requestByRows m marks lent site by-value k))
+  -- a call Q on records, which reads and writes those of the threads alone
+  value-right :
+      (site : Site) (held : List ℕ) (Q : List Thread → Called) → Moves m site held Q → ((ts : List Thread) → (numberOf (Q ts .left .answer) ≡ 0 → ⊥) → Q ts .held ≡ held) →
+      RightCall (Q (threadsFrom rs (m .t))) (m .t) held (afterOf (Q by-value .left)) (Q by-value .held)
   unfolding afterOf threadAt threadsFrom
-  rows-left =
-      let laws = requestByRows-moves m marks lent site k in
+  value-right site held Q laws refused =
       let alike = laws .unread by-value (threadsFrom rs (m .t)) agree in
-      let ends = requestByRows m marks lent site (threadsFrom rs (m .t)) k .threads in
+      let ends = Q (threadsFrom rs (m .t)) .left .threads in
       let long : length ends ≡ m .t = laws .long (threadsFrom rs (m .t)) ∙ tabulate-length (m .t) 0 (threadFrom rs) in
-      let enough = alike .threads .left in
-      let whole = requestByRows m marks lent site by-value k .threads in
-      let front : length (take (m .t) whole) ≡ m .t = length-take-le (m .t) whole enough in
+      let whole = Q by-value .left .threads in
+      let front : length (take (m .t) whole) ≡ m .t = length-take-le (m .t) whole (alike .left .threads .left) in
       record {
-        answer = alike .answer;
-        site = alike .site;
-        threads =
-            ext-getD noThread (take (m .t) whole) ends (front ∙ sym long)
-            (λ j h. let l : j < m .t = omega arith in getD-take (m .t) whole j noThread l ∙ alike .threads .same j l);
+        left = record {
+          answer = alike .left .answer;
+          site = alike .left .site;
+          threads =
+              ext-getD noThread (take (m .t) whole) ends (front ∙ sym long)
+              (λ j h. let l : j < m .t = omega arith in getD-take (m .t) whole j noThread l ∙ alike .left .threads .same j l);
+        };
+        values = alike .held;
+        refused = refused (threadsFrom rs (m .t));
       }
 
 module _ (file : List ℕ) (q : Requested) (b : Kept) (answer : List ℕ) (r : Read) (opened : r .number ≡ askedNumber file b answer) where
@@ -227,22 +243,75 @@ module _ (file : List ℕ) (q : Requested) (b : Kept) (answer : List ℕ) (r : R
         answered = rw (z, right .answer, a) refl;
       }
 
--- the requests of the two calls
-module _ (file : List ℕ) (b : Kept) (k : ℕ) (r : Read) (read : r ≡ readFile file) (h : r .number ≡ 0) where
-  few : r .model .t ≤ 32
-  few = modelFault-counts (r .model) (rw (← read) at (accepted-kept file (rw read at h))) .threads
+-- an accepted file has at most 32 threads
+few-threads : (file : List ℕ) (r : Read) → r ≡ readFile file → r .number ≡ 0 → r .model .t ≤ 32
+few-threads file r read h = modelFault-counts (r .model) (rw (← read) at (accepted-kept file (rw read at h))) .threads
 
+-- the requests of the two entries
+module _ (file : List ℕ) (b : Kept) (k : ℕ) (r : Read) (read : r ≡ readFile file) (h : r .number ≡ 0) where
   pub words-right : (words : List ℕ) (after : After)
       → after ≡ leftOf (requestFirst (r .model) (conflictMarks (r .model)) words (siteFrom (b .variables) (b .log)) (heldThreads (b .records) (r .model .t)) (r .model .t) k)
       → Right (requestBy file words b k) (r .model .t) after
   unfolding requestBy
-  words-right words after e = rw (e, ← read) (lent-left (r .model) few (conflictMarks (r .model)) words (siteFrom (b .variables) (b .log)) (b .records) k)
+  words-right words after e = rw (e, ← read) (lent-left (r .model) (few-threads file r read h) (conflictMarks (r .model)) words (siteFrom (b .variables) (b .log)) (b .records) k)
 
   pub rows-right : (lent : ℕ) (after : After)
       → after ≡ afterOf (requestByRows (r .model) (conflictMarks (r .model)) lent (siteFrom (b .variables) (b .log)) (take 32 (heldThreads (b .records) (r .model .t))) k)
       → Right (rowsBy file lent b k) (r .model .t) after
   unfolding rowsBy
-  rows-right lent after e = rw (e, ← read) (rows-left (r .model) few (conflictMarks (r .model)) lent (siteFrom (b .variables) (b .log)) (b .records) k)
+  rows-right lent after e =
+      let site = siteFrom (b .variables) (b .log) in
+      rw (e, ← read) (value-right (r .model) (few-threads file r read h) (b .records) site [] _ (requestByRows-moves (r .model) (conflictMarks (r .model)) lent site k) (λ ts other. refl) .left)
+
+-- the calls of the two entries
+module _ (file : List ℕ) (b : Kept) (held : List ℕ) (call : Call) (r : Read) (read : r ≡ readFile file) (h : r .number ≡ 0) where
+  abbrev m : Model
+  m = r .model
+
+  abbrev site : Site
+  site = siteFrom (b .variables) (b .log)
+
+  abbrev own : List Thread
+  own = take 32 (heldThreads (b .records) (m .t))
+
+  pub call-right : (words : List ℕ) (after : After) (holds : List ℕ) → after ≡ afterOf (callOf m (conflictMarks m) words site own held call .left)
+      → holds ≡ callOf m (conflictMarks m) words site own held call .held → RightCall (callBy file words b held call) (m .t) held after holds
+  unfolding callBy
+  call-right words after holds e f =
+      rw (e, f, ← read)
+      (value-right m (few-threads file r read h) (b .records) site held _ (callOf-moves m (conflictMarks m) words site held call)
+      (λ ts other. ap (λ (x : Called). x .held) (callOf-refused m (conflictMarks m) words site ts held call other)))
+
+  pub call-rows-right : (lent : ℕ) (after : After) (holds : List ℕ) → after ≡ afterOf (callByRows m (conflictMarks m) lent site own held call .left)
+      → holds ≡ callByRows m (conflictMarks m) lent site own held call .held → RightCall (callRowsBy file lent b held call) (m .t) held after holds
+  unfolding callRowsBy
+  call-rows-right lent after holds e f =
+      rw (e, f, ← read)
+      (value-right m (few-threads file r read h) (b .records) site held _ (callByRows-moves m (conflictMarks m) lent site held call)
+      (λ ts other. ap (λ (x : Called). x .held) (callByRows-refused m (conflictMarks m) lent site ts held call other)))
+
+-- a call is answered as the request that it makes
+module _ (file : List ℕ) (q : Called) (b : Kept) (held answer : List ℕ) (r : Read) (opened : r .number ≡ askedNumber file b answer) where
+  pub call-refused : (r .number ≡ 0 → ⊥) → Calls file q b held answer (r .number) b held answer
+  unfolding callHeld requestNumber
+  call-refused h =
+      let n : orElse (askedNumber file b answer) (numberOf (q .left .answer)) ≡ r .number = rw (← opened) (orElse-some (r .number) _ h) in
+      record { left = request-refused file (q .left) b answer r opened h; values = rw (n, ne-eqb (r .number) 0 h) refl }
+
+  pub call-answered :
+      r .number ≡ 0 → (t : ℕ) (after : After) (holds : List ℕ) → RightCall q t held after holds → (n : ℕ) (kept : Kept) (end : List ℕ) → n ≡ numberOf (after .answer) →
+      kept ≡ keptBy (after .answer) (after .site) (take t (after .threads .at)) b → end ≡ placedIn (valuesOf (after .answer)) answer →
+      Calls file q b held answer n kept holds end
+  unfolding callHeld requestNumber
+  call-answered h t after holds right n kept end x y z =
+      record {
+        left = request-answered file (q .left) b answer r opened h t after (right .left) n kept end x y z;
+        values = rw (← opened, orElse-none (r .number) (numberOf (q .left .answer)) h) (go (ℕ-discrete (numberOf (q .left .answer)) 0));
+      }
+    where
+      go : Dec (numberOf (q .left .answer) ≡ 0) → holds ≡ cond (eqb (numberOf (q .left .answer)) 0) (q .held) held
+      go (yes e) = rw (eq-eqb _ 0 e) (right .values)
+      go (no e) = rw (ne-eqb _ 0 e) (right .values ∙ right .refused e)
 
 -- an answer: a grant, written
 pub answer-granted :
@@ -255,13 +324,13 @@ pub answer-refused : (a : Answer) (answer : List ℕ) (n : ℕ) → a ≡ Refuse
 answer-refused a answer n e = (rw e refl, rw e (sym (placedIn-room [] answer (omega arith))))
 
 -- a whole list
-module _ (file ks : List ℕ) (d : Replayed) (b : Kept) (r : Read) (opened : r .number ≡ freshNumber file b) where
+module _ (file held calls : List ℕ) (d : Replayed) (b : Kept) (r : Read) (opened : r .number ≡ freshNumber file b) where
   replayKept-refused : (n : ℕ) → replayNumber file d b ≡ n → (n ≡ 0 → ⊥) → b ≡ replayKept file d b
   unfolding replayKept
   replayKept-refused n e h = rw (e, ne-eqb n 0 h) refl
 
   -- the file is refused, or a buffer of the state is too short
-  pub replay-unopened : (r .number ≡ 0 → ⊥) → Replays file ks d b (r .number) b
+  pub replay-unopened : (r .number ≡ 0 → ⊥) → Replays file held calls d b (r .number) b held
   unfolding replayNumber
   replay-unopened h =
       let n : replayNumber file d b ≡ r .number = rw (← opened) (orElse-some (r .number) _ h) in
@@ -281,17 +350,19 @@ module _ (file ks : List ℕ) (d : Replayed) (b : Kept) (r : Read) (opened : r .
     buffer-made now after before e = rw (← opened, eq-eqb (r .number) 0 h) e
 
     module _ (left : Replayed) (same : left ≡ d) where
-      pub replay-refused : (left .number ≡ 0 → ⊥) → Replays file ks d b (left .number) b
-      replay-refused other =
+      pub replay-refused : (left .number ≡ 0 → ⊥) → (holds : List ℕ) → Replays file held calls d b (left .number) b holds
+      replay-refused other holds =
           let n : replayNumber file d b ≡ left .number = replayNumber-on ∙ sym (ap (λ (x : Replayed). x .number) same) in
           record { number = sym n; state = replayKept-refused (left .number) n other; listed = λ z. absurd (other z) }
 
-      pub replay-done : left .number ≡ 0 → Keeps (r .model) ks left → (kept : Kept) → kept ≡ holding (left .site) (take (r .model .t) (left .threads .at)) b → Replays file ks d b 0 kept
+      pub replay-done :
+          left .number ≡ 0 → (holds : List ℕ) → Keeps (r .model) held calls left holds → (kept : Kept) → kept ≡ holding (left .site) (take (r .model .t) (left .threads .at)) b →
+          Replays file held calls d b 0 kept holds
       unfolding replayKept
-      replay-done z list kept k =
+      replay-done z holds list kept k =
           let n : replayNumber file d b ≡ 0 = replayNumber-on ∙ (sym (ap (λ (x : Replayed). x .number) same) ∙ z) in
           record {
             number = sym n;
             state = k ∙ rw (n, same, told h) refl;
-            listed = λ e. rw (← told h) (record { state = k ∙ rw (list .site, list .threads) refl; claim = list .claim });
+            listed = λ e. rw (← told h) (record { state = k ∙ rw (list .site, list .threads) refl; values = list .values; claim = list .claim });
           }

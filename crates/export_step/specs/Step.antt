@@ -2,7 +2,7 @@
 use Prim.Native.Nat.{ℕ, _*_}
 use mathlib.Core.Path.{_≡_}
 use mathlib.Core.Bool.{Bool, cond, _&&_}
-use mathlib.Core.List.{List}
+use mathlib.Core.List.{List, map}
 use lib.Dec.{leb, eqb}
 use lib.ListN.{length, take}
 use Rattle.base.specs.Index.{orElse}
@@ -22,8 +22,11 @@ use Rattle.early.specs.declared.Answer.the-variants.{Granted, Refused}
 use Rattle.early.specs.Answer.{numberOf, valuesOf}
 use Rattle.early.specs.Request.{Requested, requestOf, freshSite}
 use Rattle.early.specs.ByRows.{requestByRows}
-use Rattle.order.specs.Claim.{afterList, Claim}
+use Rattle.early.specs.declared.Call.{Call}
+use Rattle.early.specs.Call.{Called, callOf, callByRows, callAt}
+use Rattle.order.specs.Claim.{CallClaim}
 use Rattle.replay.specs.declared.Replayed.{Replayed}
+use Rattle.replay.specs.Replay.{servedOn}
 use Rattle.export_state.specs.Numbers.{logWords, recordWords, siteFrom, threadsFrom, areHeld}
 
 -- the buffers of a state
@@ -74,6 +77,17 @@ rowsBy file lent b k =
     let m = readFile file .model in
     requestByRows m (conflictMarks m) lent (siteFrom (b .variables) (b .log)) (threadsFrom (b .records) (m .t)) k
 
+-- document 02, slip 7: a call, on the same and on the values that are held
+unfoldable pub callBy : List ℕ → List ℕ → Kept → List ℕ → Call → Called
+callBy file words b held call =
+    let m = readFile file .model in
+    callOf m (conflictMarks m) words (siteFrom (b .variables) (b .log)) (threadsFrom (b .records) (m .t)) held call
+
+unfoldable pub callRowsBy : List ℕ → ℕ → Kept → List ℕ → Call → Called
+callRowsBy file lent b held call =
+    let m = readFile file .model in
+    callByRows m (conflictMarks m) lent (siteFrom (b .variables) (b .log)) (threadsFrom (b .records) (m .t)) held call
+
 -- what a call answers by the request q that it makes
 unfoldable pub requestNumber : List ℕ → Requested → Kept → List ℕ → ℕ
 requestNumber file q b answer = orElse (askedNumber file b answer) (numberOf (q .answer))
@@ -90,7 +104,11 @@ requestKept file q b answer = cond (eqb (askedNumber file b answer) accepted) (k
 unfoldable pub requestAnswer : List ℕ → Requested → Kept → List ℕ → List ℕ
 requestAnswer file q b answer = cond (eqb (askedNumber file b answer) accepted) (placedIn (valuesOf (q .answer)) answer) answer
 
--- a whole list of requests from the fresh state on, by what its replay d on the model leaves: the file's number, 11 for a short buffer of
+-- the values that are held, as a call q leaves them; on a refusal they are as they were
+unfoldable pub callHeld : List ℕ → Called → Kept → List ℕ → List ℕ → List ℕ
+callHeld file q b held answer = cond (eqb (requestNumber file (q .left) b answer) accepted) (q .held) held
+
+-- a whole list of calls from the fresh state on, by what its replay d on the model leaves: the file's number, 11 for a short buffer of
 -- the state, then the replay's
 unfoldable pub replayNumber : List ℕ → Replayed → Kept → ℕ
 replayNumber file d b = orElse (freshNumber file b) (d .number)
@@ -114,13 +132,19 @@ pub record Requests (file : List ℕ) (q : Requested) (b : Kept) (answer : List 
   pub state : kept ≡ requestKept file q b answer
   pub answered : written ≡ requestAnswer file q b answer
 
--- Demand 3, of a list that was made: the buffers hold the state and the records of the whole list, of which the claim speaks
-pub record HoldsList (m : Model) (ks : List ℕ) (b kept : Kept) : Type 0 where
-  pub state : kept ≡ holding (afterList m ks .site) (ownRecords m (afterList m ks .threads)) b
-  pub claim : Claim m (marksOf m) (wordsOf m) (freshThreads m) ks
+-- a grant, a finish or a combined request q: as of a request, and the values that are held
+pub record Calls (file : List ℕ) (q : Called) (b : Kept) (held answer : List ℕ) (r : ℕ) (kept : Kept) (holds written : List ℕ) : Type 0 where
+  pub left : Requests file (q .left) b answer r kept written
+  pub values : holds ≡ callHeld file q b held answer
 
--- a list of requests, of which the claim is said where it was made: by what its replay leaves
-pub record Replays (file ks : List ℕ) (d : Replayed) (b : Kept) (r : ℕ) (kept : Kept) : Type 0 where
+-- Demand 3, of a list that was made: the buffers hold the state, the records and the held values of the whole list, of which the claim speaks
+pub record HoldsList (m : Model) (held calls : List ℕ) (b kept : Kept) (holds : List ℕ) : Type 0 where
+  pub state : kept ≡ holding (servedOn m held calls .listed .site) (ownRecords m (servedOn m held calls .listed .threads)) b
+  pub values : holds ≡ servedOn m held calls .held
+  pub claim : CallClaim m (marksOf m) (wordsOf m) (freshThreads m) held (map callAt calls)
+
+-- a list of calls, of which the claim is said where it was made: by what its replay leaves
+pub record Replays (file held calls : List ℕ) (d : Replayed) (b : Kept) (r : ℕ) (kept : Kept) (holds : List ℕ) : Type 0 where
   pub number : r ≡ replayNumber file d b
   pub state : kept ≡ replayKept file d b
-  pub listed : r ≡ accepted → HoldsList (readFile file .model) ks b kept
+  pub listed : r ≡ accepted → HoldsList (readFile file .model) held calls b kept holds

@@ -1,8 +1,9 @@
-// For callers in C and Rust: the fresh state, one request or a whole list on a state that they keep as numbers in buffers.
+// For callers in C and Rust: the fresh state, one request, grant or finish, or a whole list, on a state that they keep as numbers in buffers.
 // Words past those of a state are not looked at and not touched.
 use clock::ThreadNo;
 use early::After;
 use early::Answer;
+use early::Call;
 use early::Site;
 use model::Model;
 use model::Threads;
@@ -17,12 +18,13 @@ ghost use Rattle.tables.specs.Outcome.{conflictMarks};
 ghost use Rattle.buffers.specs.Write.{placedIn};
 ghost use Rattle.early.specs.Answer.{valuesOf, numberOf};
 ghost use Rattle.early.specs.ByRows.{requestByRows, LeftFree};
+ghost use Rattle.early.specs.Call.{callOf, callByRows};
 ghost use Rattle.early_answer.specs.After.{afterOf};
 ghost use Rattle.early_request.specs.Fresh.{freshOf};
 ghost use Rattle.early_lent.specs.Answered.{requestFirst};
-ghost use Rattle.replay.specs.Replay.{replayedOn, wordsOn, answersOn, replayedByRows, answersByRows};
+ghost use Rattle.replay.specs.Replay.{replayedOn, wordsOn, heldOn, answersOn, replayedByRows, heldByRows, answersByRows};
 ghost use Rattle.export_state.specs.Numbers.{siteFrom, heldThreads, areHeld};
-ghost use Rattle.export_step.specs.Step.{keeps, hasRoom, holding, freshNumber, askedNumber, requestBy, rowsBy, keptBy, replayBuffer, Freshens, Requests, Replays};
+ghost use Rattle.export_step.specs.Step.{keeps, hasRoom, holding, freshNumber, askedNumber, requestBy, rowsBy, callBy, callRowsBy, keptBy, replayBuffer, Freshens, Requests, Calls, Replays};
 ghost use Rattle.export_step.specs.Left.{leftOf};
 
 // A state and the records of its t threads in the caller's buffers.
@@ -245,26 +247,120 @@ pub fn request_by_rows_into(
     put_answer(a, answer)
 }
 
-// A list of requests from the file's fresh state on, its answers in four words each and its tables in the words, and the state that it leaves in the caller's buffers.
+// A call on the state that the numbers say and on the values that are held, with the records by value.
+fn call_on(
+    m: Model,
+    words: &[u64],
+    held: &mut [u32],
+    variables: &[u32],
+    log: &[u64],
+    records: &[u64],
+    call: Call,
+) -> After
+    ensures left { λ r. ⌜ r ≡ afterOf (callOf m (conflictMarks m) (now (words .entry)) (siteFrom (now (variables .entry)) (now (log .entry))) (take 32 (heldThreads (now (records .entry)) (m .t))) (now (held .entry)) call .left) ⌝ }
+    ensures held { λ _. ⌜ now (held .exit) ≡ callOf m (conflictMarks m) (now (words .entry)) (siteFrom (now (variables .entry)) (now (log .entry))) (take 32 (heldThreads (now (records .entry)) (m .t))) (now (held .entry)) call .held ⌝ }
+{
+    let marks = tables_conflict::conflict_marks(m);
+    let site = export_state::site_from(variables, log);
+    let own = export_state::threads_from(records, m.t);
+    let threads = export_state::first_threads(own);
+    early_request::call(m, marks, words, site, threads, held, call)
+}
+
+// The same by rows.
+fn call_rows_on(
+    m: Model,
+    row: &mut [u64],
+    held: &mut [u32],
+    variables: &[u32],
+    log: &[u64],
+    records: &[u64],
+    call: Call,
+) -> After
+    ensures free { λ _. ⌜ LeftFree (now (row .entry)) (now (row .exit)) ⌝ }
+    ensures left { λ r. ⌜ r ≡ afterOf (callByRows m (conflictMarks m) (length (now (row .entry))) (siteFrom (now (variables .entry)) (now (log .entry))) (take 32 (heldThreads (now (records .entry)) (m .t))) (now (held .entry)) call .left) ⌝ }
+    ensures held { λ _. ⌜ now (held .exit) ≡ callByRows m (conflictMarks m) (length (now (row .entry))) (siteFrom (now (variables .entry)) (now (log .entry))) (take 32 (heldThreads (now (records .entry)) (m .t))) (now (held .entry)) call .held ⌝ }
+{
+    let marks = tables_conflict::conflict_marks(m);
+    let site = export_state::site_from(variables, log);
+    let own = export_state::threads_from(records, m.t);
+    let threads = export_state::first_threads(own);
+    early_request::call_by_rows(m, marks, row, site, threads, held, call)
+}
+
+// Document 02, slip 7: a grant, a finish or a combined request on the state that the caller keeps, with the file's words and the values
+// that are held: the number, 0 where it is not refused, and then segment, time and delta in the answer. On a refusal every buffer is as it was.
+pub fn call_into(
+    file: &[u8],
+    words: &[u64],
+    held: &mut [u32],
+    variables: &mut [u32],
+    log: &mut [u64],
+    records: &mut [u64],
+    call: Call,
+    answer: &mut [u64],
+) -> u8
+    ensures { λ r. ⌜ Calls (now (file .entry)) (callBy (now (file .entry)) (now (words .entry)) (keeps (now (variables .entry)) (now (log .entry)) (now (records .entry))) (now (held .entry)) call) (keeps (now (variables .entry)) (now (log .entry)) (now (records .entry))) (now (held .entry)) (now (answer .entry)) r (keeps (now (variables .exit)) (now (log .exit)) (now (records .exit))) (now (held .exit)) (now (answer .exit)) ⌝ }
+{
+    let read = with_state(file, variables, log, records, answer);
+    if read.number != 0 {
+        return read.number;
+    }
+    let m = read.model;
+    let after = call_on(m, words, held, variables, log, records, call);
+    let a = after.answer;
+    put_after(after, m.t, variables, log, records);
+    put_answer(a, answer)
+}
+
+// The same by rows, in 64 words that are left free: 16 after 11.
+pub fn call_by_rows_into(
+    file: &[u8],
+    row: &mut [u64],
+    held: &mut [u32],
+    variables: &mut [u32],
+    log: &mut [u64],
+    records: &mut [u64],
+    call: Call,
+    answer: &mut [u64],
+) -> u8
+    ensures free { λ _. ⌜ LeftFree (now (row .entry)) (now (row .exit)) ⌝ }
+    ensures calls { λ r. ⌜ Calls (now (file .entry)) (callRowsBy (now (file .entry)) (length (now (row .entry))) (keeps (now (variables .entry)) (now (log .entry)) (now (records .entry))) (now (held .entry)) call) (keeps (now (variables .entry)) (now (log .entry)) (now (records .entry))) (now (held .entry)) (now (answer .entry)) r (keeps (now (variables .exit)) (now (log .exit)) (now (records .exit))) (now (held .exit)) (now (answer .exit)) ⌝ }
+{
+    let read = with_state(file, variables, log, records, answer);
+    if read.number != 0 {
+        return read.number;
+    }
+    let m = read.model;
+    let after = call_rows_on(m, row, held, variables, log, records, call);
+    let a = after.answer;
+    put_after(after, m.t, variables, log, records);
+    put_answer(a, answer)
+}
+
+// A list of calls from the file's fresh state on, its answers in five words each and its tables in the words, and the state and the held
+// values that it leaves in the caller's buffers.
 pub fn replay_into(
     file: &[u8],
     words: &mut [u64],
-    threads: &[u8],
+    held: &mut [u32],
+    calls: &[u16],
     answers: &mut [u64],
     variables: &mut [u32],
     log: &mut [u64],
     records: &mut [u64],
 ) -> u8
-    ensures listed { λ r. ⌜ Replays (now (file .entry)) (now (threads .entry)) (replayedOn (readFile (now (file .entry)) .model) (now (words .entry)) (now (threads .entry)) (now (answers .entry))) (keeps (now (variables .entry)) (now (log .entry)) (now (records .entry))) r (keeps (now (variables .exit)) (now (log .exit)) (now (records .exit))) ⌝ }
-    ensures tables { λ _. ⌜ now (words .exit) ≡ replayBuffer (now (file .entry)) (keeps (now (variables .entry)) (now (log .entry)) (now (records .entry))) (wordsOn (readFile (now (file .entry)) .model) (now (words .entry)) (now (threads .entry)) (now (answers .entry))) (now (words .entry)) ⌝ }
-    ensures written { λ _. ⌜ now (answers .exit) ≡ replayBuffer (now (file .entry)) (keeps (now (variables .entry)) (now (log .entry)) (now (records .entry))) (answersOn (readFile (now (file .entry)) .model) (now (words .entry)) (now (threads .entry)) (now (answers .entry))) (now (answers .entry)) ⌝ }
+    ensures listed { λ r. ⌜ Replays (now (file .entry)) (now (held .entry)) (now (calls .entry)) (replayedOn (readFile (now (file .entry)) .model) (now (words .entry)) (now (held .entry)) (now (calls .entry)) (now (answers .entry))) (keeps (now (variables .entry)) (now (log .entry)) (now (records .entry))) r (keeps (now (variables .exit)) (now (log .exit)) (now (records .exit))) (now (held .exit)) ⌝ }
+    ensures tables { λ _. ⌜ now (words .exit) ≡ replayBuffer (now (file .entry)) (keeps (now (variables .entry)) (now (log .entry)) (now (records .entry))) (wordsOn (readFile (now (file .entry)) .model) (now (words .entry)) (now (held .entry)) (now (calls .entry)) (now (answers .entry))) (now (words .entry)) ⌝ }
+    ensures holds { λ _. ⌜ now (held .exit) ≡ replayBuffer (now (file .entry)) (keeps (now (variables .entry)) (now (log .entry)) (now (records .entry))) (heldOn (readFile (now (file .entry)) .model) (now (words .entry)) (now (held .entry)) (now (calls .entry)) (now (answers .entry))) (now (held .entry)) ⌝ }
+    ensures written { λ _. ⌜ now (answers .exit) ≡ replayBuffer (now (file .entry)) (keeps (now (variables .entry)) (now (log .entry)) (now (records .entry))) (answersOn (readFile (now (file .entry)) .model) (now (words .entry)) (now (held .entry)) (now (calls .entry)) (now (answers .entry))) (now (answers .entry)) ⌝ }
 {
     let read = with_room(file, variables, log, records);
     if read.number != 0 {
         return read.number;
     }
     let m = read.model;
-    let done = replay::replay_on(m, words, threads, answers);
+    let done = replay::replay_on(m, words, held, calls, answers);
     if done.number != 0 {
         return done.number;
     }
@@ -276,22 +372,24 @@ pub fn replay_into(
 pub fn replay_by_rows_into(
     file: &[u8],
     row: &mut [u64],
-    threads: &[u8],
+    held: &mut [u32],
+    calls: &[u16],
     answers: &mut [u64],
     variables: &mut [u32],
     log: &mut [u64],
     records: &mut [u64],
 ) -> u8
     ensures free { λ _. ⌜ LeftFree (now (row .entry)) (now (row .exit)) ⌝ }
-    ensures listed { λ r. ⌜ Replays (now (file .entry)) (now (threads .entry)) (replayedByRows (readFile (now (file .entry)) .model) (length (now (row .entry))) (now (threads .entry)) (now (answers .entry))) (keeps (now (variables .entry)) (now (log .entry)) (now (records .entry))) r (keeps (now (variables .exit)) (now (log .exit)) (now (records .exit))) ⌝ }
-    ensures written { λ _. ⌜ now (answers .exit) ≡ replayBuffer (now (file .entry)) (keeps (now (variables .entry)) (now (log .entry)) (now (records .entry))) (answersByRows (readFile (now (file .entry)) .model) (length (now (row .entry))) (now (threads .entry)) (now (answers .entry))) (now (answers .entry)) ⌝ }
+    ensures listed { λ r. ⌜ Replays (now (file .entry)) (now (held .entry)) (now (calls .entry)) (replayedByRows (readFile (now (file .entry)) .model) (length (now (row .entry))) (now (held .entry)) (now (calls .entry)) (now (answers .entry))) (keeps (now (variables .entry)) (now (log .entry)) (now (records .entry))) r (keeps (now (variables .exit)) (now (log .exit)) (now (records .exit))) (now (held .exit)) ⌝ }
+    ensures holds { λ _. ⌜ now (held .exit) ≡ replayBuffer (now (file .entry)) (keeps (now (variables .entry)) (now (log .entry)) (now (records .entry))) (heldByRows (readFile (now (file .entry)) .model) (length (now (row .entry))) (now (held .entry)) (now (calls .entry)) (now (answers .entry))) (now (held .entry)) ⌝ }
+    ensures written { λ _. ⌜ now (answers .exit) ≡ replayBuffer (now (file .entry)) (keeps (now (variables .entry)) (now (log .entry)) (now (records .entry))) (answersByRows (readFile (now (file .entry)) .model) (length (now (row .entry))) (now (held .entry)) (now (calls .entry)) (now (answers .entry))) (now (answers .entry)) ⌝ }
 {
     let read = with_room(file, variables, log, records);
     if read.number != 0 {
         return read.number;
     }
     let m = read.model;
-    let done = replay::replay_by_rows(m, row, threads, answers);
+    let done = replay::replay_by_rows(m, row, held, calls, answers);
     if done.number != 0 {
         return done.number;
     }

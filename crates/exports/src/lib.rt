@@ -1,6 +1,7 @@
 // The kit for programs in C and Rust: numbers, and slices of numbers as a pointer and a count.
 // One order of tests in all calls: the file's number; 11 for a buffer of the state or of the answers, or for numbers that are none of a
-// state; 16; then a request's own numbers.
+// state; 16; then a call's own numbers.
+use early::Call;
 ghost use mathlib.Core.Path.{_≡_};
 ghost use Prim.Native.Nat.{_≤_};
 ghost use lib.ListN.{length};
@@ -10,8 +11,8 @@ ghost use Rattle.early.specs.ByRows.{LeftFree};
 ghost use Rattle.buffers.specs.Write.{Writes};
 ghost use Rattle.sheet.specs.Sheet.{longestSheet};
 ghost use Rattle.sheet_file.specs.Report.{printed};
-ghost use Rattle.replay.specs.Replay.{replayedOn, wordsOn, answersOn, replayedByRows, answersByRows};
-ghost use Rattle.export_step.specs.Step.{keeps, requestBy, rowsBy, replayBuffer, Freshens, Requests, Replays};
+ghost use Rattle.replay.specs.Replay.{replayedOn, wordsOn, heldOn, answersOn, replayedByRows, heldByRows, answersByRows};
+ghost use Rattle.export_step.specs.Step.{keeps, requestBy, rowsBy, callBy, callRowsBy, replayBuffer, Freshens, Requests, Calls, Replays};
 ghost use Rattle.export_write.specs.Call.{Models, Files};
 
 // The reader's number of a model file, 0 where it is accepted.
@@ -98,22 +99,100 @@ pub extern "C" fn teaselauger_request_by_rows(
     export_step::request_by_rows_into(file, row, variables, log, records, thread, answer)
 }
 
-// A list of requests from the file's fresh state on, its answers in four words each and its tables in the words, and the state that it leaves in the caller's buffers.
+// Document 02, slip 7: a grant of a thread, on the state that the caller keeps and on the values that are held, 64 for each thread: the number, 0
+// where it is granted; its record is then running, and the variables are held for it. On a refusal every buffer is as it was.
+#[no_mangle]
+pub extern "C" fn teaselauger_grant(
+    file: &[u8],
+    words: &[u64],
+    held: &mut [u32],
+    variables: &mut [u32],
+    log: &mut [u64],
+    records: &mut [u64],
+    thread: u8,
+    answer: &mut [u64],
+) -> u8
+    ensures { λ r. ⌜ Calls (now (file .entry)) (callBy (now (file .entry)) (now (words .entry)) (keeps (now (variables .entry)) (now (log .entry)) (now (records .entry))) (now (held .entry)) (Call.Grant thread)) (keeps (now (variables .entry)) (now (log .entry)) (now (records .entry))) (now (held .entry)) (now (answer .entry)) r (keeps (now (variables .exit)) (now (log .exit)) (now (records .exit))) (now (held .exit)) (now (answer .exit)) ⌝ }
+{
+    let grant = Call::Grant(thread);
+    export_step::call_into(file, words, held, variables, log, records, grant, answer)
+}
+
+// A finish of a running thread, on the values that are held for it: what its segment writes is stored, and what it notifies is logged.
+#[no_mangle]
+pub extern "C" fn teaselauger_finish(
+    file: &[u8],
+    words: &[u64],
+    held: &mut [u32],
+    variables: &mut [u32],
+    log: &mut [u64],
+    records: &mut [u64],
+    thread: u8,
+    answer: &mut [u64],
+) -> u8
+    ensures { λ r. ⌜ Calls (now (file .entry)) (callBy (now (file .entry)) (now (words .entry)) (keeps (now (variables .entry)) (now (log .entry)) (now (records .entry))) (now (held .entry)) (Call.Finish thread)) (keeps (now (variables .entry)) (now (log .entry)) (now (records .entry))) (now (held .entry)) (now (answer .entry)) r (keeps (now (variables .exit)) (now (log .exit)) (now (records .exit))) (now (held .exit)) (now (answer .exit)) ⌝ }
+{
+    let finish = Call::Finish(thread);
+    export_step::call_into(file, words, held, variables, log, records, finish, answer)
+}
+
+// The same grant by rows, in 64 words that are left free: 16 below 64, after 11.
+#[no_mangle]
+pub extern "C" fn teaselauger_grant_by_rows(
+    file: &[u8],
+    row: &mut [u64],
+    held: &mut [u32],
+    variables: &mut [u32],
+    log: &mut [u64],
+    records: &mut [u64],
+    thread: u8,
+    answer: &mut [u64],
+) -> u8
+    ensures { λ _. ⌜ LeftFree (now (row .entry)) (now (row .exit)) ⌝ }
+    ensures { λ r. ⌜ Calls (now (file .entry)) (callRowsBy (now (file .entry)) (length (now (row .entry))) (keeps (now (variables .entry)) (now (log .entry)) (now (records .entry))) (now (held .entry)) (Call.Grant thread)) (keeps (now (variables .entry)) (now (log .entry)) (now (records .entry))) (now (held .entry)) (now (answer .entry)) r (keeps (now (variables .exit)) (now (log .exit)) (now (records .exit))) (now (held .exit)) (now (answer .exit)) ⌝ }
+{
+    let grant = Call::Grant(thread);
+    export_step::call_by_rows_into(file, row, held, variables, log, records, grant, answer)
+}
+
+// The same finish by rows.
+#[no_mangle]
+pub extern "C" fn teaselauger_finish_by_rows(
+    file: &[u8],
+    row: &mut [u64],
+    held: &mut [u32],
+    variables: &mut [u32],
+    log: &mut [u64],
+    records: &mut [u64],
+    thread: u8,
+    answer: &mut [u64],
+) -> u8
+    ensures { λ _. ⌜ LeftFree (now (row .entry)) (now (row .exit)) ⌝ }
+    ensures { λ r. ⌜ Calls (now (file .entry)) (callRowsBy (now (file .entry)) (length (now (row .entry))) (keeps (now (variables .entry)) (now (log .entry)) (now (records .entry))) (now (held .entry)) (Call.Finish thread)) (keeps (now (variables .entry)) (now (log .entry)) (now (records .entry))) (now (held .entry)) (now (answer .entry)) r (keeps (now (variables .exit)) (now (log .exit)) (now (records .exit))) (now (held .exit)) (now (answer .exit)) ⌝ }
+{
+    let finish = Call::Finish(thread);
+    export_step::call_by_rows_into(file, row, held, variables, log, records, finish, answer)
+}
+
+// A list of calls from the file's fresh state on, each a thread with 256 more for a grant and 512 more for a finish; its answers in five words
+// each and its tables in the words, and the state and the held values that it leaves in the caller's buffers.
 #[no_mangle]
 pub extern "C" fn teaselauger_replay(
     file: &[u8],
     words: &mut [u64],
-    threads: &[u8],
+    held: &mut [u32],
+    calls: &[u16],
     answers: &mut [u64],
     variables: &mut [u32],
     log: &mut [u64],
     records: &mut [u64],
 ) -> u8
-    ensures { λ r. ⌜ Replays (now (file .entry)) (now (threads .entry)) (replayedOn (readFile (now (file .entry)) .model) (now (words .entry)) (now (threads .entry)) (now (answers .entry))) (keeps (now (variables .entry)) (now (log .entry)) (now (records .entry))) r (keeps (now (variables .exit)) (now (log .exit)) (now (records .exit))) ⌝ }
-    ensures { λ _. ⌜ now (words .exit) ≡ replayBuffer (now (file .entry)) (keeps (now (variables .entry)) (now (log .entry)) (now (records .entry))) (wordsOn (readFile (now (file .entry)) .model) (now (words .entry)) (now (threads .entry)) (now (answers .entry))) (now (words .entry)) ⌝ }
-    ensures { λ _. ⌜ now (answers .exit) ≡ replayBuffer (now (file .entry)) (keeps (now (variables .entry)) (now (log .entry)) (now (records .entry))) (answersOn (readFile (now (file .entry)) .model) (now (words .entry)) (now (threads .entry)) (now (answers .entry))) (now (answers .entry)) ⌝ }
+    ensures { λ r. ⌜ Replays (now (file .entry)) (now (held .entry)) (now (calls .entry)) (replayedOn (readFile (now (file .entry)) .model) (now (words .entry)) (now (held .entry)) (now (calls .entry)) (now (answers .entry))) (keeps (now (variables .entry)) (now (log .entry)) (now (records .entry))) r (keeps (now (variables .exit)) (now (log .exit)) (now (records .exit))) (now (held .exit)) ⌝ }
+    ensures { λ _. ⌜ now (words .exit) ≡ replayBuffer (now (file .entry)) (keeps (now (variables .entry)) (now (log .entry)) (now (records .entry))) (wordsOn (readFile (now (file .entry)) .model) (now (words .entry)) (now (held .entry)) (now (calls .entry)) (now (answers .entry))) (now (words .entry)) ⌝ }
+    ensures { λ _. ⌜ now (held .exit) ≡ replayBuffer (now (file .entry)) (keeps (now (variables .entry)) (now (log .entry)) (now (records .entry))) (heldOn (readFile (now (file .entry)) .model) (now (words .entry)) (now (held .entry)) (now (calls .entry)) (now (answers .entry))) (now (held .entry)) ⌝ }
+    ensures { λ _. ⌜ now (answers .exit) ≡ replayBuffer (now (file .entry)) (keeps (now (variables .entry)) (now (log .entry)) (now (records .entry))) (answersOn (readFile (now (file .entry)) .model) (now (words .entry)) (now (held .entry)) (now (calls .entry)) (now (answers .entry))) (now (answers .entry)) ⌝ }
 {
-    export_step::replay_into(file, words, threads, answers, variables, log, records)
+    export_step::replay_into(file, words, held, calls, answers, variables, log, records)
 }
 
 // The same list by rows, in 64 words that are left free.
@@ -121,17 +200,19 @@ pub extern "C" fn teaselauger_replay(
 pub extern "C" fn teaselauger_replay_by_rows(
     file: &[u8],
     row: &mut [u64],
-    threads: &[u8],
+    held: &mut [u32],
+    calls: &[u16],
     answers: &mut [u64],
     variables: &mut [u32],
     log: &mut [u64],
     records: &mut [u64],
 ) -> u8
     ensures { λ _. ⌜ LeftFree (now (row .entry)) (now (row .exit)) ⌝ }
-    ensures { λ r. ⌜ Replays (now (file .entry)) (now (threads .entry)) (replayedByRows (readFile (now (file .entry)) .model) (length (now (row .entry))) (now (threads .entry)) (now (answers .entry))) (keeps (now (variables .entry)) (now (log .entry)) (now (records .entry))) r (keeps (now (variables .exit)) (now (log .exit)) (now (records .exit))) ⌝ }
-    ensures { λ _. ⌜ now (answers .exit) ≡ replayBuffer (now (file .entry)) (keeps (now (variables .entry)) (now (log .entry)) (now (records .entry))) (answersByRows (readFile (now (file .entry)) .model) (length (now (row .entry))) (now (threads .entry)) (now (answers .entry))) (now (answers .entry)) ⌝ }
+    ensures { λ r. ⌜ Replays (now (file .entry)) (now (held .entry)) (now (calls .entry)) (replayedByRows (readFile (now (file .entry)) .model) (length (now (row .entry))) (now (held .entry)) (now (calls .entry)) (now (answers .entry))) (keeps (now (variables .entry)) (now (log .entry)) (now (records .entry))) r (keeps (now (variables .exit)) (now (log .exit)) (now (records .exit))) (now (held .exit)) ⌝ }
+    ensures { λ _. ⌜ now (held .exit) ≡ replayBuffer (now (file .entry)) (keeps (now (variables .entry)) (now (log .entry)) (now (records .entry))) (heldByRows (readFile (now (file .entry)) .model) (length (now (row .entry))) (now (held .entry)) (now (calls .entry)) (now (answers .entry))) (now (held .entry)) ⌝ }
+    ensures { λ _. ⌜ now (answers .exit) ≡ replayBuffer (now (file .entry)) (keeps (now (variables .entry)) (now (log .entry)) (now (records .entry))) (answersByRows (readFile (now (file .entry)) .model) (length (now (row .entry))) (now (held .entry)) (now (calls .entry)) (now (answers .entry))) (now (answers .entry)) ⌝ }
 {
-    export_step::replay_by_rows_into(file, row, threads, answers, variables, log, records)
+    export_step::replay_by_rows_into(file, row, held, calls, answers, variables, log, records)
 }
 
 // A file's model as numbers at the front of a slice: the number, 0 where it is there.

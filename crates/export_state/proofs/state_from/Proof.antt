@@ -18,7 +18,11 @@ returns-3 c = simp (ne-eqb _ 0 (c .before .before .if1 .left), ne-eqb _ 1 (c .be
 
 returns-4 : tie.Need-returns-4
 unfolding stateFrom
-returns-4 c = simp (ne-eqb _ 0 (c .before .before .if1 .left), ne-eqb _ 1 (c .before .if2 .left), ne-eqb _ 2 (c .if3 .left))
+returns-4 c = simp (ne-eqb _ 0 (c .before .before .before .if1 .left), ne-eqb _ 1 (c .before .before .if2 .left), ne-eqb _ 2 (c .before .if3 .left), eq-eqb _ 3 (c .if4 .taken))
+
+returns-5 : tie.Need-returns-5
+unfolding stateFrom
+returns-5 c = simp (ne-eqb _ 0 (c .before .before .before .if1 .left), ne-eqb _ 1 (c .before .before .if2 .left), ne-eqb _ 2 (c .before .if3 .left), ne-eqb _ 3 (c .if4 .left))
 
 pub state-from-spec : {M : Type 1} → statement M
-state-from-spec = tie.close (tie.spec returns returns-2 returns-3 returns-4)
+state-from-spec = tie.close (tie.spec returns returns-2 returns-3 returns-4 returns-5)
