@@ -1,8 +1,9 @@
 """The stored runs of this crate: a model file and a list of arguments each, and the lines that `replayrun` must print of them.
 
-Requests are made here a second time, plainly from document 01, and the plain run beside them. Where a list leaves no thread ready
-up to the horizon, variables, records, histories and the count of segments must be the plain run's, else the next request of the
-least stamp must be granted. What document 01 itself says of a case is held against the lines.
+Requests, grants and finishes are made here a second time, plainly from documents 01 and 02, and the plain run beside them. Where a list
+leaves no thread running and none ready up to the horizon, variables, records, histories and the count of segments must be the plain
+run's, else a finish of each running thread, or the next request of the least stamp, must not be refused. What document 01 itself says of a
+case is held against the lines.
 """
 import copy, os, sys
 
@@ -12,7 +13,7 @@ sys.path.insert(0, os.path.join(os.path.dirname(os.path.abspath(__file__)), ".."
 from models import ADD, ADD_VARIABLE, COPY, NOTIFY, SET, always, atomic, below, dvd_player, end, manager_and_workers, model, model_m, two_behaviours, two_writes, wait, wait_for
 
 NEVER = (float("inf"), 0)
-READY, WAIT, ENDED, OVERRUN = "ready", "wait", "ended", "overrun"
+READY, WAIT, ENDED, OVERRUN, RUNNING = "ready", "wait", "ended", "overrun", "running"
 
 
 # ---- "Clock"
@@ -103,10 +104,10 @@ class Segment:
         return (then,) + advanced(c, self.delay) + (None,)
 
 
-# ---- a state: variables, records (segment, state, cycle, event), the log, histories
+# ---- a state: variables, records (segment, state, cycle, event), the log, the values that are held, histories
 class State:
     def __init__(self, m):
-        self.m, self.log = m, []
+        self.m, self.log, self.held = m, [], {}
         self.variables = [0] * m.V
         self.records = [(s, READY, (0, 0), None) for s in m.firsts]
         self.histories = [[] for _ in m.firsts]
@@ -115,14 +116,19 @@ class State:
         """The stamps of the ready threads up to the horizon, least first."""
         return sorted((c, k) for k, (_, state, c, _) in enumerate(self.records) if state == READY and c[0] <= self.m.H)
 
-    def execute(self, k):
-        """Thread k runs its segment whole, and its closer is applied; what it notified, in statement order."""
+    def running(self): return [k for k, r in enumerate(self.records) if r[1] == RUNNING]
+
+    def execute(self, k, values):
+        """Thread k runs its segment whole on the values, what it writes is stored, and its closer is applied; what it notified, in statement
+        order."""
         s, _, c, _ = self.records[k]
         g = self.m.mapped[k][s]
-        self.variables, then = g.run(self.variables)
+        after, then = g.run(values)
+        for v in g.writes: self.variables[v] = after[v]
         self.records[k] = g.closed(s, then, c)
-        self.histories[k].append((s, c))
         return [(e, c) for e in g.notifies]
+
+    def enter(self, k): self.histories[k].append((self.records[k][0], self.records[k][2]))
 
     def hear(self, k, c):
         s, _, _, e = self.records[k]
@@ -135,13 +141,13 @@ class State:
         while self.ready():
             now, notified = self.ready()[0][0], set()
             for c, k in self.ready():
-                if c == now: notified |= set(self.execute(k)); n += 1
+                if c == now: self.enter(k); notified |= set(self.execute(k, self.variables)); n += 1
             for k, (_, state, _, e) in enumerate(self.records):
                 if state == WAIT and (e, now) in notified: self.hear(k, now)
         return n
 
     # -- "Early issue"
-    def live(self): return [k for k, r in enumerate(self.records) if r[1] in (READY, WAIT)]
+    def live(self): return [k for k, r in enumerate(self.records) if r[1] in (READY, RUNNING, WAIT)]
 
     def heard_from(self, k):
         """The logged notifications that waiting thread k may hear, not before its wait began."""
@@ -153,7 +159,7 @@ class State:
         raised to the delta after the wait began."""
         out = [NEVER] * len(self.records)
         for k in self.live():
-            out[k] = self.records[k][2] if self.records[k][1] == READY else min([plus(c, (0, 1)) for c in self.heard_from(k)], default=NEVER)
+            out[k] = self.records[k][2] if self.records[k][1] != WAIT else min([plus(c, (0, 1)) for c in self.heard_from(k)], default=NEVER)
         while True:
             less = list(out)
             for k in self.live():
@@ -170,24 +176,56 @@ class State:
         return any(self.m.conflict(k, s, j, q) and (plus(bounds[j], self.m.reach[self.records[j][0]][q]), j) < (c, k)
                    for j in self.live() if j != k for q in range(self.m.N))
 
-    def floor(self): return min([c for _, state, c, _ in self.records if state == READY], default=None)
+    def floor(self): return min([c for _, state, c, _ in self.records if state in (READY, RUNNING)], default=None)
 
-    def request(self, k):
+    def pairs(self, k): return {(e, self.records[k][2]) for e in self.m.segments[self.records[k][0]].notifies}
+
+    def places(self, k):
+        """Those of the log, and those counted for the running threads and for thread k, an equal pair once."""
+        return len(set(self.log).union(*[self.pairs(j) for j in self.running() + [k]]))
+
+    def refusal(self, k):
+        """The number of a request or a grant, 0 where it is granted."""
+        if k >= len(self.records): return 10
+        s, state, c, _ = self.records[k]
+        if state == RUNNING: return 19
+        if state != READY: return 12
+        if c[0] > self.m.H: return 13
+        if self.hazard(k): return 14
+        return 15 if self.places(k) > (96 if c > self.floor() else 128) else 0
+
+    def grant(self, k):
         """The answer as words."""
+        n = self.refusal(k)
+        if n: return "refused %d" % n
+        s, _, c, _ = self.records[k]
+        self.enter(k)
+        self.held[k] = list(self.variables)
+        self.records[k] = (s, RUNNING, c, None)
+        return "granted %d %d %d" % ((s,) + c)
+
+    def finish(self, k):
         if k >= len(self.records): return "refused 10"
         s, state, c, _ = self.records[k]
-        if state != READY: return "refused 12"
-        if c[0] > self.m.H: return "refused 13"
-        if self.hazard(k): return "refused 14"
-        new = {(e, c) for e in self.m.segments[s].notifies} - set(self.log)
-        size = len(self.log) + len(new)
-        if size > 128 or (c > self.floor() and size > 96): return "refused 15"
-        for x in self.execute(k):
+        if state != RUNNING: return "refused 19"
+        for x in self.execute(k, self.held.pop(k)):
             if x not in self.log: self.log.append(x)
         while self.deliver(): pass
         f = self.floor()
         self.log = [x for x in self.log if f is not None and x[1] >= f]
-        return "granted %d %d %d" % ((s,) + c)
+        return "finished %d %d %d" % ((s,) + c)
+
+    def request(self, k):
+        """"as a grant and its finish at once\""""
+        answer = self.grant(k)
+        if answer.startswith("granted"): self.finish(k)
+        return answer
+
+    def call(self, arg):
+        """An argument's line."""
+        kind, x = parted(arg)
+        ask = {"r": self.request, "g": self.grant, "f": self.finish}[kind]
+        return "%s %s %s" % (kind, "?" if x is None else x, ask(255 if x is None else x))
 
     def deliver(self):
         """One delivery, to any thread that hears; whether there was one."""
@@ -212,24 +250,29 @@ def label(arg):
     return int(arg) if 1 <= len(arg) <= 19 and all(x in "0123456789" for x in arg) else None
 
 
+def parted(arg):
+    """The kind of call and the number in an argument."""
+    return (arg[0], label(arg[1:])) if arg[:1] in ("g", "f") else ("r", label(arg))
+
+
 def lines(file, args):
     if len(args) > 1024: return ["refused 11"]
     m = Model(file)
     if m.number: return ["refused %d" % m.number]
-    state, out = State(m), []
-    for a in args:
-        x = label(a)
-        out.append("r %s %s" % ("?" if x is None else x, state.request(255 if x is None else x)))
+    state = State(m)
+    out = [state.call(a) for a in args]
     out += state.sheet() + ["l %d %d %d" % ((e,) + c) for e, c in state.log]
     hold_plain(state, sum(" granted " in x for x in out))
     return out
 
 
 def hold_plain(state, granted):
-    """Demand 3, of the state that a list leaves."""
+    """Demand 3, as document 02, slip 7, has it, of the state that a list leaves."""
     plain = State(state.m)
     n = plain.plain()
-    if state.ready():
+    if state.running():
+        for k in state.running(): assert copy.deepcopy(state).finish(k).startswith("finished")
+    elif state.ready():
         assert state.request(state.ready()[0][1]).startswith("granted")
     else:
         assert (granted, state.variables, state.records, state.histories) == (n, plain.variables, plain.records, plain.histories)
@@ -238,13 +281,18 @@ def hold_plain(state, granted):
 # ---- lists
 def asked(file, args, turn):
     """The arguments, and then what each turn asks for, a list of threads of which the first granted ends the turn, until no thread is
-    ready up to the horizon. The turn gets the ready stamps and its own number."""
-    state, out, i = State(Model(file)), list(args), 0
-    for a in args: state.request(int(a))
-    while state.ready():
-        for k in turn(state.ready(), i):
-            out.append(str(k))
-            if state.request(int(k) if label(str(k)) is not None else 255).startswith("granted"): break
+    ready up to the horizon. The turn gets the ready stamps and its own number. Threads that the arguments leave running are finished first."""
+    return called(file, args, lambda state, i: ["f%d" % k for k in state.running()] or turn(state.ready(), i))
+
+
+def called(file, args, turn):
+    """The same where the turn gets the state and asks for any calls, until no thread is running either."""
+    state, out, i = State(Model(file)), [str(a) for a in args], 0
+    for a in out: state.call(a)
+    while state.running() or state.ready():
+        for a in turn(state, i):
+            out.append(str(a))
+            if " refused " not in state.call(str(a)): break
         i += 1
     return out
 
@@ -253,6 +301,17 @@ def in_order(ready, i): return [ready[0][1]]
 def most_ahead(ready, i): return [k for _, k in reversed(ready)]
 def first(k): return lambda ready, i: [k] + [j for _, j in ready if j != k]
 def in_turn(t): return lambda ready, i: [i % t]
+
+
+def grants(state): return ["g%d" % k for _, k in reversed(state.ready())]
+def finishes(state): return ["f%d" % k for k in state.running()]
+
+
+# as many as can be running, and then the lowest finished, or the highest; at most two running; a finish after every third call
+def lowest_first(state, i): return grants(state) + finishes(state)
+def highest_first(state, i): return grants(state) + finishes(state)[::-1]
+def two_at_once(state, i): return (grants(state) if len(state.running()) < 2 else []) + finishes(state)
+def third_finishes(state, i): return (finishes(state)[::-1] if i % 3 == 2 else []) + grants(state) + [str(k) for _, k in state.ready()] + finishes(state)
 
 
 def bound(file, args, k, s):
@@ -459,6 +518,86 @@ def waits():
     assert here[3] == "r 1 granted 4 9 0"
 
 
+def calls():
+    """Document 02, slip 7: grants and finishes apart. Until its finish a thread "counts as live at its cycle for hazards, earliest, forecasts and the floor"."""
+    def answers(got): return [x.split(" ", 2)[2] for x in got if x[0] in "rgf"]
+    def left(got): return [x for x in got if x[0] in "vtl"]
+
+    assert left(run("A grant", M, ["g0"])) == ["v 0 0", "v 1 0", "v 2 0", "t 0 0 running 0 0", "t 1 2 ready 0 0"]
+    assert left(run("The log is kept while one runs", M, ["g0", "g1", "f0"]))[3:] == ["t 0 0 ready 10 0", "t 1 2 running 0 0", "l 0 0 0"]
+    here, there = case("Heard at the finish", M, ["g0", "g1", "f0", "f1"], in_turn(2))
+    assert left(here) == ["v 0 1", "v 1 0", "v 2 0", "t 0 0 ready 10 0", "t 1 3 ready 0 1"] and left(there) == SHEET
+    # 19, "checked after 10"
+    got = run("Number 19", M, ["f0", "g0", "g0", 0, "f1", "f2", "g2", "f0", "f0"])
+    assert answers(got) == ["refused 19", "granted 0 0 0", "refused 19", "refused 19", "refused 19", "refused 10", "refused 10", "finished 0 0 0", "refused 19"]
+    got = run("Number 19, of what has ended or waits", model(9, 0, 1, [end(), wait_for(0, always(0))], [0, 1]), [0, "f0", "g0", 1, "f1", "g1"])
+    assert answers(got) == ["granted 0 0 0", "refused 19", "refused 12", "granted 1 0 0", "refused 19", "refused 12"]
+    got = run("Number 19, and 13", model(5, 0, 0, [wait(6, always(0))], [0]), ["g0", "f0", "g0", "f0"])
+    assert answers(got)[2:] == ["refused 13", "refused 19"]
+    got = run("Calls with numbers out of range", M, ["g", "f", "gx", "f-1", "gg0", "fg0", "g00", "f 0", "f255", "g256", "g9999999999999999999", "f10000000000000000000", "F0", "f000"])
+    assert [x[:3] for x in got[:14]] == ["g ?", "f ?", "g ?", "f ?", "g ?", "f ?", "g 0", "f ?", "f 2", "g 2", "g 9", "f ?", "r ?", "f 0"]
+    assert [k for k, x in enumerate(answers(got)) if x != "refused 10"] == [6, 13]
+
+    # case 6: what thread 0 is about to write, and what follows what it runs
+    def setters(x, a, y, b): return model(100, 2, 0, [wait(5, always(2)), wait(10, always(3)), end((SET, x, a)), end((SET, y, b))], [0, 1])
+    here, there = case("A hazard of a running thread", setters(0, 0, 0, 1), [0, 1, "g0", "g1", "f0", "g1"])
+    assert answers(here)[2:] == ["granted 2 5 0", "refused 14", "finished 2 5 0", "granted 3 10 0"] and "v 0 0" in here and "v 0 1" in there
+    here, _ = case("A hazard of what follows a running segment", setters(0, 0, 0, 1), [1, "g0", "g1"])
+    assert answers(here) == ["granted 1 0 0", "granted 0 0 0", "refused 14"]
+    # case 7: "a finish stores the variables it writes", and no more
+    here, there = case("Two running", setters(0, 5, 1, 7), [0, 1, "g1", "g0"])
+    assert left(here) == ["v 0 0", "v 1 0", "t 0 2 running 5 0", "t 1 3 running 10 0"] and "v 0 5" in there and "v 1 7" in there
+    for order in ["f1", "f0"], ["f0", "f1"]:
+        got = run("Each stores its own, %s" % order[0], setters(0, 5, 1, 7), [0, 1, "g0", "g1"] + order)
+        assert left(got)[:2] == ["v 0 5", "v 1 7"]
+    # thread 0 copies variable 0; while it runs, thread 1, which sets it, waits for its turn
+    m = model(9, 2, 0, [end((COPY, 1, 0)), end((SET, 0, 3))], [0, 1])
+    here, _ = case("A reader that runs", m, ["g0", "g1", 1, "f0", "g1", "f1"])
+    assert answers(here) == ["granted 0 0 0", "refused 14", "refused 14", "finished 0 0 0", "granted 1 0 0", "finished 1 0 0"] and "v 1 0" in here
+    # the test is made of what the segment wrote, and of values at the grant
+    m = model(9, 2, 0, [wait(1, below(0, 2, 0, 1), (ADD, 0, 1)), end((ADD, 1, 1))], [0])
+    got = run("A loop by grants and finishes", m, called(m, [], lowest_first))
+    assert answers(got)[-1] == "finished 1 2 0" and left(got)[:2] == ["v 0 2", "v 1 1"]
+
+    # case 8: a running thread's forecast holds back a delivery, its finish lets it through
+    m = model(100, 0, 1, [wait_for(0, always(3)), wait(5, always(4)), wait(2, always(4)), end(), end((NOTIFY, 0, 0))], [0, 1, 2])
+    here, _ = case("A forecast of a running thread", m, [0, 2, "g2", 1, 1])
+    assert left(here) == ["t 0 3 wait 0 0 0", "t 1 4 ended 5 0", "t 2 4 running 2 0", "l 0 5 0"]
+    here, _ = case("A forecast, then finished", m, [0, 2, "g2", 1, 1, "f2"])
+    assert left(here) == ["t 0 3 ready 2 1", "t 1 4 ended 5 0", "t 2 4 ended 2 0", "l 0 5 0"]
+    # a running thread that may wake another, which sets the variable
+    m = model(100, 1, 1, [wait_for(0, always(1)), end((SET, 0, 1)), wait(2, always(3)), end((NOTIFY, 0, 0)), wait(3, always(5)), end((SET, 0, 2))], [0, 2, 4])
+    here, there = case("A chain from a running thread", m, [0, 1, 2, "g1", "g2", "f1", "g2", 0, "g2"])
+    assert answers(here)[4:] == ["refused 14", "finished 3 2 0", "refused 14", "granted 1 2 1", "granted 5 3 0"] and "v 0 2" in there
+
+    # "its log places are counted from the grant, an equal pair once"
+    loud = end(*[(NOTIFY, e, 0) for e in range(32)])
+    def sounders(*at): return model(20, 0, 32, [end()] + [wait(t, always(5)) for t in at] + [loud], [0, 1, 2, 3, 4])
+    asks = [1, 2, 3, 4, "g1", "g2", "g3", "g4"]
+    here, _ = case("Places from the grant", sounders(1, 2, 3, 4), asks + [4, "g0", "g4"])
+    assert answers(here)[6:] == ["granted 5 3 0", "refused 15", "refused 15", "granted 0 0 0", "refused 15"] and not any(x[0] == "l" for x in here)
+    here, _ = case("An equal pair once", sounders(1, 1, 3, 4), asks)
+    assert answers(here)[4:] == ["granted 5 1 0", "granted 5 1 0", "granted 5 3 0", "granted 5 4 0"]
+    here, _ = case("Places counted and logged", sounders(1, 1, 2, 3), [1, 2, 3, 4, "g1", "f1", "g2", "g3", "f3", "g4"])
+    assert answers(here)[-1] == "granted 5 3 0" and sum(x[0] == "l" for x in here) == 64
+    here, _ = case("The floor of a running thread", sounders(1, 2, 3, 4), [1, 2, 3, 4, "g0", 1, 2, 3, 4, "f0", 4])
+    assert answers(here)[4:] == ["granted 0 0 0", "granted 5 1 0", "granted 5 2 0", "granted 5 3 0", "refused 15", "finished 0 0 0", "granted 5 4 0"]
+
+    # ports: one code on two counters, and on one
+    here, there = case("Two counters, both running", LOOPS, ["g1", "g0", "f0", "f1"])
+    assert answers(here) == ["granted 0 0 0", "granted 0 0 0", "finished 0 0 0", "finished 0 0 0"] and left(here)[:2] == ["v 0 1", "v 1 1"]
+    here, _ = case("One counter, one running", LOOPS.replace(port_record(p0=1), port_record(p0=0)), ["g0", "g1", "f0", "g1", "f1"])
+    assert answers(here) == ["granted 0 0 0", "refused 14", "finished 0 0 0", "granted 0 0 0", "finished 0 0 0"] and left(here)[:2] == ["v 0 2", "v 1 0"]
+
+    turns = [("lowest first", lowest_first), ("highest first", highest_first), ("two at once", two_at_once), ("every third a finish", third_finishes)]
+    for name, turn in turns:
+        got = run("Model M, grants, " + name, M, called(M, [], turn))
+        assert left(got) == SHEET and sum(" granted " in x for x in got) == 254, name
+    for name, file in [("Document 000, Fig. 4", two_behaviours()), ("Document 001, Fig. 1", manager_and_workers()), ("Ports in every place", EVERY)]:
+        for order, turn in turns: run("%s, grants, %s" % (name, order), file, called(file, [], turn))
+    assert run("Model M, 1,025 calls", M, ["g0", "f0"] * 512 + ["g1"]) == ["refused 11"]
+
+
 def runs():
     cases()
     orders_of_m()
@@ -467,4 +606,5 @@ def runs():
     end_time()
     ports()
     waits()
+    calls()
     return RUNS

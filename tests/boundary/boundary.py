@@ -4,14 +4,15 @@
   boundary.py [FILES] [SEED]     needs target/bin/plainrun, target/bin/replayrun and target/staticlib/libexports.a
 
 Of each file: the sheet and the line of a refusal (teaselauger_sheet, teaselauger_read), the distance table (teaselauger_load), and a
-list of requests, as a list (teaselauger_replay) and one at a time (teaselauger_fresh, teaselauger_request), against what replayrun prints.
-Each list and each request is made by rows too (teaselauger_replay_by_rows, teaselauger_request_by_rows), in 64 words of junk, and must answer and
-leave the same; of those 64 words nothing is asked.
+list of requests, grants and finishes, as a list (teaselauger_replay) and one at a time (teaselauger_fresh, teaselauger_request,
+teaselauger_grant, teaselauger_finish), against what replayrun prints. Each list and each call is made by rows too, in 64 words of junk, and
+must answer and leave the same; of those 64 words nothing is asked. Before each call junk is held for the threads that are not running: a grant
+must leave the variables in its thread's place, a finish 0, and nothing else may change there.
 
 Of each call on it: every buffer exactly long enough, longer, one element short and empty, and every two one element short, with the number
-that the header's ORDER has for them. Of a request also: numbers that no state has, numbers that just fit the model and that just do
-not, and numbers that are not judged. A refused call leaves every buffer as it was; no call writes past a buffer's end, nor past what it
-speaks of, nor to what it only reads.
+that the header's ORDER has for them. Of a request, a grant and a finish also: numbers that no state has, numbers that just fit the model and
+that just do not, 128 places of the log with what running threads notify and one more, and numbers that are not judged. A refused call leaves
+every buffer as it was; no call writes past a buffer's end, nor past what it speaks of, nor to what it only reads.
 """
 import ctypes, itertools, os, random, subprocess, sys, tempfile
 from array import array
@@ -22,41 +23,47 @@ sys.path.insert(0, os.path.join(HERE, "../judge"))
 import generator
 
 BUDGET = 1000000
-STATES = ["ended", "overrun", "ready", "wait"]
+STATES = ["ended", "overrun", "ready", "wait", "running"]
+WAITING, RUNNING = 3, 4
 NEVER = 2**64 - 1
 
 # teaselauger.h: the parameters of each call, which of them are only read (the file always),
 # and the elements of those that are not uint64_t
+STATE = ("variables", "log", "records")
 PARAMETERS = {
     "read": ["file"],
     "load": ["file", "words"],
     "sheet": ["file", "budget", "out"],
-    "fresh": ["file", "variables", "log", "records"],
-    "request": ["file", "words", "variables", "log", "records", "thread", "answer"],
-    "replay": ["file", "words", "threads", "answers", "variables", "log", "records"],
-    "load_by_rows": ["file", "row"],
-    "request_by_rows": ["file", "row", "variables", "log", "records", "thread", "answer"],
-    "replay_by_rows": ["file", "row", "threads", "answers", "variables", "log", "records"],
+    "fresh": ["file", *STATE],
+    "request": ["file", "words", *STATE, "thread", "answer"],
+    "grant": ["file", "words", "held", *STATE, "thread", "answer"],
+    "finish": ["file", "words", "held", *STATE, "thread", "answer"],
+    "replay": ["file", "words", "held", "calls", "answers", *STATE],
 }
-ONLY_READ = {"request": ["file", "words"], "replay": ["file", "threads"], "load_by_rows": ["file", "row"], "replay_by_rows": ["file", "threads"]}
-# the calls that leave the first 64 words of the row free
-LEAVE_FREE = {"request_by_rows", "replay_by_rows"}
+ONLY_READ = {"request": ["file", "words"], "grant": ["file", "words"], "finish": ["file", "words"], "replay": ["file", "calls"]}
 SCALARS = {"budget": ctypes.c_uint64, "thread": ctypes.c_uint8}
-ELEMENTS = {"file": "B", "variables": "I", "threads": "B", "out": "B"}
+ELEMENTS = {"file": "B", "variables": "I", "held": "I", "calls": "H", "out": "B"}
 
 # teaselauger.h: after the word ORDER, which buffers are looked at for their length, and the number of one that is too short
 FILE = "file"
-STATE = ("variables", "log", "records")
 ORDER = {
     "load": [FILE, (("words",), 16)],
     "fresh": [FILE, (STATE, 11)],
     "request": [FILE, (STATE + ("answer", "words"), 11)],
-    "replay": [FILE, (STATE + ("answers",), 11), (("words",), 16)],
-    "load_by_rows": [FILE, (("row",), 16)],
-    "request_by_rows": [FILE, (STATE + ("answer",), 11), (("row",), 16)],
-    "replay_by_rows": [FILE, (STATE + ("answers",), 11), (("row",), 16)],
+    "grant": [FILE, (STATE + ("answer", "words", "held"), 11)],
+    "finish": [FILE, (STATE + ("answer", "words", "held"), 11)],
+    "replay": [FILE, (STATE + ("answers", "held"), 11), (("words",), 16)],
 }
-REQUESTS = ["request", "request_by_rows"]
+# those by rows, of which all but the first leave the first 64 words of the row free
+for name in ["load", "request", "grant", "finish", "replay"]:
+    rows = name + "_by_rows"
+    PARAMETERS[rows] = ["row" if p == "words" else p for p in PARAMETERS[name]]
+    ONLY_READ[rows] = [p for p in ONLY_READ.get(name, ["file"]) if p != "words"] + ["row"] * (name == "load")
+    ORDER[rows] = [FILE, *[(tuple(p for p in short if p != "words"), n) for short, n in ORDER[name][1:] if n == 11], (("row",), 16)]
+LEAVE_FREE = {"request_by_rows", "grant_by_rows", "finish_by_rows", "replay_by_rows"}
+# the calls of a list, by their words: a thread's number, and 256 more for the next kind
+KINDS = ["request", "grant", "finish"]
+ASKING = [*KINDS, *[kind + "_by_rows" for kind in KINDS]]
 
 
 def filled(p, value, size):
@@ -65,7 +72,7 @@ def filled(p, value, size):
 
 
 # what the buffers hold before a call that writes to them
-UNUSED = {p: filled(p, 9, size) for p, size in [("words", 4096), ("row", 64), ("variables", 64), ("log", 385), ("records", 160), ("answer", 3)]}
+UNUSED = {p: filled(p, 9, size) for p, size in [("words", 4096), ("row", 64), ("variables", 64), ("log", 385), ("records", 160), ("held", 2048), ("answer", 3)]}
 # what a row may hold before a call, beside what the last one left: all ones, distances of another model, numbers that are no distance
 JUNK = [filled("row", NEVER, 64), array("Q", [1024 * i for i in range(64)]), array("Q", [(2 * i + 1) * 0x9E3779B97F4A7C15 % 2**64 for i in range(64)])]
 
@@ -197,13 +204,20 @@ def state_lines(v, t, variables, log, records):
     out = ["v %d %d" % (i, variables[i]) for i in range(v)]
     for k in range(t):
         segment, state, event, time, delta = records[5 * k:5 * k + 5]
-        out.append("t %d %d %s" % (k, segment, STATES[state]) + (" %d" % event if state == 3 else "") + " %d %d" % (time, delta))
+        out.append("t %d %d %s" % (k, segment, STATES[state]) + (" %d" % event if state == WAITING else "") + " %d %d" % (time, delta))
     return out + ["l %d %d %d" % tuple(log[3 * i + 1:3 * i + 4]) for i in range(log[0])]
 
 
-def answer_lines(threads, answers):
-    for k, (number, segment, time, delta) in zip(threads, zip(*[iter(answers)] * 4)):
-        yield "r %d refused %d" % (k, number) if number else "r %d granted %d %d %d" % (k, segment, time, delta)
+def argument(word):
+    """A call as replayrun takes it."""
+    return ["%d", "g%d", "f%d"][word // 256] % (word % 256)
+
+
+def answer_lines(calls, answers):
+    for call, (word, number, segment, time, delta) in zip(calls, zip(*[iter(answers)] * 5)):
+        assert word == call, "the call of an answer"
+        done = "finished" if word >= 512 else "granted"
+        yield "%s %d " % ("rgf"[word // 256], word % 256) + ("refused %d" % number if number else "%s %d %d %d" % (done, segment, time, delta))
 
 
 def number_of(name, file_number, short):
@@ -237,28 +251,29 @@ def check_lengths(c, name, file_number, exact):
     return len(choices)
 
 
-def check_refused(c, number, threads):
+def check_refused(c, number, calls):
     """Every call on a refused file. How many calls."""
-    exact = {**UNUSED, "threads": threads, "thread": 0, "answers": filled("answers", 9, 4 * len(threads))}
+    exact = {**UNUSED, "calls": calls, "thread": 0, "answers": filled("answers", 9, 5 * len(calls))}
     c.refused("read", number, {}, "a refused file")
     return 1 + sum(check_lengths(c, name, number, exact) for name in ORDER)
 
 
 def check_longer(c, name, exact, after):
     """With longer buffers a call makes the same, and leaves what lies past it."""
-    past = {p: filled(p, 3, 0 if p == "threads" else 5) for p in PARAMETERS[name] if p in after or p == "row"}
+    past = {p: filled(p, 3, 0 if p == "calls" else 5) for p in PARAMETERS[name] if p in after or p == "row"}
     longer = c.made(name, {**exact, **{p: exact[p] + past[p] for p in past}}, "longer buffers")
     for p in longer:
         assert longer[p] == after[p] + past[p], "%s: longer %s" % (name, p)
 
 
-def check_replay(c, file, t, threads):
+def check_replay(c, file, t, calls):
     """A list against replayrun, by rows against the list, and the words against load: the buffers, exactly long enough, before and after."""
-    exact = {**UNUSED, "words": filled("words", 9, segments(file) ** 2), "records": filled("records", 9, 5 * t), "threads": threads}
-    exact["answers"] = filled("answers", 9, 4 * len(threads))
+    exact = {**UNUSED, "words": filled("words", 9, segments(file) ** 2), "records": filled("records", 9, 5 * t), "calls": calls}
+    exact["answers"] = filled("answers", 9, 5 * len(calls))
+    exact["held"] = array("I", range(64 * t))
     after = c.made("replay", exact, "exact buffers")
-    lines = [*answer_lines(threads, after["answers"]), *state_lines(file[8], t, *[after[p] for p in STATE])]
-    assert "\n".join(lines + [""]).encode() == program("replayrun", file, *map(str, threads)), "replay"
+    lines = [*answer_lines(calls, after["answers"]), *state_lines(file[8], t, *[after[p] for p in STATE])]
+    assert "\n".join(lines + [""]).encode() == program("replayrun", file, *map(argument, calls)), "replay"
     check_longer(c, "replay", exact, after)
     for _ in JUNK:
         c.same_by_rows("replay", 0, exact, after, "exact buffers")
@@ -267,47 +282,72 @@ def check_replay(c, file, t, threads):
     assert words["words"] == after["words"], "load"
     check_longer(c, "load", exact, words)
     check_longer(c, "load_by_rows", exact, c.made("load_by_rows", exact, "64 words"))
+    none = c.made("replay", {**exact, "calls": array("H", [768, 1023, 65535]), "answers": filled("answers", 9, 15)}, "words from 768 on")
+    assert list(none["answers"][1::5]) == [10, 10, 10] and list(none["answers"][::5]) == [768, 1023, 65535], "words from 768 on"
     return exact, after
 
 
 def check_fresh(c, exact):
-    """The fresh state, which a list of no requests leaves too."""
+    """The fresh state, which a list of no calls leaves too."""
     after = c.made("fresh", exact, "exact buffers")
     check_longer(c, "fresh", exact, after)
     for name in ["replay", "replay_by_rows"]:
-        nothing = c.made(name, {**exact, "threads": filled("threads", 0, 0), "answers": filled("answers", 0, 0)}, "no requests")
-        assert all(nothing[p] == after[p] for p in STATE), "%s, no requests" % name
+        nothing = c.made(name, {**exact, "calls": filled("calls", 0, 0), "answers": filled("answers", 0, 0)}, "no calls")
+        assert all(nothing[p] == after[p] for p in STATE) and nothing["held"] == exact["held"], "%s, no calls" % name
     return after
 
 
-def check_requests(c, words, fresh, threads, after):
-    """The list's requests one at a time, by rows too: the answers and the state of the list. The states on the way, and the numbers."""
-    state, states, numbers = fresh, [], []
-    for i, k in enumerate(threads):
-        states.append(state)
-        given = {**UNUSED, "words": words, **state, "thread": k}
-        number, *grant = after["answers"][4 * i:4 * i + 4]
+def running(state, t):
+    return [k for k in range(t) if state["records"][5 * k + 1] == RUNNING]
+
+
+def strewn(r, state, t):
+    """The state with junk held for the threads that are not running."""
+    held = array("I", [r.randrange(2**32) for _ in range(64 * t)])
+    for k in running(state, t):
+        held[64 * k:64 * k + 64] = state["held"][64 * k:64 * k + 64]
+    return {**state, "held": held}
+
+
+def holding(kind, k, given):
+    """What is held after a call of thread k that is not refused."""
+    held = given["held"][:]
+    if kind != "request":
+        held[64 * k:64 * k + 64] = given["variables"][:64] if kind == "grant" else filled("held", 0, 64)
+    return held
+
+
+def check_calls(c, r, t, words, fresh, exact, after):
+    """The list's calls one at a time, by rows too: the answers and the state of the list. The states on the way, and the numbers."""
+    state, states, numbers = {**fresh, "held": exact["held"]}, [], []
+    for i, call in enumerate(exact["calls"]):
+        kind, k, what = KINDS[call // 256], call % 256, "call %d" % i
+        number, *grant = after["answers"][5 * i + 1:5 * i + 5]
+        given = {**UNUSED, "words": words, **strewn(r, state, t), "thread": k}
+        states.append(given)
+        numbers.append((kind, number))
         if number:
-            c.refused("request", number, given, "request %d" % i)
-            c.same_by_rows("request", number, given, given, "request %d" % i)
-        else:
-            made = c.made("request", given, "request %d" % i)
-            assert list(made["answer"]) == grant, "request %d" % i
-            c.same_by_rows("request", 0, given, made, "request %d" % i)
-            state = {p: made[p] for p in STATE}
-            for name in REQUESTS:
-                check_longer(c, name, given, made)
-        numbers.append(number)
-    assert all(state[p] == after[p] for p in STATE), "state after requests"
+            c.refused(kind, number, given, what)
+            c.same_by_rows(kind, number, given, given, what)
+            continue
+        made = c.made(kind, given, what)
+        assert list(made["answer"]) == grant, what
+        assert kind == "request" or made["held"] == holding(kind, k, given), "%s: what is held" % what
+        assert kind != "grant" or all(made[p] == given[p] for p in ["variables", "log"]), "%s: a grant writes" % what
+        c.same_by_rows(kind, 0, given, made, what)
+        for name in [kind, kind + "_by_rows"]:
+            check_longer(c, name, given, made)
+        state = {**{p: made[p] for p in STATE}, "held": holding(kind, k, {**given, "held": state["held"]})}
+    assert all(state[p] == after[p] for p in [*STATE, "held"]), "state after calls"
     return states, numbers
 
 
 def no_states(r, t, state):
     """Numbers that no state has, in a place of the log below its count and in a record below T."""
     k, count = r.randrange(t), state["log"][0]
-    waits = state["records"][5 * k + 1] == 3
+    waits = state["records"][5 * k + 1] == WAITING
     numbers = [
-        ("log", 0, 129), ("records", 5 * k, 2**8), ("records", 5 * k + 1, 4), ("records", 5 * k + 2, 2**8 if waits else 1),
+        ("log", 0, 129), ("records", 5 * k, 2**8), ("records", 5 * k + 1, 5), ("records", 5 * k + 2, 2**8 if waits else 1),
         ("records", 5 * k + 4, 2**32),
     ]
     if count:
@@ -318,13 +358,50 @@ def no_states(r, t, state):
             yield p, at, value
 
 
+def notified(file):
+    """The events that each segment of an accepted file notifies."""
+    out, at = [], 10
+    while file[at + 2] == 2:
+        r = file[at:at + file[at] + 256 * file[at + 1]]
+        out.append({r[i + 1] for i in range(17, len(r), 6) if r[i] == 6})
+        at += len(r)
+    return out
+
+
+def counted_pairs(file, t, state):
+    """The pairs of the log, and those that the running threads will notify."""
+    log = [tuple(state["log"][3 * i + 1:3 * i + 4]) for i in range(state["log"][0])]
+    events, pairs = notified(file), set()
+    for k in running(state, t):
+        segment, _, _, time, delta = state["records"][5 * k:5 * k + 5]
+        pairs |= {(e, time, delta) for e in events[segment]}
+    return log, pairs
+
+
+def is_over(file, t, state):
+    log, pairs = counted_pairs(file, t, state)
+    return len(log) + len(pairs - set(log)) > 128
+
+
+def full_logs(file, t, state):
+    """Where running threads notify something: the state with a log that leaves as many places as they need, and with one pair more."""
+    _, pairs = counted_pairs(file, t, state)
+    if pairs:
+        others = [(0, time, 0) for time in range(1000) if (0, time, 0) not in pairs]
+        for count in [128 - len(pairs), 129 - len(pairs)]:
+            log = array("Q", [count, *[x for pair in others[:count] for x in pair]])
+            yield count, {**state, "log": log + filled("log", 0, 385 - len(log))}
+
+
 def edges(r, file, n, t, state):
     """The least numbers that do not fit the model (docs/RULES.md, 7): in a record below T, in the log below its count, in the words. The
     ports are tried apart."""
-    k, count = r.randrange(t), state["log"][0]
-    yield from [("records", 5 * k, n), ("records", 5 * k + 3, 2 * 10**9 + 1), ("records", 5 * k + 4, 1024)]
-    if state["records"][5 * k + 1] == 3:
-        yield "records", 5 * k + 2, file[9]
+    chosen, count = {r.randrange(t), *running(state, t)}, state["log"][0]
+    for k in sorted(chosen):
+        latest = int.from_bytes(file[4:8], "little") if state["records"][5 * k + 1] == RUNNING else 2 * 10**9
+        yield from [("records", 5 * k, n), ("records", 5 * k + 3, latest + 1), ("records", 5 * k + 4, 1024)]
+        if state["records"][5 * k + 1] == WAITING:
+            yield "records", 5 * k + 2, file[9]
     if count:
         i = r.randrange(count)
         yield from [("log", 3 * i + 1, file[9]), ("log", 3 * i + 2, 10**9 + 1), ("log", 3 * i + 3, 1024)]
@@ -334,15 +411,17 @@ def edges(r, file, n, t, state):
 
 
 def unjudged(r, n, t, state):
-    """Places of a state and of the words that lie past T, past the count and past N x N, and so are not looked at: any number may stand there."""
+    """Places of a state and of the words that lie past T, past the count and past N x N, and so are not looked at: any number may stand there.
+    So for what is held for a thread that is not running."""
     count = state["log"][0]
-    places = [("records", 5 * t + j) for j in range(5)] + [("words", n * n)]
+    places = [("records", 5 * t + j) for j in range(5)] + [("words", n * n), ("held", 64 * t)]
     if count < 128:
         i = r.randrange(count, 128)
         places += [("log", 3 * i + j) for j in (1, 2, 3)]
+    places += [("held", 64 * k + r.randrange(64)) for k in range(t) if k not in running(state, t)]
     for p, at in places:
         for value in {r.randrange(2**64), NEVER}:
-            yield p, at, value
+            yield p, at, value % 2**32 if p == "held" else value
 
 
 def changed(given, p, at, value):
@@ -351,65 +430,97 @@ def changed(given, p, at, value):
     return {**given, p: values}
 
 
+def judged(name, p):
+    """Whether a call is given the buffer p by both entries."""
+    return p in PARAMETERS[name] and p != "words"
+
+
 def check_out_of_range(c, r, file, t, given):
-    """What is refused with 11 whatever the thread and the row; just below it a number is used as given. How many calls."""
+    """What is refused with 11 whatever the call, the thread and the row; just below it a number is used as given. How many calls."""
     least, unused = [*edges(r, file, segments(file), t, given)], [("records", 5 * k, s) for k, s in lacking(file)]
     wrong = [*no_states(r, t, given), *least, ("log", 0, 255), ("words", r.randrange(segments(file) ** 2), NEVER - 1)]
     wrong += r.sample(unused, min(len(unused), 9))
     calls = 0
     for p, at, value in wrong:
-        for k in [given["thread"], 255]:
+        for name, k in zip(KINDS, [given["thread"], 255, given["thread"]]):
             spoilt, what = {**changed(given, p, at, value), "thread": k}, "%s %d is %d" % (p, at, value)
-            c.refused("request", 11, spoilt, what)
-            calls += 1 + (c.same_by_rows("request", 11, spoilt, spoilt, what) if p != "words" else 0)
+            c.refused(name, 11, spoilt, what)
+            calls += 1 + (c.same_by_rows(name, 11, spoilt, spoilt, what) if judged(name, p) else 0)
     fits = [x for x in least if (x[0], x[1], x[2] - 1) not in unused]
     for p, at, value in fits:
         fitting, what = changed(given, p, at, value - 1), "%s %d is %d" % (p, at, value - 1)
-        number, after = c.call("request", fitting)
-        assert number != 11, "request, %s: 11" % what
-        calls += 1 + (c.same_by_rows("request", number, fitting, after, what) if p != "words" else 0)
-        beyond, what = {**fitting, "thread": t}, what + ", thread T"
-        c.refused("request", 10, beyond, what)
-        calls += 1 + c.same_by_rows("request", 10, beyond, beyond, what)
+        calls += check_fitting(c, t, p, fitting, what) if not is_over(file, t, fitting) else 0
+    for count, full in full_logs(file, t, given):
+        what = "%d places" % count
+        if is_over(file, t, full):
+            for name in KINDS:
+                c.refused(name, 11, full, what)
+                calls += 1 + c.same_by_rows(name, 11, full, full, what)
+        else:
+            calls += check_fitting(c, t, "log", full, what)
+    return calls
+
+
+def check_fitting(c, t, p, fitting, what):
+    """No call answers 11, and thread T 10. How many calls."""
+    calls = 0
+    for name in KINDS:
+        number, after = c.call(name, fitting)
+        assert number != 11, "%s, %s: 11" % (name, what)
+        calls += 1 + (c.same_by_rows(name, number, fitting, after, what) if judged(name, p) else 0)
+        beyond = {**fitting, "thread": t}
+        c.refused(name, 10, beyond, what + ", thread T")
+        calls += 1 + c.same_by_rows(name, 10, beyond, beyond, what + ", thread T")
     return calls
 
 
 def check_unjudged(c, r, file, t, given):
-    """What lies past the model's own changes no answer, and stays; a grant alone sets places past the log's count. How many calls."""
-    given = {**given, "words": given["words"] + filled("words", 0, 1), "records": given["records"] + filled("records", 0, 5)}
-    (number, after), trials, calls = c.call("request", given), [*unjudged(r, segments(file), t, given)], 1
-    for p, at, value in trials:
-        trial, what = changed(given, p, at, value), "%s %d is %d" % (p, at, value)
-        answered, left = c.call("request", trial)
-        expected = after if p == "log" and number == 0 else changed(after, p, at, value)
-        assert answered == number, "request, %s: %d, must be %d" % (what, answered, number)
-        assert left == expected, "request, %s: not left as it was" % what
-        calls += 1 + (c.same_by_rows("request", number, trial, expected, what) if p != "words" else 0)
+    """What lies past the model's own, or is held for a thread that is not running, changes no answer, and stays; a call that is made
+    sets places past the log's count, and a grant or a finish what is held for its thread. How many calls."""
+    past = {"words": 1, "records": 5, "held": 1}
+    given, calls = {**given, **{p: given[p] + filled(p, 0, n) for p, n in past.items()}}, 0
+    for name in KINDS:
+        number, after = c.call(name, given)
+        for p, at, value in [*unjudged(r, segments(file), t, given)]:
+            if p not in PARAMETERS[name]:
+                continue
+            trial, what = changed(given, p, at, value), "%s %d is %d" % (p, at, value)
+            answered, left = c.call(name, trial)
+            sets = number == 0 and (p == "log" or p == "held" and at // 64 == given["thread"])
+            expected = after if sets else changed(after, p, at, value)
+            assert answered == number, "%s, %s: %d, must be %d" % (name, what, answered, number)
+            assert left == expected, "%s, %s: not left as it was" % (name, what)
+            calls += 1 + (c.same_by_rows(name, number, trial, expected, what) if judged(name, p) else 0)
     return calls
 
 
 def check_short(c, r, file, t, exact, given):
-    """Short buffers and refused calls on an accepted file, the requests on a given state. How many calls."""
+    """Short buffers and refused calls on an accepted file, the calls on a given state. How many calls."""
     calls = check_out_of_range(c, r, file, t, given) + check_unjudged(c, r, file, t, given)
     for name in ORDER:
-        calls += check_lengths(c, name, 0, given if name in REQUESTS else exact)
-    return calls + check_refused(Calls(c.lib, file[:-1]), 1, exact["threads"])
+        calls += check_lengths(c, name, 0, given if name in ASKING else exact)
+    return calls + check_refused(Calls(c.lib, file[:-1]), 1, exact["calls"])
+
+
+def drawn(r, t):
+    """A list of calls: requests alone, or grants and finishes among them, of few threads that there are not."""
+    kinds = r.choice([[0], [256, 512, 512], [0, 256, 512], [256, 256, 512, 512, 512]])
+    return array("H", [r.randrange(t + (r.randrange(9) == 0)) + r.choice(kinds) for _ in range(r.randrange(1, 100))])
 
 
 def check(lib, r, file):
-    """The file's number, its requests' numbers, and how many calls were made with short buffers, a cut file and other numbers."""
+    """The file's number, its calls' numbers, and how many calls were made with short buffers, a cut file and other numbers."""
     c, sheet = Calls(lib, file), program("plainrun", file)
     check_sheet(c, sheet)
     refused = int(sheet.split()[1]) if sheet.startswith(b"refused") else 0
     assert c.call("read", {})[0] == refused, "read"
     t = sheet.count(b"\nt ") + sheet.startswith(b"t ")
-    threads = array("B", [r.randrange(t + 2) for _ in range(r.randrange(1, 100))])
+    calls = drawn(r, max(t, 1))
     if refused:
-        return refused, [], check_refused(c, refused, threads)
-    exact, after = check_replay(c, file, t, threads)
-    states, numbers = check_requests(c, after["words"], check_fresh(c, exact), threads, after)
-    i = r.randrange(len(states))
-    given = {**UNUSED, "words": after["words"], **states[i], "thread": threads[i]}
+        return refused, [], check_refused(c, refused, calls)
+    exact, after = check_replay(c, file, t, calls)
+    states, numbers = check_calls(c, r, t, after["words"], check_fresh(c, exact), exact, after)
+    given = r.choice([x for x in states if running(x, t)] or states)
     return 0, numbers, check_short(c, r, file, t, exact, given)
 
 
@@ -418,8 +529,8 @@ def counted(numbers):
 
 
 def main(files, seed):
-    lib, numbers, requests = library(), [], []
-    calls = check_refused(Calls(lib, b""), 1, array("B", [0, 1]))
+    lib, numbers, made = library(), [], []
+    calls = check_refused(Calls(lib, b""), 1, array("H", [0, 257, 512]))
     for i in range(files):
         r = random.Random("%d %d" % (seed, i))
         file = generator.file_of(generator.model_of(seed + i))
@@ -432,10 +543,12 @@ def main(files, seed):
             open("/tmp/boundary_%d" % i, "wb").write(file)
             return 1
         numbers.append(number)
-        requests += asked
+        made += asked
         calls += refused
     print("%d files, by number: %s" % (files, counted(numbers)))
-    print("%d requests, by number: %s" % (len(requests), counted(requests)))
+    for kind in KINDS:
+        of_kind = [number for k, number in made if k == kind]
+        print("%d calls of %s, by number: %s" % (len(of_kind), kind, counted(of_kind)))
     print("%d calls with short buffers, refused files and numbers at the edge of their range; no difference" % calls)
     return 0
 

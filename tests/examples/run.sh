@@ -6,15 +6,15 @@ cd "$(dirname "$0")/../.."
 mkdir -p target/examples
 bindings/run.sh >target/examples/stdout
 diff tests/examples/stdout target/examples/stdout
-for words in "0" "15" "rows 0" "rows 63"; do
+for words in "0" "15" "rows 0" "rows 63" "apart 15" "rows apart 63"; do
     # shellcheck disable=SC2086
     [ "$(target/examples/example models/m.model $words)" = "refused 16" ]
 done
-for words in "16" "rows 64"; do
+for words in "16" "rows 64" "apart 16" "rows apart 64"; do
     # shellcheck disable=SC2086
     [ "$(target/examples/example models/m.model $words | tail -n 1)" = "granted 254, variable 0 is 126" ]
 done
-echo "both examples print what they must"
+echo "the examples print what they must"
 if ! cargo test --quiet --offline --manifest-path bindings/rust/Cargo.toml --target-dir target/rust >target/examples/tests.log 2>&1; then
     cat target/examples/tests.log
     exit 1

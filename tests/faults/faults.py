@@ -41,7 +41,10 @@ FAULTS = [
     (EARLY, "equal cycles are no hazard", "early_ahead/src/lib.rt", "        return j < i;\n", "        return false;\n"),
     (EARLY, "a conflict through a port only if both use one", "early_ports/src/lib.rt", "(a.ported | b.ported)", "(a.ported & b.ported)"),
     (EARLY, "a wait raises no bound", "early_ahead/src/lib.rt", "raised_limit(since, forecast(", "raised_limit(0, forecast("),
-    (EARLY, "a granted segment with ports not mapped", "early_answer/src/lib.rt", "run_grant(reach, t, own, ", "run_grant(reach, t, g, "),
+    (EARLY, "a granted segment with ports not mapped", "early_answer/src/lib.rt", "        t,\n        own,\n", "        t,\n        g,\n"),
+    (PLAIN, "a finish reads the variables anew", "early_answer/src/lib.rt", "        return held_for(held, k);\n", "        return v;\n"),
+    (EARLY, "a finish stores all values", "early_answer/src/lib.rt", "chosen(masks::has(written, i), w.at[i], v.at[i])", "chosen(true, w.at[i], v.at[i])"),
+    (EARLY, "a running thread is no hazard", "early_deliver/src/lib.rt", "        State::Running(c) => early_ahead::limit_of(c),\n", "        State::Running(_) => NEVER,\n"),
 ]
 
 

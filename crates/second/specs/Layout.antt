@@ -19,7 +19,7 @@ replyIn words a b c d = set (set (set (set words 611 a) 612 b) 613 c) 614 d
 
 -- the record of thread k in one word x
 unfoldable pub recordIn : List ℕ → ℕ → ℕ → List ℕ
-recordIn words k x = fiveIn words (k % 32 * 5 % 635) (x / 4 % 256) (x % 4) (x / 1024 % 256) (x / 262144 / 1024) (x / 262144 % 1024)
+recordIn words k x = fiveIn words (k % 32 * 5 % 635) (x / 8 % 128) (x % 8) (x / 1024 % 256) (x / 262144 / 1024) (x / 262144 % 1024)
 
 unfoldable pub recordsTo : List ℕ → List ℕ → ℕ → List ℕ
 recordsTo desk out zero = out

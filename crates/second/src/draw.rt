@@ -358,6 +358,11 @@ fn choice(seed: u64, row: u64) -> u64 {
     TABLE[((row % 37) * 8 + mixed(seed, row) / 16 % 8) as usize]
 }
 
+// A number as statements have it.
+pub(crate) fn drawn_number(seed: u64) -> u64 {
+    choice(seed, 33)
+}
+
 // So many bytes of a number, lowest first, at a place of the file, as far as there is room; the place behind them.
 pub fn put(file: &mut [u8; 16384], i: u64, size: u64, x: u64) -> u64
     ensures { λ r. ⌜ r ≤ 16384 ⌝ }

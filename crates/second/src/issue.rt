@@ -1,20 +1,30 @@
-// A second scheduler, written anew from document 01. Records and variables are those of the second simulator; the log is sorted by
+// A second scheduler, written anew from documents 01 and 02. Records and variables are those of the second simulator; the log is sorted by
 // event; earliest is found by a search that takes the soonest thread first; deliveries are looked for from the highest thread down.
 use crate::graph;
+use crate::held;
 use crate::log;
 use crate::number;
 use crate::number::at;
 use crate::number::put;
+use crate::places;
 use crate::simulator;
 use crate::simulator::NEVER;
 use crate::simulator::event_of;
 use crate::simulator::key_of;
+use crate::simulator::kind_of;
 use crate::simulator::segment_of;
 ghost use mathlib.Core.Path.{_≡_};
 ghost use Prim.Native.Nat.{_<_};
-ghost use Rattle.second.specs.Desk.{soonerOf, floorTo};
+ghost use Rattle.second.specs.Desk.{isDueIn, lesserOf, soonerOf, floorTo};
 
-// What a request is answered with: the number, 0 for a grant; then segment, time and delta.
+// What a call does: "a grant and its finish at once", a grant, or a finish.
+pub const BOTH: u64 = 0;
+
+pub const GRANT: u64 = 1;
+
+pub const FINISH: u64 = 2;
+
+// What a call is answered with: the number, 0 where it is not refused; then segment, time and delta.
 // Beside it, how many others have overrun on hearing.
 pub struct Reply {
     pub number: u64,
@@ -33,13 +43,20 @@ fn set_bound(bounds: &mut [u64; 64], i: u64, x: u64) {
     bounds[(i % 64) as usize] = x;
 }
 
+// Whether a record is ready, or running: a running thread "counts as live at its cycle".
+fn is_due(x: u64) -> bool
+    ensures { λ r. ⌜ r ≡ isDueIn x ⌝ }
+{
+    kind_of(x) == simulator::READY || kind_of(x) == simulator::RUNNING
+}
+
 // Where a chain begins at a thread, or NEVER. Of a waiting one "the delta after a logged notification of its event not before its wait began".
 fn source(desk: &[u64; 640], k: u64) -> u64 {
     let x = at(desk, simulator::RECORDS, k);
-    if x % 4 == simulator::READY {
+    if is_due(x) {
         return graph::instant(key_of(x));
     }
-    if x % 4 != simulator::WAITING {
+    if kind_of(x) != simulator::WAITING {
         return NEVER;
     }
     let w = log::from(desk, event_of(x), key_of(x));
@@ -79,7 +96,7 @@ fn soonest(bounds: &[u64; 64]) -> u64 {
 // after its wait began".
 fn woken(g: &[u64; 24576], desk: &[u64; 640], k: u64, s: u64, instant: u64) -> u64 {
     let x = at(desk, simulator::RECORDS, k);
-    if x % 4 != simulator::WAITING {
+    if kind_of(x) != simulator::WAITING {
         return NEVER;
     }
     let d = graph::entry(g, graph::AHEAD, s, event_of(x));
@@ -111,7 +128,7 @@ fn wake_all(g: &[u64; 24576], desk: &[u64; 640], bounds: &mut [u64; 64], s: u64,
 }
 
 // Thread k is final, and wakes others.
-fn finish(g: &[u64; 24576], desk: &[u64; 640], bounds: &mut [u64; 64], k: u64) {
+fn make_final(g: &[u64; 24576], desk: &[u64; 640], bounds: &mut [u64; 64], k: u64) {
     let s = segment_of(at(desk, simulator::RECORDS, k));
     let x = bound(bounds, k % 32 + 32);
     set_bound(bounds, k, x);
@@ -128,7 +145,7 @@ fn earliest(g: &[u64; 24576], desk: &[u64; 640]) -> [u64; 64] {
         if 32 <= k {
             return bounds;
         }
-        finish(g, desk, &mut bounds, k);
+        make_final(g, desk, &mut bounds, k);
         left -= 1;
     }
     bounds
@@ -214,21 +231,23 @@ fn is_hazard(g: &[u64; 24576], desk: &[u64; 640], x: u64, k: u64) -> bool {
     false
 }
 
-// The key of a record that is ready, if it is less; else the other.
+fn lesser(a: u64, b: u64) -> u64
+    ensures { λ r. ⌜ r ≡ lesserOf a b ⌝ }
+{
+    if a < b { a } else { b }
+}
+
+// The key of a record that is ready or running, if it is less; else the other.
 fn sooner(x: u64, least: u64) -> u64
     ensures { λ r. ⌜ r ≡ soonerOf x least ⌝ }
 {
-    if x % 4 != simulator::READY {
-        return least;
-    }
-    let key = key_of(x);
-    if key < least {
-        return key;
+    if is_due(x) {
+        return lesser(key_of(x), least);
     }
     least
 }
 
-// The least key of a ready thread, or NEVER.
+// The least key of a ready or running thread, or NEVER.
 pub fn floor(desk: &[u64; 640]) -> u64
     ensures { λ r. ⌜ r ≡ floorTo (now (desk .entry)) 32 ⌝ }
 {
@@ -241,22 +260,9 @@ pub fn floor(desk: &[u64; 640]) -> u64
     least
 }
 
-// How many pairs the log would hold after segment s at a key.
-fn places_after(g: &[u64; 24576], desk: &[u64; 640], s: u64, key: u64) -> u64 {
-    let mut n = at(desk, log::COUNT, 0);
-    let mut e: u64 = 0;
-    while e < 32 {
-        if graph::entry(g, graph::NOTIFIED, s, e) != 0 && !log::holds(desk, e, key) {
-            n = number::sum(n, 1);
-        }
-        e += 1;
-    }
-    n
-}
-
-// "cycle later than the floor and log plus new pairs above 96; or above 128 for any thread"
+// "cycle later than the floor and log plus new pairs above 96; or above 128 for any thread", with what is counted for running threads.
 fn is_full(g: &[u64; 24576], desk: &[u64; 640], x: u64) -> bool {
-    let n = places_after(g, desk, segment_of(x), key_of(x));
+    let n = places::all_with(g, desk, x);
     if floor(desk) < key_of(x) {
         return 96 < n;
     }
@@ -280,7 +286,7 @@ fn note(file: &[u8], s: u64, key: u64, desk: &mut [u64; 640]) {
 // One look at thread k: its record once it has heard, NEVER where it does not hear.
 fn hear(g: &[u64; 24576], desk: &[u64; 640], bounds: &[u64; 64], k: u64) -> u64 {
     let x = at(desk, simulator::RECORDS, k);
-    if x % 4 != simulator::WAITING {
+    if kind_of(x) != simulator::WAITING {
         return NEVER;
     }
     let w = log::from(desk, event_of(x), key_of(x));
@@ -306,7 +312,7 @@ fn settle(g: &[u64; 24576], desk: &mut [u64; 640], asked: u64) -> u64 {
         left -= 1;
         let x = hear(g, desk, &bounds, k);
         if x != NEVER {
-            if x % 4 == simulator::OVERRUN && k != asked {
+            if kind_of(x) == simulator::OVERRUN && k != asked {
                 overruns = number::sum(overruns, 1);
             }
             put(desk, simulator::RECORDS, k, x);
@@ -317,14 +323,25 @@ fn settle(g: &[u64; 24576], desk: &mut [u64; 640], asked: u64) -> u64 {
     overruns
 }
 
-// The number that a request of thread k, with record x, is refused with on a fit state, or 0.
-fn refusal(g: &[u64; 24576], desk: &[u64; 640], k: u64, x: u64) -> u64
-    ensures { λ r. ⌜ r < 16 ⌝ }
-{
-    if at(desk, simulator::THREADS, 0) <= k {
-        return 10;
+// "a running record later than H"
+fn runs_late(desk: &[u64; 640]) -> bool {
+    let end = at(desk, simulator::END, 0);
+    let mut k: u64 = 0;
+    while k < 32 {
+        let x = at(desk, simulator::RECORDS, k);
+        if kind_of(x) == simulator::RUNNING && end < key_of(x) {
+            return true;
+        }
+        k += 1;
     }
-    if x % 4 != simulator::READY {
+    false
+}
+
+// The number of a thread that is not running, with record x, or 0.
+fn refusal_of(g: &[u64; 24576], desk: &[u64; 640], k: u64, x: u64) -> u64
+    ensures { λ r. ⌜ r < 20 ⌝ }
+{
+    if kind_of(x) != simulator::READY {
         return 12;
     }
     if at(desk, simulator::END, 0) < key_of(x) {
@@ -339,12 +356,30 @@ fn refusal(g: &[u64; 24576], desk: &[u64; 640], k: u64, x: u64) -> u64
     0
 }
 
-// "the segment runs whole, its notifications are logged, and its closer is applied at its cycle"; deliveries. "Then notifications before
-// the floor .. are dropped, all of them if none is ready."
-fn grant(file: &[u8], g: &[u64; 24576], desk: &mut [u64; 640], k: u64, x: u64) -> u64 {
-    let s = segment_of(x);
-    note(file, s, key_of(x), desk);
-    let r = simulator::run(file, s, at(desk, simulator::PORTS, k), key_of(x), desk);
+// The number that a call of thread k, with record x, is refused with, or 0. Of 11 what running threads are judged by, the rest is fit.
+fn refusal(g: &[u64; 24576], desk: &[u64; 640], how: u64, k: u64, x: u64) -> u64
+    ensures { λ r. ⌜ r < 20 ⌝ }
+{
+    if runs_late(desk) || 128 < places::all(g, desk) {
+        return 11;
+    }
+    if at(desk, simulator::THREADS, 0) <= k {
+        return 10;
+    }
+    let runs = kind_of(x) == simulator::RUNNING;
+    if how == FINISH {
+        return if runs { 0 } else { 19 };
+    }
+    if runs {
+        return 19;
+    }
+    refusal_of(g, desk, k, x)
+}
+
+// Notifications are logged and the closer's record r stands, of a thread that had record x; deliveries. "Then notifications before the
+// floor .. are dropped, all of them if none is ready." How many others have overrun.
+fn close(file: &[u8], g: &[u64; 24576], desk: &mut [u64; 640], k: u64, x: u64, r: u64) -> u64 {
+    note(file, segment_of(x), key_of(x), desk);
     put(desk, simulator::RECORDS, k, r);
     let overruns = settle(g, desk, k);
     let f = floor(desk);
@@ -352,11 +387,70 @@ fn grant(file: &[u8], g: &[u64; 24576], desk: &mut [u64; 640], k: u64, x: u64) -
     overruns
 }
 
-// A request of thread k, with record x.
-pub fn request(file: &[u8], g: &[u64; 24576], desk: &mut [u64; 640], k: u64, x: u64) -> Reply
-    ensures { λ r. ⌜ (r .number < 16) × (r .segment < 256) × (r .delta < 1024) ⌝ }
+// "the segment runs whole, its notifications are logged, and its closer is applied at its cycle"
+fn run_whole(file: &[u8], g: &[u64; 24576], desk: &mut [u64; 640], k: u64, x: u64) -> u64 {
+    let ports = at(desk, simulator::PORTS, k);
+    let r = simulator::run(file, segment_of(x), ports, key_of(x), desk);
+    close(file, g, desk, k, x, r)
+}
+
+// "a grant fixes the values that the segment reads"
+fn grant(desk: &mut [u64; 640], held: &mut [u64; 2048], k: u64, x: u64) -> u64 {
+    held::keep(held, k, desk);
+    let r = simulator::record(simulator::RUNNING, segment_of(x), 0, key_of(x));
+    put(desk, simulator::RECORDS, k, r);
+    0
+}
+
+// "a finish stores the variables it writes, logs its notifications and closes it": the segment runs on the values that are held.
+fn finish(
+    file: &[u8],
+    g: &[u64; 24576],
+    desk: &mut [u64; 640],
+    held: &mut [u64; 2048],
+    k: u64,
+    x: u64,
+) -> u64 {
+    let mut apart = *desk;
+    held::lay_out(held, k, &mut apart);
+    held::wipe(held, k, 0);
+    let ports = at(desk, simulator::PORTS, k);
+    let r = simulator::run_apart(file, segment_of(x), ports, key_of(x), &mut apart, desk);
+    close(file, g, desk, k, x, r)
+}
+
+// A call that is not refused.
+fn act(
+    file: &[u8],
+    g: &[u64; 24576],
+    desk: &mut [u64; 640],
+    held: &mut [u64; 2048],
+    how: u64,
+    k: u64,
+    x: u64,
+) -> u64 {
+    if how == GRANT {
+        return grant(desk, held, k, x);
+    }
+    if how == FINISH {
+        return finish(file, g, desk, held, k, x);
+    }
+    run_whole(file, g, desk, k, x)
+}
+
+// A call of thread k.
+pub fn call(
+    file: &[u8],
+    g: &[u64; 24576],
+    desk: &mut [u64; 640],
+    held: &mut [u64; 2048],
+    how: u64,
+    k: u64,
+) -> Reply
+    ensures { λ r. ⌜ (r .number < 20) × (r .segment < 256) × (r .delta < 1024) ⌝ }
 {
-    let number = refusal(g, desk, k, x);
+    let x = at(desk, simulator::RECORDS, k);
+    let number = refusal(g, desk, how, k, x);
     if number != 0 {
         return Reply {
             number,
@@ -366,7 +460,7 @@ pub fn request(file: &[u8], g: &[u64; 24576], desk: &mut [u64; 640], k: u64, x: 
             overruns: 0,
         };
     }
-    let overruns = grant(file, g, desk, k, x);
+    let overruns = act(file, g, desk, held, how, k, x);
     Reply {
         number,
         segment: segment_of(x),
@@ -374,4 +468,22 @@ pub fn request(file: &[u8], g: &[u64; 24576], desk: &mut [u64; 640], k: u64, x: 
         delta: key_of(x) % 1024,
         overruns,
     }
+}
+
+// The records without those that are running.
+fn stop_all(desk: &mut [u64; 640]) {
+    let mut k: u64 = 0;
+    while k < 32 {
+        if kind_of(at(desk, simulator::RECORDS, k)) == simulator::RUNNING {
+            put(desk, simulator::RECORDS, k, 0);
+        }
+        k += 1;
+    }
+}
+
+// Whether a thread that is ready would get another number if none were running.
+pub fn is_by_running(g: &[u64; 24576], desk: &[u64; 640], k: u64, number: u64) -> bool {
+    let mut other = *desk;
+    stop_all(&mut other);
+    refusal_of(g, &other, k, at(desk, simulator::RECORDS, k)) != number
 }

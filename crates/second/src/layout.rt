@@ -57,7 +57,15 @@ fn put_record(out: &mut [u64; 640], k: u64, x: u64)
     let s = simulator::segment_of(x);
     let e = simulator::event_of(x);
     let key = simulator::key_of(x);
-    put_five(out, k % 32 * 5, s, x % 4, e, key / 1024, key % 1024);
+    put_five(
+        out,
+        k % 32 * 5,
+        s,
+        simulator::kind_of(x),
+        e,
+        key / 1024,
+        key % 1024,
+    );
 }
 
 fn put_pair(out: &mut [u64; 640], i: u64, w: u64)

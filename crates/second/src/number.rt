@@ -38,6 +38,16 @@ pub fn first(bytes: &[u8], n: usize) -> &[u8]
     bytes
 }
 
+// The first n words of two bytes, or all.
+pub fn front(words: &[u16], n: usize) -> &[u16]
+    ensures { λ r. ⌜ now r ≡ take n (now (words .entry)) ⌝ }
+{
+    if n <= words.len() {
+        return &words[..n];
+    }
+    words
+}
+
 // The word so far behind a place. Arrays of 640 words hold all states; places past the end begin anew.
 pub fn at(words: &[u64; 640], part: u64, i: u64) -> u64
     ensures { λ r. ⌜ r ≡ wordAt (now (words .entry)) part i ⌝ }

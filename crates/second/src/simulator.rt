@@ -17,6 +17,9 @@ pub const READY: u64 = 2;
 
 pub(crate) const WAITING: u64 = 3;
 
+// "Until its finish a thread is running": the second scheduler's alone.
+pub const RUNNING: u64 = 4;
+
 // No activation: the thread has ended or is overrun.
 pub const NEVER: u64 = 18446744073709551615;
 
@@ -56,15 +59,24 @@ pub(crate) const PORTS: u64 = 288;
 
 pub(crate) const UNUSED: u64 = 255;
 
+// What each thread has run, in one number; the second scheduler has its log there.
+pub const HISTORIES: u64 = 320;
+
 // A thread record in one word.
 pub(crate) fn record(kind: u64, segment: u64, event: u64, key: u64) -> u64 {
-    kind % 4 + segment % 256 * 4 + event % 256 * 1024 + key % 4398046511104 * 262144
+    kind % 8 + segment % 128 * 8 + event % 256 * 1024 + key % 4398046511104 * 262144
+}
+
+pub fn kind_of(x: u64) -> u64
+    ensures { λ r. ⌜ r ≡ x % 8 ⌝ }
+{
+    x % 8
 }
 
 pub(crate) fn segment_of(x: u64) -> u64
-    ensures { λ r. ⌜ (r ≡ x / 4 % 256) × (r < 256) ⌝ }
+    ensures { λ r. ⌜ (r ≡ x / 8 % 128) × (r < 128) ⌝ }
 {
-    x / 4 % 256
+    x / 8 % 128
 }
 
 pub(crate) fn event_of(x: u64) -> u64
@@ -195,10 +207,10 @@ fn closed(file: &[u8], closer: u64, s: u64, next: u64, now: u64) -> u64 {
 }
 
 fn activation(x: u64, k: u64) -> u64 {
-    if x % 4 == READY {
+    if kind_of(x) == READY {
         return x / 262144 * 32 + k % 32;
     }
-    if x % 4 == WAITING {
+    if kind_of(x) == WAITING {
         return WAITS + x / 1024 % 256 * 32 + k % 32;
     }
     NEVER
@@ -245,7 +257,7 @@ fn replace_first(desk: &mut [u64; 640], entry: u64) {
 // Thread k after the cycle `now`: where it waits on an event notified in it, it goes on at the next delta.
 fn heard(desk: &mut [u64; 640], k: u64, now: u64) -> u64 {
     let x = at(desk, RECORDS, k);
-    if x % 4 != WAITING {
+    if kind_of(x) != WAITING {
         return x;
     }
     if at(desk, MARKS, event_of(x)) != number::sum(now, 1) {
@@ -350,12 +362,49 @@ pub(crate) fn run(file: &[u8], s: u64, ports: u64, now: u64, desk: &mut [u64; 64
     closed(file, closer, s, chosen(file, closer, ports, desk), now)
 }
 
+// What the statement at a place of the file has written on one desk, on another too.
+fn pass_on(file: &[u8], i: u64, ports: u64, from: &[u64; 640], desk: &mut [u64; 640]) {
+    if byte(file, i, 0) == 6 {
+        return;
+    }
+    let to = named(ports, byte(file, i, 1));
+    put(desk, VARIABLES, to, at(from, VARIABLES, to));
+}
+
+// Segment s whole, of a thread with these ports, on a desk with the values that it reads; on the other desk "the variables it writes". The record after it.
+pub(crate) fn run_apart(
+    file: &[u8],
+    s: u64,
+    ports: u64,
+    now: u64,
+    apart: &mut [u64; 640],
+    desk: &mut [u64; 640],
+) -> u64 {
+    let closer = at(apart, CLOSERS, s);
+    let mut i = number::sum(closer, 13);
+    let mut left = statements(file, closer);
+    while 0 < left {
+        execute(file, i, ports, now, apart);
+        pass_on(file, i, ports, apart, desk);
+        i = number::sum(i, 6);
+        left -= 1;
+    }
+    closed(file, closer, s, chosen(file, closer, ports, apart), now)
+}
+
+// A history with one more segment, run at a key.
+pub fn told(history: u64, segment: u64, key: u64) -> u64 {
+    let item = key % 4398046511104 * 64 + segment % 64;
+    (history % 2147483647 * 48271 + item % 2147483647 + 1) % 2147483647
+}
+
 // The soonest activation: its thread runs its segment whole, and is put on the agenda again.
 fn step(file: &[u8], desk: &mut [u64; 640], now: u64) {
     let k = at(desk, AGENDA, 0) % 32;
     let s = segment_of(at(desk, RECORDS, k));
     let r = run(file, s, at(desk, PORTS, k), now, desk);
     put(desk, RECORDS, k, r);
+    put(desk, HISTORIES, k, told(at(desk, HISTORIES, k), s, now));
     replace_first(desk, activation(r, k));
 }
 

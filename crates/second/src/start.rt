@@ -1,10 +1,12 @@
-// Where a list of requests starts, by seed and list: lists 0 to 2 fresh, the others at a drawn state.
+// Where a list of calls starts, by seed and list: lists 0 to 2 fresh, the others at a drawn state.
 use crate::draw;
 use crate::graph;
+use crate::held;
 use crate::log;
 use crate::number;
 use crate::number::at;
 use crate::number::put;
+use crate::places;
 use crate::simulator;
 ghost use mathlib.Core.Path.{_≡_};
 ghost use Rattle.second.specs.Desk.{wordAt};
@@ -30,12 +32,13 @@ fn drawn_delta(seed: u64) -> u64 {
     }
 }
 
-// Ready and waiting more often than not; none waits without events.
+// Ready, waiting and running more often than not; none waits without events.
 fn drawn_kind(seed: u64, e: u64) -> u64 {
-    match draw::pick(seed, 63, 10) {
+    match draw::pick(seed, 63, 14) {
         0 => simulator::ENDED,
         1 => simulator::OVERRUN,
-        2 | 3 | 4 => {
+        2 | 3 | 4 | 5 => simulator::RUNNING,
+        6 | 7 | 8 => {
             if e == 0 {
                 simulator::READY
             } else {
@@ -55,18 +58,29 @@ fn drawn_segment(g: &[u64; 24576], seed: u64, n: u64, ports: u64, first: u64) ->
     s
 }
 
-fn drawn_record(seed: u64, s: u64, e: u64) -> u64 {
+// One that runs is not later than the last key that is run, but for a few.
+fn kind_at(seed: u64, e: u64, key: u64, end: u64) -> u64 {
     let kind = drawn_kind(seed, e);
+    if kind == simulator::RUNNING && end < key && draw::pick(seed, 69, 25) != 0 {
+        return simulator::READY;
+    }
+    kind
+}
+
+fn drawn_record(seed: u64, s: u64, e: u64, end: u64) -> u64 {
+    let key = drawn_time(seed) % 4294967296 * 1024 + drawn_delta(seed) % 1024;
+    let kind = kind_at(seed, e, key, end);
     let event = if kind == simulator::WAITING {
         draw::pick(seed, 64, e)
     } else {
         0
     };
-    let key = drawn_time(seed) % 4294967296 * 1024 + drawn_delta(seed) % 1024;
     simulator::record(kind, s, event, key)
 }
 
-fn draw_records(file: &[u8], desk: &mut [u64; 640], seed: u64, e: u64) {
+// Records; how many places are counted for those that are running.
+fn draw_records(file: &[u8], desk: &mut [u64; 640], seed: u64, e: u64) -> u64 {
+    let end = at(desk, simulator::END, 0);
     let n = at(desk, simulator::SEGMENTS, 0);
     let t = at(desk, simulator::THREADS, 0);
     let mut g = [0u64; 24576];
@@ -76,9 +90,10 @@ fn draw_records(file: &[u8], desk: &mut [u64; 640], seed: u64, e: u64) {
         let x = draw::mixed(seed, number::sum(k, 300));
         let first = simulator::first_of(file, desk, k);
         let s = drawn_segment(&g, x, n, at(desk, simulator::PORTS, k), first);
-        put(desk, simulator::RECORDS, k, drawn_record(x, s, e));
+        put(desk, simulator::RECORDS, k, drawn_record(x, s, e, end));
         k += 1;
     }
+    places::all(&g, desk)
 }
 
 fn logged_key(seed: u64) -> u64 {
@@ -87,7 +102,7 @@ fn logged_key(seed: u64) -> u64 {
     units % 4294967296 * 1024 + drawn_delta(seed) % 1024
 }
 
-// So many notifications, if there are events.
+// So many notifications, or a few less.
 fn draw_log(desk: &mut [u64; 640], seed: u64, e: u64, count: u64) {
     let mut i: u64 = 0;
     while i < 600 {
@@ -100,7 +115,7 @@ fn draw_log(desk: &mut [u64; 640], seed: u64, e: u64, count: u64) {
     }
 }
 
-// Around 96 notifications, around 128, or some.
+// Around 96 places, around 128, or some.
 fn logged(seed: u64, list: u64) -> u64 {
     match list {
         3 => number::sum(88, draw::pick(seed, 68, 10)),
@@ -112,9 +127,34 @@ fn logged(seed: u64, list: u64) -> u64 {
 // A drawn state: variables 0, any records, and a log.
 fn draw_state(file: &[u8], desk: &mut [u64; 640], seed: u64, list: u64, e: u64) {
     let x = draw::mixed(seed, list);
-    draw_records(file, desk, x, e);
+    let counted = draw_records(file, desk, x, e);
     let count = if e == 0 { 0 } else { logged(x, list) };
-    draw_log(desk, x, e, count);
+    if counted < count {
+        draw_log(desk, x, e, count - counted);
+    }
+}
+
+// What is held for thread k: drawn values if it is running, else junk.
+fn hold_values(held: &mut [u64; 2048], k: u64, x: u64, seed: u64, junk: u64) {
+    held::wipe(held, k, junk);
+    if simulator::kind_of(x) != simulator::RUNNING {
+        return;
+    }
+    let mut v: u64 = 0;
+    while v < 64 {
+        let place = number::sum(k % 32 * 64, v);
+        held::set_value(held, k, v, draw::drawn_number(draw::mixed(seed, place)));
+        v += 1;
+    }
+}
+
+// What is held at the start of a list, with junk for all that are not running.
+pub fn hold(desk: &[u64; 640], seed: u64, junk: u64, held: &mut [u64; 2048]) {
+    let mut k: u64 = 0;
+    while k < 32 {
+        hold_values(held, k, at(desk, simulator::RECORDS, k), seed, junk);
+        k += 1;
+    }
 }
 
 // What a list starts at, on an empty desk; how many threads there are.

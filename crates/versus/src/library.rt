@@ -4,6 +4,7 @@ use clock::Delta;
 use clock::ThreadNo;
 use clock::Time;
 use early::Answer;
+use early::Call;
 use early::Site;
 use model::Model;
 use model::State;
@@ -14,6 +15,7 @@ use second::layout;
 use second::number;
 use second::number::at;
 use second::number::put;
+use second::start;
 
 pub fn model_in(file: &[u8]) -> Model {
     let x = reader_file::read_file(file);
@@ -151,9 +153,28 @@ fn are_same_past(a: &[u64; 160], b: &[u64; 160], t: u8) -> bool {
     true
 }
 
+// What is held at the start of a list, by its desk, with junk for threads that are not running.
+pub fn values_at(desk: &[u64; 640], seed: u64, junk: u64) -> [u32; 2048] {
+    let mut kept = [0u64; 2048];
+    start::hold(desk, seed, junk, &mut kept);
+    let mut values = [0u32; 2048];
+    let mut i: usize = 0;
+    while i < 2048 {
+        values[i] = (kept[i] % 4294967296) as u32;
+        i += 1;
+    }
+    values
+}
+
 // A request of thread k on a slice of so many records, of which those past the threads are junk. The model is read again: whoever hands
 // it on is dear to prove. An answer of 255 tells that junk was written to.
-pub fn ask(file: &[u8], words: &[u64; 4096], held: &mut [u64; 640], k: u64, lent: usize) -> Reply {
+pub fn request(
+    file: &[u8],
+    words: &[u64; 4096],
+    held: &mut [u64; 640],
+    k: u64,
+    lent: usize,
+) -> Reply {
     let m = model_in(file);
     let t = m.t;
     let marks = tables_conflict::conflict_marks(m);
@@ -179,19 +200,81 @@ pub fn ask(file: &[u8], words: &[u64; 4096], held: &mut [u64; 640], k: u64, lent
     reply(255, 0, 0, 0)
 }
 
-// A list of requests in one call, with its number and how many were granted.
+// A call by its word: of none, a finish of thread 255.
+fn call_of(word: u64) -> Call {
+    let k = (word % 256) as u8;
+    match word / 256 {
+        0 => Call::Both(k),
+        1 => Call::Grant(k),
+        2 => Call::Finish(k),
+        _ => Call::Finish(255),
+    }
+}
+
+// A call on records as values.
+fn call(
+    file: &[u8],
+    words: &[u64; 4096],
+    held: &mut [u64; 640],
+    values: &mut [u32],
+    word: u64,
+) -> Reply {
+    let m = model_in(file);
+    let marks = tables_conflict::conflict_marks(m);
+    let site = site_in(held);
+    let threads = export_state::first_threads(export_state::threads_from(held, 32));
+    let left = early_request::call(m, marks, words, site, threads, values, call_of(word));
+    let answer = left.answer;
+    let after = left.site;
+    let records = left.threads;
+    hold_state(held, after, records);
+    reply_of(answer)
+}
+
+// With so many held values, or all.
+pub fn call_with(
+    file: &[u8],
+    words: &[u64; 4096],
+    held: &mut [u64; 640],
+    values: &mut [u32],
+    word: u64,
+    n: usize,
+) -> Reply {
+    if n < values.len() {
+        return call(file, words, held, &mut values[..n], word);
+    }
+    call(file, words, held, values, word)
+}
+
+// The next call of a list, with so many records or sets of held values: every second combined request on lent records, all others on values.
+pub fn ask(
+    file: &[u8],
+    words: &[u64; 4096],
+    held: &mut [u64; 640],
+    values: &mut [u32; 2048],
+    word: u64,
+    lent: usize,
+) -> Reply {
+    if word < 256 && word % 2 == 0 {
+        return request(file, words, held, word, lent);
+    }
+    call_with(file, words, held, values, word, 64 * (lent % 64))
+}
+
+// A list of calls in one, with its number and how many were not refused.
 pub fn ask_all(
     file: &[u8],
     words: &[u64; 4096],
     held: &mut [u64; 640],
-    ks: &[u8],
-    answers: &mut [u64; 16384],
+    values: &mut [u32; 2048],
+    calls: &[u16],
+    answers: &mut [u64; 20480],
 ) {
     let m = model_in(file);
     let marks = tables_conflict::conflict_marks(m);
     let site = site_in(held);
     let threads = export_state::first_threads(export_state::threads_from(held, 32));
-    let o = early_list::requests(m, marks, words, site, threads, ks, answers);
+    let o = early_list::calls(m, marks, words, site, threads, values, calls, answers);
     let left = o.site;
     let records = o.threads;
     hold_state(held, left, records);
@@ -204,14 +287,15 @@ fn ask_in(
     file: &[u8],
     row: &mut [u64],
     held: &mut [u64; 640],
-    ks: &[u8],
-    answers: &mut [u64; 16384],
+    values: &mut [u32; 2048],
+    calls: &[u16],
+    answers: &mut [u64; 20480],
 ) {
     let m = model_in(file);
     let marks = tables_conflict::conflict_marks(m);
     let site = site_in(held);
     let threads = export_state::first_threads(export_state::threads_from(held, 32));
-    let o = early_list::requests_by_rows(m, marks, row, site, threads, ks, answers);
+    let o = early_list::calls_by_rows(m, marks, row, site, threads, values, calls, answers);
     let left = o.site;
     let records = o.threads;
     hold_state(held, left, records);
@@ -224,11 +308,12 @@ pub fn ask_all_by_rows(
     file: &[u8],
     junk: u64,
     held: &mut [u64; 640],
-    ks: &[u8],
-    answers: &mut [u64; 16384],
+    values: &mut [u32; 2048],
+    calls: &[u16],
+    answers: &mut [u64; 20480],
 ) {
     let mut words = [junk; 66];
-    ask_in(file, &mut words, held, ks, answers);
+    ask_in(file, &mut words, held, values, calls, answers);
     if words[64] != junk || words[65] != junk {
         held[layout::ANSWER] = 255;
     }
@@ -239,11 +324,12 @@ pub fn ask_few_by_rows(
     file: &[u8],
     junk: u64,
     held: &mut [u64; 640],
-    ks: &[u8],
-    answers: &mut [u64; 16384],
+    values: &mut [u32; 2048],
+    calls: &[u16],
+    answers: &mut [u64; 20480],
 ) {
     let mut words = [junk; 63];
-    ask_in(file, &mut words, held, ks, answers);
+    ask_in(file, &mut words, held, values, calls, answers);
 }
 
 // The fresh state.

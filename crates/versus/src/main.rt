@@ -1,5 +1,5 @@
 // The plain run against a second simulator: stored models (model M, cases 2 and 3, examples of the source documents), whose sheets
-// are written, and generated ones; then lists of requests against a second scheduler, on generated models. Counts follow each; every
+// are written, and generated ones; then lists of calls against a second scheduler, on generated models. Counts follow each; every
 // difference is a line of its own.
 mod compare;
 mod library;
@@ -31,23 +31,24 @@ const DONE: u64 = 4;
 
 const RECORDS: u64 = 6;
 
-pub const DIFFERENCES: u64 = 15;
+pub const DIFFERENCES: u64 = 23;
 
-pub fn add(totals: &mut [u64; 16], i: u64, x: u64) {
-    let k = (i % 16) as usize;
+pub fn add(totals: &mut [u64; 24], i: u64, x: u64) {
+    let k = (i % 24) as usize;
     totals[k] = number::sum(totals[k], x);
 }
 
-fn count_records(totals: &mut [u64; 16], desk: &[u64; 640]) {
+fn count_records(totals: &mut [u64; 24], desk: &[u64; 640]) {
     let t = at(desk, simulator::THREADS, 0);
     let mut k: u64 = 0;
     while k < t {
-        add(totals, RECORDS + at(desk, simulator::RECORDS, k) % 4, 1);
+        let x = at(desk, simulator::RECORDS, k);
+        add(totals, RECORDS + simulator::kind_of(x) % 4, 1);
         k += 1;
     }
 }
 
-fn count(totals: &mut [u64; 16], desk: &[u64; 640]) {
+fn count(totals: &mut [u64; 24], desk: &[u64; 640]) {
     add(totals, RUNS, 1);
     add(totals, SEGMENTS, at(desk, simulator::RAN, 0));
     add(totals, DONE + at(desk, simulator::SPENT, 0) % 2, 1);
@@ -55,7 +56,7 @@ fn count(totals: &mut [u64; 16], desk: &[u64; 640]) {
 }
 
 // One run of both.
-fn hold(totals: &mut [u64; 16], seed: u64, bytes: &[u8; 16384], size: usize, budget: u64) {
+fn hold(totals: &mut [u64; 24], seed: u64, bytes: &[u8; 16384], size: usize, budget: u64) {
     let file = number::first(bytes, size);
     let mut desk = [0u64; 640];
     simulator::simulate(file, budget, &mut desk);
@@ -101,7 +102,7 @@ fn horizon(i: u64, own: u64, time: u64) -> u64 {
 
 // A model of which a run takes n segments and a thread ends at a time, at its horizons and budgets.
 fn hold_each(
-    totals: &mut [u64; 16],
+    totals: &mut [u64; 24],
     seed: u64,
     file: &mut [u8; 16384],
     size: usize,
@@ -118,7 +119,7 @@ fn hold_each(
     }
 }
 
-fn hold_all(totals: &mut [u64; 16], seed: u64, file: &mut [u8; 16384], size: usize, most: u64) {
+fn hold_all(totals: &mut [u64; 24], seed: u64, file: &mut [u8; 16384], size: usize, most: u64) {
     let mut desk = [0u64; 640];
     simulator::simulate(file, most, &mut desk);
     let k = draw::pick(seed, 8, at(&desk, simulator::THREADS, 0));
@@ -129,7 +130,7 @@ fn hold_all(totals: &mut [u64; 16], seed: u64, file: &mut [u8; 16384], size: usi
 }
 
 // A model against the file rules, by its counts: 11, and nothing run.
-fn refuse(totals: &mut [u64; 16], seed: u64, file: &[u8; 16384], size: usize) {
+fn refuse(totals: &mut [u64; 24], seed: u64, file: &[u8; 16384], size: usize) {
     let mut x = library::model_in(number::first(file, size));
     match seed % 5 {
         0 => x.t = 0,
@@ -148,15 +149,15 @@ fn refuse(totals: &mut [u64; 16], seed: u64, file: &[u8; 16384], size: usize) {
 }
 
 // A file that is not written again byte by byte is a difference.
-fn hold_written(totals: &mut [u64; 16], bytes: &[u8; 16384], size: usize) {
+fn hold_written(totals: &mut [u64; 24], bytes: &[u8; 16384], size: usize) {
     let file = number::first(bytes, size);
     if !library::is_written_again(file) {
         add(totals, DIFFERENCES, 1);
     }
 }
 
-// A generated model: written again, its runs, and lists of requests.
-fn hold_drawn(runs: &mut [u64; 16], lists: &mut [u64; 16], seed: u64) {
+// A generated model: written again, its runs, and lists of calls.
+fn hold_drawn(runs: &mut [u64; 24], lists: &mut [u64; 24], seed: u64) {
     let mut file = [0u8; 16384];
     let size = draw::model_of(seed, &mut file) as usize;
     hold_written(runs, &file, size);
@@ -167,8 +168,8 @@ fn hold_drawn(runs: &mut [u64; 16], lists: &mut [u64; 16], seed: u64) {
 }
 
 fn all_drawn() {
-    let mut runs = [0u64; 16];
-    let mut lists = [0u64; 16];
+    let mut runs = [0u64; 24];
+    let mut lists = [0u64; 24];
     let mut i: u64 = 0;
     while i < MODELS {
         hold_drawn(&mut runs, &mut lists, SEED + i);
@@ -187,7 +188,7 @@ fn write_sheet(file: &[u8]) {
 }
 
 // A name and a model; whether there was one.
-fn hold_next(totals: &mut [u64; 16]) -> bool {
+fn hold_next(totals: &mut [u64; 24]) -> bool {
     let mut file = [0u8; 16384];
     let n = parts::next_part(STDIN_FILENO, &mut file);
     if n == 0 {
@@ -201,7 +202,7 @@ fn hold_next(totals: &mut [u64; 16]) -> bool {
 }
 
 fn all_stored() {
-    let mut totals = [0u64; 16];
+    let mut totals = [0u64; 24];
     let mut turns: u64 = 1000;
     while 0 < turns && hold_next(&mut totals) {
         turns -= 1;

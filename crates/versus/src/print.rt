@@ -24,28 +24,28 @@ pub fn difference(x: u64, y: u64, z: u64, place: u64, first: u64, second: u64) {
 }
 
 // So many counts, and the last: differences.
-fn counts(totals: &[u64; 16], n: usize) {
+fn counts(totals: &[u64; 24], n: usize) {
     let mut i: usize = 0;
-    while i < 15 {
+    while i < 23 {
         if i < n {
             spaced(totals[i]);
         }
         i += 1;
     }
-    spaced(totals[15]);
+    spaced(totals[23]);
     text(b"\n");
 }
 
-pub fn run_counts(totals: &[u64; 16]) {
+pub fn run_counts(totals: &[u64; 24]) {
     text(
         b"models, refusals, runs, segments; runs done, spent; records ended, overrun, ready, waiting; differences:",
     );
     counts(totals, 10);
 }
 
-pub fn list_counts(totals: &[u64; 16]) {
+pub fn list_counts(totals: &[u64; 24]) {
     text(
-        b"models, lists, requests, grants, later than the floor; refused 10, 11, 12, 13, 14, 15; lists ended, gone on; overrun on hearing, refused by a full log; differences:",
+        b"models, lists, calls; requests, grants, finishes, later than the floor; refused 10, 11, 12, 13, 14, 15, 19; 14 and 15 by running threads, 15 at the floor; calls with two or more running, most running; lists ended, gone on; overrun on hearing; differences:",
     );
-    counts(totals, 15);
+    counts(totals, 22);
 }

@@ -23,4 +23,5 @@ pub settle-spec : {M : Type 1} → statement M
 settle-spec =
     tie.close
     (tie.spec Inv-loop μ-loop (λ c κs. tt) (λ c. tt) sub-k sub-left (λ c κs. tt) (λ c κs. tt) (λ c κs. tt) (λ c κs. tt)
+    (λ c κs. tt)
     (λ c. omega arith) (λ c. tt) (λ c. omega arith) (λ c. tt) (λ c. tt) returns-2)

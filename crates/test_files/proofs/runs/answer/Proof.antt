@@ -7,7 +7,7 @@ use Rattle.test_files.proofs.runs.answer.Tie as tie
 returns : tie.Need-returns
 returns c =
     let p = c .before .before .replay-text in
-    counts-text (p .ensures .0) (p .kept .1 .1 .0)
+    counts-text (p .ensures .0) (p .kept .1 .1 .1 .0)
 
 pub answer-spec : {M : Type 1} → statement M
 answer-spec = tie.close (tie.spec (λ c κs. search needs) (λ c. search needs) returns)

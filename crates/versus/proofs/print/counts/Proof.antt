@@ -9,7 +9,7 @@ abbrev Inv-loop : tie.InvT-loop
 Inv-loop totals n i₀ line i = Unit {0}
 
 abbrev μ-loop : tie.MeasureT-loop
-μ-loop totals n i₀ line i = 15 - i
+μ-loop totals n i₀ line i = 23 - i
 
 returns : tie.Need-returns Inv-loop μ-loop
 returns c = tt

@@ -1,8 +1,8 @@
--- `versus::orders::least_from` is safe and ends.
+-- `second::calls::least_from` is safe and ends.
 use Prim.Native.Nat.{_-_}
 use native.Mathlib.Omega.{arith}
-use Rattle.versus.proofs.orders.least_from.Statement.{statement}
-use Rattle.versus.proofs.orders.least_from.Tie as tie
+use Rattle.second.proofs.calls.least_from.Statement.{statement}
+use Rattle.second.proofs.calls.least_from.Tie as tie
 
 abbrev Inv-loop : tie.InvT-loop
 Inv-loop desk from best₀ k₀ best k = Unit {0}

@@ -1,8 +1,8 @@
--- `versus::orders::most_below` is safe and ends.
+-- `second::calls::most_below` is safe and ends.
 use Prim.Native.Nat.{_-_}
 use native.Mathlib.Omega.{arith}
-use Rattle.versus.proofs.orders.most_below.Statement.{statement}
-use Rattle.versus.proofs.orders.most_below.Tie as tie
+use Rattle.second.proofs.calls.most_below.Statement.{statement}
+use Rattle.second.proofs.calls.most_below.Tie as tie
 
 abbrev Inv-loop : tie.InvT-loop
 Inv-loop desk end most₀ k₀ most k = Unit {0}

@@ -1,0 +1,20 @@
+-- `second::held::keep` is safe and ends.
+use Prim.Native.Nat.{_-_}
+use native.Mathlib.Omega.{arith}
+use Rattle.second.proofs.held.keep.Statement.{statement}
+use Rattle.second.proofs.held.keep.Tie as tie
+
+abbrev Inv-loop : tie.InvT-loop
+Inv-loop held₀ k desk v₀ held v = Unit {0}
+
+abbrev μ-loop : tie.MeasureT-loop
+μ-loop held₀ k desk v₀ held v = 64 - v
+
+returns : tie.Need-returns Inv-loop μ-loop
+returns c = tt
+
+pub keep-spec : {M : Type 1} → statement M
+keep-spec =
+    tie.close
+    (tie.spec Inv-loop μ-loop (λ c. tt) (λ c κs. tt) (λ c κs. tt) (λ c. omega arith) (λ c. omega arith) (λ c. tt)
+    returns)

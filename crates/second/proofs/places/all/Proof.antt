@@ -1,0 +1,20 @@
+-- `second::places::all` is safe and ends.
+use Prim.Native.Nat.{_-_}
+use native.Mathlib.Omega.{arith}
+use Rattle.second.proofs.places.all.Statement.{statement}
+use Rattle.second.proofs.places.all.Tie as tie
+
+abbrev Inv-loop : tie.InvT-loop
+Inv-loop g desk n₀ k₀ n k = Unit {0}
+
+abbrev μ-loop : tie.MeasureT-loop
+μ-loop g desk n₀ k₀ n k = 32 - k
+
+returns : tie.Need-returns Inv-loop μ-loop
+returns c = tt
+
+pub all-spec : {M : Type 1} → statement M
+all-spec =
+    tie.close
+    (tie.spec Inv-loop μ-loop (λ c κs. tt) (λ c. tt) (λ c κs. tt) (λ c κs. tt) (λ c κs. tt) (λ c κs. tt)
+    (λ c. omega arith) (λ c. omega arith) (λ c. tt) returns)
