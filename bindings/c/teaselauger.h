@@ -36,7 +36,7 @@
  * buffers that a call is given overlap. Words past those that a call speaks of are neither read nor written.
  *
  * The library holds no state, uses no heap, and reads and writes nothing but the buffers: several threads may call it at once,
- * each with its own buffers. A call needs at most 258 KB of stack (bench/stack.sh measures it).
+ * each with its own buffers. A call needs at most 215 KB of stack (bench/stack.sh measures it).
  *
  * Link target/staticlib/libexports.a (`rt staticlib exports` makes it), x86-64.
  */
@@ -132,7 +132,7 @@ uint8_t teaselauger_request_by_rows(const uint8_t *file, size_t file_count, uint
 
 /* One grant of a thread, on the state in variables, log and records and the values in held, with the words of the file as teaselauger_request
  * has them. 0 where it is granted: answer has segment, time and delta, the thread's record is running, the variables are held for it, and
- * the variables and the places of the log below its count are as they were; words of the log past them are 0.
+ * variables and log are as they were, every word of them.
  * ORDER: as teaselauger_request, with 11 also for fewer than 64 held values for each thread. */
 uint8_t teaselauger_grant(const uint8_t *file, size_t file_count, const uint64_t *words, size_t words_count,
                           uint32_t *held, size_t held_count, uint32_t *variables, size_t variables_count,

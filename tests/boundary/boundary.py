@@ -475,8 +475,8 @@ def check_fitting(c, t, p, fitting, what):
 
 
 def check_unjudged(c, r, file, t, given):
-    """What lies past the model's own, or is held for a thread that is not running, changes no answer, and stays; a call that is made
-    sets places past the log's count, and a grant or a finish what is held for its thread. How many calls."""
+    """What lies past the model's own, or is held for a thread that is not running, changes no answer, and stays; a request or a
+    finish that is made sets places past the log's count, and a grant or a finish what is held for its thread. How many calls."""
     past = {"words": 1, "records": 5, "held": 1}
     given, calls = {**given, **{p: given[p] + filled(p, 0, n) for p, n in past.items()}}, 0
     for name in KINDS:
@@ -486,7 +486,7 @@ def check_unjudged(c, r, file, t, given):
                 continue
             trial, what = changed(given, p, at, value), "%s %d is %d" % (p, at, value)
             answered, left = c.call(name, trial)
-            sets = number == 0 and (p == "log" or p == "held" and at // 64 == given["thread"])
+            sets = number == 0 and (p == "log" and name != "grant" or p == "held" and at // 64 == given["thread"])
             expected = after if sets else changed(after, p, at, value)
             assert answered == number, "%s, %s: %d, must be %d" % (name, what, answered, number)
             assert left == expected, "%s, %s: not left as it was" % (name, what)

@@ -5,7 +5,7 @@
 //! a call with a state of another site is [`RequestError::OtherSite`]. So every answer is one that demand 3 (`docs/RULES.md`, 8) speaks of.
 //!
 //! Every buffer is an array of the length that the library asks, so that a buffer that is too short (11 or 16) cannot be handed in.
-//! The library holds no state: any thread may call it, on a stack of 320 KB or more.
+//! The library holds no state: any thread may call it, on a stack of 256 KB or more.
 //!
 //! ```
 //! let site = teaselauger::Site::new(&std::fs::read("../../models/m.model")?)?;

@@ -256,7 +256,7 @@ fn no_buffer_is_too_short() {
 }
 
 #[test]
-fn any_thread_may_call_on_320_kb_of_stack() {
+fn any_thread_may_call_on_256_kb_of_stack() {
     let work = |open: fn(&[u8]) -> Result<Site, Refused>| {
         let site = open(&largest()).expect("an accepted file");
         let mut state = site.fresh();
@@ -264,7 +264,7 @@ fn any_thread_may_call_on_320_kb_of_stack() {
         let calls: Vec<_> = (0..32).map(Granting).chain((0..32).map(Finish)).map(|call| site.call(&mut apart, call)).collect();
         (issue(&site, &mut state), calls, apart, site.replay(&[0; 100]).1, sheet(&largest(), 100), state)
     };
-    let small = |open| std::thread::Builder::new().stack_size(320 * 1024).spawn(move || work(open)).expect("a thread");
+    let small = |open| std::thread::Builder::new().stack_size(256 * 1024).spawn(move || work(open)).expect("a thread");
     let [one, other, rows] = [Site::new, Site::new, Site::by_rows].map(small).map(|thread| thread.join().expect("enough stack"));
     assert_eq!(one, other);
     assert_eq!(one, rows);

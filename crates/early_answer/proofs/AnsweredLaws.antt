@@ -63,7 +63,7 @@ pub floor-few : (t : ℕ) (ts : List Thread) {b : Bound} → t ≤ 32 → b ≡ 
 floor-few t ts few e = e ∙ ap (λ (n : ℕ). floorBelow n ts) (atMost-is 32 t few)
 
 -- 15, by the places
-module _ (floor : Bound) (counted : ℕ) (c : Cycle) (n : ℕ) (same : n ≡ counted) where
+module _ (floor : Bound) (c : Cycle) (n : ℕ) where
   over : (b : Bool) → true ≡ ((b && true) || true)
   over true = refl
   over false = refl
@@ -76,14 +76,24 @@ module _ (floor : Bound) (counted : ℕ) (c : Cycle) (n : ℕ) (same : n ≡ cou
   some true = refl
   some false = refl
 
-  pub full-over : 128 < n → true ≡ isFullBy floor counted c
-  full-over h = rw (← same, lt-ltb 96 n (omega arith), lt-ltb 128 n h) (over (isBoundBefore floor (At c)))
+  pub full-over : 128 < n → true ≡ isFullBy floor n c
+  full-over h = rw (lt-ltb 96 n (omega arith), lt-ltb 128 n h) (over (isBoundBefore floor (At c)))
 
-  pub full-few : n ≤ 96 → false ≡ isFullBy floor counted c
-  full-few h = rw (← same, le-ltb 96 n h, le-ltb 128 n (omega arith)) (few (isBoundBefore floor (At c)))
+  pub full-few : n ≤ 96 → false ≡ isFullBy floor n c
+  full-few h = rw (le-ltb 96 n h, le-ltb 128 n (omega arith)) (few (isBoundBefore floor (At c)))
 
-  pub full-early : (b : Bool) → b ≡ isBoundBefore floor (At c) → 96 < n → n ≤ 128 → b ≡ isFullBy floor counted c
-  full-early b e h k = rw (← same, lt-ltb 96 n h, le-ltb 128 n k, ← e) (some b)
+  pub full-early : (b : Bool) → b ≡ isBoundBefore floor (At c) → 96 < n → n ≤ 128 → b ≡ isFullBy floor n c
+  full-early b e h k = rw (lt-ltb 96 n h, le-ltb 128 n k, ← e) (some b)
+
+-- the places of a thread that is named twice
+pub places-same : (t : ℕ) (l : List Notification) (ts : List Thread) (es : List ℕ) (n j k : ℕ) → j ≡ k → (j < t → n ≡ placesWith l (cycleOf (threadAt ts j .state)) es) →
+    k < t → n ≡ placesWith l (cycleOf (threadAt ts k .state)) es
+places-same t l ts es n j k e h = subst (λ (i : ℕ). i < t → n ≡ placesWith l (cycleOf (threadAt ts i .state)) es) e h
+
+-- and of a segment that is
+pub room-same : (l : List Notification) (ts : List Thread) (g h : Segment) (j k : ℕ) → g ≡ h → j ≡ k → placesWith l (cycleOf (threadAt ts k .state)) (notifiedBy (bodyOf h)) ≤ 128 →
+    placesWith l (cycleOf (threadAt ts j .state)) (notifiedBy (bodyOf g)) ≤ 128
+room-same l ts g h j k e f p = rw (e, f) p
 
 -- the number
 module _ (isHazard : Cycle → Bool) (floor : Bound) (es : List ℕ) (l : List Notification) where

@@ -27,6 +27,7 @@ ghost use Rattle.model.specs.Values.{bodyOf};
 ghost use Rattle.model.specs.Statement.{notifiedBy};
 ghost use Rattle.model.specs.Record.{threadAt, cycleOf, isRunning};
 ghost use Rattle.plain.specs.Wake.{floorBelow};
+ghost use Rattle.early.specs.declared.Notification.{Notification};
 ghost use Rattle.early.specs.Log.{logOf, placesWith};
 ghost use Rattle.early.specs.Request.{isFullBy, numberReady, refusedWith};
 ghost use Rattle.early.specs.Call.{heldAt, withHeld, runningFrom, finishNumber};
@@ -45,26 +46,39 @@ pub fn refused(number: u8, site: Site, threads: Threads) -> After
     }
 }
 
-// Document 01, 15: "cycle later than the floor and log plus new pairs above 96; or above 128 for any thread".
-fn is_full(t: u8, listed: Events, site: Site, threads: Threads, c: Cycle) -> bool
+// Document 01, 15: "log plus new pairs", with what is counted, at the cycle of thread k's record; 0 where there is no such thread.
+fn places_of(t: u8, listed: Events, counted: Site, threads: Threads, k: u8) -> usize
     requires { ⌜ t ≤ 32 ⌝ }
-    ensures { λ r. ⌜ r ≡ isFullBy (floorBelow t (threads .at)) (placesWith (logOf site) c (take (listed .n) (listed .at))) c ⌝ }
+    ensures { λ r. ⌜ (k < t → r ≡ placesWith (logOf counted) (cycleOf (threadAt (threads .at) k .state)) (take (listed .n) (listed .at))) ⌝ }
 {
-    let n = early_log::places_with(site, c, listed);
-    if 128 < n {
+    if t <= k {
+        return 0;
+    }
+    let i = buffers::wide(k);
+    let x = threads.at[i];
+    let s = x.state;
+    let c = model_effect::cycle_of(s);
+    early_log::places_with(counted, c, listed)
+}
+
+// Document 01, 15: "cycle later than the floor and log plus new pairs above 96; or above 128 for any thread".
+fn is_full(t: u8, places: usize, threads: Threads, c: Cycle) -> bool
+    requires { ⌜ t ≤ 32 ⌝ }
+    ensures { λ r. ⌜ r ≡ isFullBy (floorBelow t (threads .at)) places c ⌝ }
+{
+    if 128 < places {
         return true;
     }
-    if n <= 96 {
+    if places <= 96 {
         return false;
     }
     clock::is_bound_before(early_deliver::floor_of(threads, t), Bound::At(c))
 }
 
-// 14, 15 or 0, of a ready thread up to the horizon. 15 counts in the log with what is counted.
+// 14, 15 or 0, of a ready thread up to the horizon, whose pairs take so many places with the log.
 fn decide_ready(
     n: u8,
     t: u8,
-    listed: Events,
     starts: [Start; 32],
     marks: [[bool; 64]; 64],
     names: &[u64],
@@ -72,14 +86,14 @@ fn decide_ready(
     row: &mut [u64],
     stepwise: bool,
     reach: &[u64],
-    counted: Site,
+    places: usize,
     site: Site,
     threads: Threads,
     at: Stamp,
 ) -> u8
     requires { ⌜ t ≤ 32 ⌝ }
     ensures kept { λ _. ⌜ length (now (row .exit)) ≡ length (now (row .entry)) ⌝ }
-    ensures number { λ r. ⌜ ((ws : List ℕ) → Shows n t ws stepwise (now (words .entry)) (length (now (row .entry))) (threads .at) → r ≡ numberReady (hazardOn n t (conflictsOn marks (now (names .entry)) starts) ws (now (reach .entry)) (logOf site) (threads .at) (at .thread .0)) (floorBelow t (threads .at)) (take (listed .n) (listed .at)) (logOf counted) (at .cycle)) ⌝ }
+    ensures number { λ r. ⌜ ((es : List ℕ) (l : List Notification) → places ≡ placesWith l (at .cycle) es → (ws : List ℕ) → Shows n t ws stepwise (now (words .entry)) (length (now (row .entry))) (threads .at) → r ≡ numberReady (hazardOn n t (conflictsOn marks (now (names .entry)) starts) ws (now (reach .entry)) (logOf site) (threads .at) (at .thread .0)) (floorBelow t (threads .at)) es l (at .cycle)) ⌝ }
 {
     let o = early_deliver::outlook_of(reach, site, threads, t);
     let segments = o.segments;
@@ -100,7 +114,7 @@ fn decide_ready(
         return 14;
     }
     let c = at.cycle;
-    if is_full(t, listed, counted, threads, c) {
+    if is_full(t, places, threads, c) {
         return 15;
     }
     0
@@ -116,13 +130,12 @@ fn unready_number(s: State) -> u8
     }
 }
 
-// The number of a request or a grant on a fit state, 0 where it is granted: by the counts of the model, its horizon and the events that the
-// segment lists.
+// The number of a request or a grant on a fit state, 0 where it is granted: by the counts of the model, its horizon and the places that the
+// segment's pairs take with the log.
 fn decide(
     horizon: Time,
     n: u8,
     t: u8,
-    listed: Events,
     starts: [Start; 32],
     marks: [[bool; 64]; 64],
     names: &[u64],
@@ -130,14 +143,14 @@ fn decide(
     row: &mut [u64],
     stepwise: bool,
     reach: &[u64],
-    counted: Site,
+    places: usize,
     site: Site,
     threads: Threads,
     k: ThreadNo,
 ) -> u8
     requires { ⌜ t ≤ 32 ⌝ }
     ensures kept { λ _. ⌜ length (now (row .exit)) ≡ length (now (row .entry)) ⌝ }
-    ensures number { λ r. ⌜ ((ws : List ℕ) → Shows n t ws stepwise (now (words .entry)) (length (now (row .entry))) (threads .at) → r ≡ numberOn (horizon .0 + 1) n t (take (listed .n) (listed .at)) (conflictsOn marks (now (names .entry)) starts) ws (now (reach .entry)) (logOf counted) (logOf site) (threads .at) (k .0)) ⌝ }
+    ensures number { λ r. ⌜ ((es : List ℕ) (l : List Notification) → (k .0 < t → places ≡ placesWith l (cycleOf (threadAt (threads .at) (k .0) .state)) es) → (ws : List ℕ) → Shows n t ws stepwise (now (words .entry)) (length (now (row .entry))) (threads .at) → r ≡ numberOn (horizon .0 + 1) n t es (conflictsOn marks (now (names .entry)) starts) ws (now (reach .entry)) l (logOf site) (threads .at) (k .0)) ⌝ }
 {
     if t <= k.0 {
         return 10;
@@ -158,7 +171,6 @@ fn decide(
     decide_ready(
         n,
         t,
-        listed,
         starts,
         marks,
         names,
@@ -166,7 +178,7 @@ fn decide(
         row,
         stepwise,
         reach,
-        counted,
+        places,
         site,
         threads,
         at,
@@ -226,7 +238,6 @@ fn decide_call(
     horizon: Time,
     n: u8,
     t: u8,
-    listed: Events,
     starts: [Start; 32],
     marks: [[bool; 64]; 64],
     names: &[u64],
@@ -234,14 +245,14 @@ fn decide_call(
     row: &mut [u64],
     stepwise: bool,
     reach: &[u64],
-    counted: Site,
+    places: usize,
     site: Site,
     threads: Threads,
     call: Call,
 ) -> u8
     requires { ⌜ t ≤ 32 ⌝ }
     ensures kept { λ _. ⌜ length (now (row .exit)) ≡ length (now (row .entry)) ⌝ }
-    ensures number { λ r. ⌜ ((ws : List ℕ) → Shows n t ws stepwise (now (words .entry)) (length (now (row .entry))) (threads .at) → r ≡ callNumberOn (horizon .0 + 1) n t (take (listed .n) (listed .at)) (conflictsOn marks (now (names .entry)) starts) ws (now (reach .entry)) (logOf counted) (logOf site) (threads .at) call) ⌝ }
+    ensures number { λ r. ⌜ ((es : List ℕ) (l : List Notification) → (threadOf call < t → places ≡ placesWith l (cycleOf (threadAt (threads .at) (threadOf call) .state)) es) → (ws : List ℕ) → Shows n t ws stepwise (now (words .entry)) (length (now (row .entry))) (threads .at) → r ≡ callNumberOn (horizon .0 + 1) n t es (conflictsOn marks (now (names .entry)) starts) ws (now (reach .entry)) l (logOf site) (threads .at) call) ⌝ }
 {
     let k = thread_of(call);
     if is_finish(call) {
@@ -251,7 +262,6 @@ fn decide_call(
         horizon,
         n,
         t,
-        listed,
         starts,
         marks,
         names,
@@ -259,7 +269,7 @@ fn decide_call(
         row,
         stepwise,
         reach,
-        counted,
+        places,
         site,
         threads,
         ThreadNo(k),
@@ -477,12 +487,12 @@ pub fn called(
     ensures held { λ _. ⌜ ((ws : List ℕ) → Shows n t ws stepwise (now (words .entry)) (length (now (row .entry))) (threads .at) → now (held .exit) ≡ calledOn (horizon .0 + 1) n t (segmentWith (portsIn starts (threadOf call)) g) (conflictsOn marks (now (names .entry)) starts) ws (now (reach .entry)) counted site (threads .at) (now (held .entry)) call .held) ⌝ }
     ensures left { λ r. ⌜ ((ws : List ℕ) → Shows n t ws stepwise (now (words .entry)) (length (now (row .entry))) (threads .at) → r ≡ afterOf (calledOn (horizon .0 + 1) n t (segmentWith (portsIn starts (threadOf call)) g) (conflictsOn marks (now (names .entry)) starts) ws (now (reach .entry)) counted site (threads .at) (now (held .entry)) call .left)) ⌝ }
 {
-    let listed = model_effect::listed(g);
+    let k = thread_of(call);
+    let places = places_of(t, model_effect::listed(g), counted, threads, k);
     let number = decide_call(
         horizon,
         n,
         t,
-        listed,
         starts,
         marks,
         names,
@@ -490,7 +500,7 @@ pub fn called(
         row,
         stepwise,
         reach,
-        counted,
+        places,
         site,
         threads,
         call,
@@ -498,7 +508,6 @@ pub fn called(
     if number != 0 {
         return refused(number, site, threads);
     }
-    let k = thread_of(call);
     if is_grant(call) {
         return start(site, threads, held, k);
     }

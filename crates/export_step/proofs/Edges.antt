@@ -16,7 +16,7 @@ use Rattle.early_list.specs.Answers.{answersWords, grantedIn, isShort}
 use Rattle.order.specs.Claim.{afterCalls}
 use Rattle.replay.specs.Replay.{doneOn, isUnfitLent, numberOn, replayedOn, heldOn, numberByRows, replayedByRows, heldByRows}
 use Rattle.replay.specs.declared.Replayed.{Replayed}
-use Rattle.export_step.specs.Step.{Kept, keeps, hasRoom, freshNumber, freshKept, askedNumber, requestBy, rowsBy, callBy, callRowsBy, requestNumber, requestKept, requestAnswer, callHeld, replayNumber, replayKept, replayBuffer}
+use Rattle.export_step.specs.Step.{Kept, keeps, hasRoom, freshNumber, freshKept, askedNumber, requestBy, rowsBy, callBy, callRowsBy, requestNumber, requestKept, callKept, requestAnswer, callHeld, replayNumber, replayKept, replayBuffer}
 use Rattle.export_step.proofs.Computed.{computed}
 
 -- case 1: "the 36-byte file of H = 10, V = E = 0, one ending segment, one thread"
@@ -38,6 +38,13 @@ startAndOne = keeps (replicate 64 0) (replicate 385 0) (0 ∷ 2 ∷ 0 ∷ 0 ∷ 
 -- thread 0 granted, and not yet finished
 abbrev running : Kept
 running = keeps (replicate 64 0) (replicate 385 0) (0 ∷ 4 ∷ 0 ∷ 0 ∷ 0 ∷ [])
+
+-- the fresh state, and thread 0 granted, with 7 in all variables, of which the file has none, and past the log's count
+abbrev junk : Kept
+junk = keeps (replicate 64 7) (0 ∷ replicate 384 7) (0 ∷ 2 ∷ 0 ∷ 0 ∷ 0 ∷ [])
+
+abbrev junkRunning : Kept
+junkRunning = keeps (replicate 64 7) (0 ∷ replicate 384 7) (0 ∷ 4 ∷ 0 ∷ 0 ∷ 0 ∷ [])
 
 -- thread 0 has ended
 abbrev ended : Kept
@@ -108,8 +115,8 @@ callsByRows lent n b call = callRowsBy one lent b (replicate n 7) call
 abbrev says : Called → Kept → ℕ
 says q b = requestNumber one (q .left) b (7 ∷ 7 ∷ 7 ∷ [])
 
-abbrev leaves : Called → Kept → Kept
-leaves q b = requestKept one (q .left) b (7 ∷ 7 ∷ 7 ∷ [])
+abbrev leaves : Call → Called → Kept → Kept
+leaves call q b = callKept one call q b (7 ∷ 7 ∷ 7 ∷ [])
 
 abbrev holds : ℕ → Called → Kept → List ℕ
 holds n q b = callHeld one q b (replicate n 7) (7 ∷ 7 ∷ 7 ∷ [])
@@ -117,15 +124,25 @@ holds n q b = callHeld one q b (replicate n 7) (7 ∷ 7 ∷ 7 ∷ [])
 -- a grant holds the variables and leaves the thread running; a finish ends it and holds 0; past the thread's 64 values nothing is held
 pub call-edges :
     (says (calls 64 start (Grant 0)) start ≡ 0) ×
-    (leaves (calls 64 start (Grant 0)) start ≡ running) ×
+    (leaves (Grant 0) (calls 64 start (Grant 0)) start ≡ running) ×
     (holds 65 (calls 65 start (Grant 0)) start ≡ replicate 64 0 ++ (7 ∷ [])) ×
     (requestAnswer one (calls 64 running (Finish 0) .left) running (7 ∷ 7 ∷ 7 ∷ 7 ∷ []) ≡ 0 ∷ 0 ∷ 0 ∷ 7 ∷ []) ×
-    (leaves (calls 64 running (Finish 0)) running ≡ ended) ×
+    (leaves (Finish 0) (calls 64 running (Finish 0)) running ≡ ended) ×
     (holds 65 (calls 65 running (Finish 0)) running ≡ replicate 64 0 ++ (7 ∷ [])) ×
-    (leaves (calls 64 start (Both 0)) start ≡ ended) ×
+    (leaves (Both 0) (calls 64 start (Both 0)) start ≡ ended) ×
     (holds 64 (calls 64 start (Both 0)) start ≡ replicate 64 7)
 unfolding reader.computed computed orElse tables.conflictMarks
 call-edges = (refl, refl, refl, refl, refl, refl, refl, refl)
+
+-- a grant leaves variables and log as handed in, also past their counts; a finish and a request leave 0 past the log's count
+pub call-left-edges :
+    (leaves (Grant 0) (calls 64 junk (Grant 0)) junk ≡ keeps (replicate 64 7) (0 ∷ replicate 384 7) (0 ∷ 4 ∷ 0 ∷ 0 ∷ 0 ∷ [])) ×
+    (leaves (Grant 1) (calls 64 junk (Grant 1)) junk ≡ junk) ×
+    (leaves (Finish 0) (calls 64 junkRunning (Finish 0)) junkRunning ≡ keeps (replicate 64 7) (replicate 385 0) (0 ∷ 0 ∷ 0 ∷ 0 ∷ 0 ∷ [])) ×
+    (leaves (Both 0) (calls 64 junk (Both 0)) junk ≡ keeps (replicate 64 7) (replicate 385 0) (0 ∷ 0 ∷ 0 ∷ 0 ∷ 0 ∷ [])) ×
+    (leaves (Grant 0) (callsByRows 64 64 junk (Grant 0)) junk ≡ junkRunning)
+unfolding reader.computed computed orElse tables.conflictMarks
+call-left-edges = (refl, refl, refl, refl, refl)
 
 -- 11 for 63 values, 10 for thread 1, then 19: a running thread is granted or asked, one that is ready or has ended is finished; nothing is held
 pub call-refused-edges :
@@ -139,7 +156,7 @@ pub call-refused-edges :
     (says (calls 64 running (Both 0)) running ≡ 19) ×
     (requestNumber one (asks (0 ∷ []) 0 running) running (7 ∷ 7 ∷ 7 ∷ []) ≡ 19) ×
     (says (calls 64 start (Finish 0)) start ≡ 19) ×
-    (leaves (calls 64 start (Finish 0)) start ≡ start) ×
+    (leaves (Finish 0) (calls 64 start (Finish 0)) start ≡ start) ×
     (says (calls 64 ended (Finish 0)) ended ≡ 19) ×
     (says (calls 64 ended (Grant 0)) ended ≡ 12)
 unfolding reader.computed computed orElse tables.conflictMarks
@@ -148,7 +165,7 @@ call-refused-edges = (refl, refl, refl, refl, refl, refl, refl, refl, refl, refl
 -- by rows: 16 below 64 words, after the 11 of 63 values and before 10 and 19
 pub call-rows-edges :
     (says (callsByRows 64 64 start (Grant 0)) start ≡ 0) ×
-    (leaves (callsByRows 64 64 running (Finish 0)) running ≡ ended) ×
+    (leaves (Finish 0) (callsByRows 64 64 running (Finish 0)) running ≡ ended) ×
     (says (callsByRows 63 63 start (Grant 0)) start ≡ 11) ×
     (says (callsByRows 63 64 start (Grant 0)) start ≡ 16) ×
     (holds 64 (callsByRows 63 64 start (Grant 0)) start ≡ replicate 64 7) ×

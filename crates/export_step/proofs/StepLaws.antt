@@ -49,7 +49,7 @@ use Rattle.early_lent.proofs.RowsLaws.{requestByRows-moves, callByRows-moves}
 use Rattle.replay.specs.declared.Replayed.{Replayed}
 use Rattle.replay.specs.Replay.{Keeps}
 use Rattle.export_state.specs.Numbers.{logWords, recordWords, threadFrom, siteFrom, threadsFrom, heldThreads, areHeld}
-use Rattle.export_step.specs.Step.{Kept, keeps, hasRoom, holding, freshNumber, freshKept, askedNumber, requestBy, rowsBy, callBy, callRowsBy, requestNumber, keptBy, requestKept, requestAnswer, callHeld, replayNumber, replayKept, replayBuffer, Freshens, Requests, Calls, Replays}
+use Rattle.export_step.specs.Step.{Kept, keeps, hasRoom, holding, freshNumber, freshKept, askedNumber, requestBy, rowsBy, callBy, callRowsBy, requestNumber, keptBy, leftBy, requestKept, callKept, requestAnswer, callHeld, replayNumber, replayKept, replayBuffer, Freshens, Requests, Calls, Replays}
 use Rattle.export_step.specs.Left.{leftOf}
 use Rattle.export_state.proofs.TurnLaws.{tabulate-same}
 
@@ -291,21 +291,26 @@ module _ (file : List ℕ) (b : Kept) (held : List ℕ) (call : Call) (r : Read)
       (λ ts other. ap (λ (x : Called). x .held) (callByRows-refused m (conflictMarks m) lent site ts held call other)))
 
 -- a call is answered as the request that it makes
-module _ (file : List ℕ) (q : Called) (b : Kept) (held answer : List ℕ) (r : Read) (opened : r .number ≡ askedNumber file b answer) where
-  pub call-refused : (r .number ≡ 0 → ⊥) → Calls file q b held answer (r .number) b held answer
-  unfolding callHeld requestNumber
+module _ (file : List ℕ) (call : Call) (q : Called) (b : Kept) (held answer : List ℕ) (r : Read) (opened : r .number ≡ askedNumber file b answer) where
+  pub call-refused : (r .number ≡ 0 → ⊥) → Calls file call q b held answer (r .number) b held answer
+  unfolding callHeld callKept requestNumber
   call-refused h =
       let n : orElse (askedNumber file b answer) (numberOf (q .left .answer)) ≡ r .number = rw (← opened) (orElse-some (r .number) _ h) in
-      record { left = request-refused file (q .left) b answer r opened h; values = rw (n, ne-eqb (r .number) 0 h) refl }
+      let asked = request-refused file (q .left) b answer r opened h in
+      record { number = asked .number; state = rw (← opened, ne-eqb (r .number) 0 h) refl; answered = asked .answered; values = rw (n, ne-eqb (r .number) 0 h) refl }
 
   pub call-answered :
       r .number ≡ 0 → (t : ℕ) (after : After) (holds : List ℕ) → RightCall q t held after holds → (n : ℕ) (kept : Kept) (end : List ℕ) → n ≡ numberOf (after .answer) →
-      kept ≡ keptBy (after .answer) (after .site) (take t (after .threads .at)) b → end ≡ placedIn (valuesOf (after .answer)) answer →
-      Calls file q b held answer n kept holds end
-  unfolding callHeld requestNumber
+      kept ≡ leftBy call (after .answer) (after .site) (take t (after .threads .at)) b → end ≡ placedIn (valuesOf (after .answer)) answer →
+      Calls file call q b held answer n kept holds end
+  unfolding callHeld callKept requestNumber
   call-answered h t after holds right n kept end x y z =
+      let a : askedNumber file b answer ≡ 0 = sym opened ∙ h in
+      let asked = request-answered file (q .left) b answer r opened h t after (right .left) n _ end x refl z in
       record {
-        left = request-answered file (q .left) b answer r opened h t after (right .left) n kept end x y z;
+        number = asked .number;
+        state = rw (y, right .left .threads, right .left .answer, right .left .site, a) refl;
+        answered = asked .answered;
         values = rw (← opened, orElse-none (r .number) (numberOf (q .left .answer)) h) (go (ℕ-discrete (numberOf (q .left .answer)) 0));
       }
     where

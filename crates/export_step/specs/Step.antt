@@ -23,6 +23,7 @@ use Rattle.early.specs.Answer.{numberOf, valuesOf}
 use Rattle.early.specs.Request.{Requested, requestOf, freshSite}
 use Rattle.early.specs.ByRows.{requestByRows}
 use Rattle.early.specs.declared.Call.{Call}
+use Rattle.early.specs.declared.Call.the-variants.{Both, Grant, Finish}
 use Rattle.early.specs.Call.{Called, callOf, callByRows, callAt}
 use Rattle.order.specs.Claim.{CallClaim}
 use Rattle.replay.specs.declared.Replayed.{Replayed}
@@ -97,8 +98,23 @@ abbrev pub keptBy : Answer → Site → List Thread → Kept → Kept
 keptBy (Granted s c) site ts b = holding site ts b
 keptBy (Refused n) site ts b = b
 
+-- what a grant that is apart from its finish leaves: the thread's record runs, variables and log are as handed in
+abbrev pub startedBy : Answer → List Thread → Kept → Kept
+startedBy (Granted s c) ts b = keeps (b .variables) (b .log) (placedIn (recordWords ts) (b .records))
+startedBy (Refused n) ts b = b
+
+-- what a call leaves
+abbrev pub leftBy : Call → Answer → Site → List Thread → Kept → Kept
+leftBy (Both k) a site ts b = keptBy a site ts b
+leftBy (Grant k) a site ts b = startedBy a ts b
+leftBy (Finish k) a site ts b = keptBy a site ts b
+
 unfoldable pub requestKept : List ℕ → Requested → Kept → List ℕ → Kept
 requestKept file q b answer = cond (eqb (askedNumber file b answer) accepted) (keptBy (q .answer) (q .site) (q .threads) b) b
+
+unfoldable pub callKept : List ℕ → Call → Called → Kept → List ℕ → Kept
+callKept file call q b answer =
+    cond (eqb (askedNumber file b answer) accepted) (leftBy call (q .left .answer) (q .left .site) (q .left .threads) b) b
 
 -- segment, time and delta of a grant
 unfoldable pub requestAnswer : List ℕ → Requested → Kept → List ℕ → List ℕ
@@ -132,9 +148,11 @@ pub record Requests (file : List ℕ) (q : Requested) (b : Kept) (answer : List 
   pub state : kept ≡ requestKept file q b answer
   pub answered : written ≡ requestAnswer file q b answer
 
--- a grant, a finish or a combined request q: as of a request, and the values that are held
-pub record Calls (file : List ℕ) (q : Called) (b : Kept) (held answer : List ℕ) (r : ℕ) (kept : Kept) (holds written : List ℕ) : Type 0 where
-  pub left : Requests file (q .left) b answer r kept written
+-- a grant, a finish or a combined request q: answered as a request, with what it leaves of the state and of the values that are held
+pub record Calls (file : List ℕ) (call : Call) (q : Called) (b : Kept) (held answer : List ℕ) (r : ℕ) (kept : Kept) (holds written : List ℕ) : Type 0 where
+  pub number : r ≡ requestNumber file (q .left) b answer
+  pub state : kept ≡ callKept file call q b answer
+  pub answered : written ≡ requestAnswer file (q .left) b answer
   pub values : holds ≡ callHeld file q b held answer
 
 -- Demand 3, of a list that was made: the buffers hold the state, the records and the held values of the whole list, of which the claim speaks

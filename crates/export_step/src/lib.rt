@@ -8,9 +8,10 @@ use early::Site;
 use model::Model;
 use model::Threads;
 use reader::Read;
-ghost use Prim.Native.Nat.{_+_, _<_, _≤_};
+ghost use Prim.Native.Nat.{ℕ, _+_, _<_, _≤_};
 ghost use mathlib.Core.Path.{_≡_};
 ghost use mathlib.Core.Bool.{_&&_};
+ghost use mathlib.Core.List.{List};
 ghost use lib.Dec.{leb};
 ghost use lib.ListN.{length, take};
 ghost use Rattle.reader.specs.File.{readFile};
@@ -24,7 +25,7 @@ ghost use Rattle.early_request.specs.Fresh.{freshOf};
 ghost use Rattle.early_lent.specs.Answered.{requestFirst};
 ghost use Rattle.replay.specs.Replay.{replayedOn, wordsOn, heldOn, answersOn, replayedByRows, heldByRows, answersByRows};
 ghost use Rattle.export_state.specs.Numbers.{siteFrom, heldThreads, areHeld};
-ghost use Rattle.export_step.specs.Step.{keeps, hasRoom, holding, freshNumber, askedNumber, requestBy, rowsBy, callBy, callRowsBy, keptBy, replayBuffer, Freshens, Requests, Calls, Replays};
+ghost use Rattle.export_step.specs.Step.{keeps, hasRoom, holding, freshNumber, askedNumber, requestBy, rowsBy, callBy, callRowsBy, keptBy, startedBy, leftBy, replayBuffer, Freshens, Requests, Calls, Replays};
 ghost use Rattle.export_step.specs.Left.{leftOf};
 
 // A state and the records of its t threads in the caller's buffers.
@@ -199,6 +200,43 @@ fn put_after(after: After, t: u8, variables: &mut [u32], log: &mut [u64], record
     }
 }
 
+// What a grant apart from its finish left: the records alone.
+fn put_started(after: After, t: u8, records: &mut [u64])
+    ensures { λ _. ⌜ ((vs ws : List ℕ) → keeps vs ws (now (records .exit)) ≡ startedBy (after .answer) (take t (after .threads .at)) (keeps vs ws (now (records .entry)))) ⌝ }
+{
+    let a = after.answer;
+    match a {
+        Answer::Granted(_, _) => {
+            export_state::threads_into(after.threads, t, records);
+        }
+        Answer::Refused(_) => {}
+    }
+}
+
+// What a call left.
+fn put_called(
+    call: Call,
+    after: After,
+    t: u8,
+    variables: &mut [u32],
+    log: &mut [u64],
+    records: &mut [u64],
+)
+    ensures { λ _. ⌜ keeps (now (variables .exit)) (now (log .exit)) (now (records .exit)) ≡ leftBy call (after .answer) (after .site) (take t (after .threads .at)) (keeps (now (variables .entry)) (now (log .entry)) (now (records .entry))) ⌝ }
+{
+    match call {
+        Call::Both(_) => {
+            put_after(after, t, variables, log, records);
+        }
+        Call::Grant(_) => {
+            put_started(after, t, records);
+        }
+        Call::Finish(_) => {
+            put_after(after, t, variables, log, records);
+        }
+    }
+}
+
 // One request of a thread on the state that the caller keeps, with the file's words: the number, 0 where it is granted, and then segment, time and delta in the answer.
 // On a refusal every buffer is as it was.
 pub fn request_into(
@@ -216,10 +254,9 @@ pub fn request_into(
     if read.number != 0 {
         return read.number;
     }
-    let m = read.model;
-    let after = request_on(m, words, variables, log, records, thread);
+    let after = request_on(read.model, words, variables, log, records, thread);
     let a = after.answer;
-    put_after(after, m.t, variables, log, records);
+    put_after(after, read.model.t, variables, log, records);
     put_answer(a, answer)
 }
 
@@ -240,10 +277,9 @@ pub fn request_by_rows_into(
     if read.number != 0 {
         return read.number;
     }
-    let m = read.model;
-    let after = rows_on(m, row, variables, log, records, thread);
+    let after = rows_on(read.model, row, variables, log, records, thread);
     let a = after.answer;
-    put_after(after, m.t, variables, log, records);
+    put_after(after, read.model.t, variables, log, records);
     put_answer(a, answer)
 }
 
@@ -300,16 +336,15 @@ pub fn call_into(
     call: Call,
     answer: &mut [u64],
 ) -> u8
-    ensures { λ r. ⌜ Calls (now (file .entry)) (callBy (now (file .entry)) (now (words .entry)) (keeps (now (variables .entry)) (now (log .entry)) (now (records .entry))) (now (held .entry)) call) (keeps (now (variables .entry)) (now (log .entry)) (now (records .entry))) (now (held .entry)) (now (answer .entry)) r (keeps (now (variables .exit)) (now (log .exit)) (now (records .exit))) (now (held .exit)) (now (answer .exit)) ⌝ }
+    ensures { λ r. ⌜ Calls (now (file .entry)) call (callBy (now (file .entry)) (now (words .entry)) (keeps (now (variables .entry)) (now (log .entry)) (now (records .entry))) (now (held .entry)) call) (keeps (now (variables .entry)) (now (log .entry)) (now (records .entry))) (now (held .entry)) (now (answer .entry)) r (keeps (now (variables .exit)) (now (log .exit)) (now (records .exit))) (now (held .exit)) (now (answer .exit)) ⌝ }
 {
     let read = with_state(file, variables, log, records, answer);
     if read.number != 0 {
         return read.number;
     }
-    let m = read.model;
-    let after = call_on(m, words, held, variables, log, records, call);
+    let after = call_on(read.model, words, held, variables, log, records, call);
     let a = after.answer;
-    put_after(after, m.t, variables, log, records);
+    put_called(call, after, read.model.t, variables, log, records);
     put_answer(a, answer)
 }
 
@@ -325,16 +360,15 @@ pub fn call_by_rows_into(
     answer: &mut [u64],
 ) -> u8
     ensures free { λ _. ⌜ LeftFree (now (row .entry)) (now (row .exit)) ⌝ }
-    ensures calls { λ r. ⌜ Calls (now (file .entry)) (callRowsBy (now (file .entry)) (length (now (row .entry))) (keeps (now (variables .entry)) (now (log .entry)) (now (records .entry))) (now (held .entry)) call) (keeps (now (variables .entry)) (now (log .entry)) (now (records .entry))) (now (held .entry)) (now (answer .entry)) r (keeps (now (variables .exit)) (now (log .exit)) (now (records .exit))) (now (held .exit)) (now (answer .exit)) ⌝ }
+    ensures calls { λ r. ⌜ Calls (now (file .entry)) call (callRowsBy (now (file .entry)) (length (now (row .entry))) (keeps (now (variables .entry)) (now (log .entry)) (now (records .entry))) (now (held .entry)) call) (keeps (now (variables .entry)) (now (log .entry)) (now (records .entry))) (now (held .entry)) (now (answer .entry)) r (keeps (now (variables .exit)) (now (log .exit)) (now (records .exit))) (now (held .exit)) (now (answer .exit)) ⌝ }
 {
     let read = with_state(file, variables, log, records, answer);
     if read.number != 0 {
         return read.number;
     }
-    let m = read.model;
-    let after = call_rows_on(m, row, held, variables, log, records, call);
+    let after = call_rows_on(read.model, row, held, variables, log, records, call);
     let a = after.answer;
-    put_after(after, m.t, variables, log, records);
+    put_called(call, after, read.model.t, variables, log, records);
     put_answer(a, answer)
 }
 
@@ -359,12 +393,18 @@ pub fn replay_into(
     if read.number != 0 {
         return read.number;
     }
-    let m = read.model;
-    let done = replay::replay_on(m, words, held, calls, answers);
+    let done = replay::replay_on(read.model, words, held, calls, answers);
     if done.number != 0 {
         return done.number;
     }
-    put_state(done.site, done.threads, m.t, variables, log, records);
+    put_state(
+        done.site,
+        done.threads,
+        read.model.t,
+        variables,
+        log,
+        records,
+    );
     0
 }
 
@@ -388,11 +428,17 @@ pub fn replay_by_rows_into(
     if read.number != 0 {
         return read.number;
     }
-    let m = read.model;
-    let done = replay::replay_by_rows(m, row, held, calls, answers);
+    let done = replay::replay_by_rows(read.model, row, held, calls, answers);
     if done.number != 0 {
         return done.number;
     }
-    put_state(done.site, done.threads, m.t, variables, log, records);
+    put_state(
+        done.site,
+        done.threads,
+        read.model.t,
+        variables,
+        log,
+        records,
+    );
     0
 }

@@ -112,7 +112,7 @@ pub extern "C" fn teaselauger_grant(
     thread: u8,
     answer: &mut [u64],
 ) -> u8
-    ensures { λ r. ⌜ Calls (now (file .entry)) (callBy (now (file .entry)) (now (words .entry)) (keeps (now (variables .entry)) (now (log .entry)) (now (records .entry))) (now (held .entry)) (Call.Grant thread)) (keeps (now (variables .entry)) (now (log .entry)) (now (records .entry))) (now (held .entry)) (now (answer .entry)) r (keeps (now (variables .exit)) (now (log .exit)) (now (records .exit))) (now (held .exit)) (now (answer .exit)) ⌝ }
+    ensures { λ r. ⌜ Calls (now (file .entry)) (Call.Grant thread) (callBy (now (file .entry)) (now (words .entry)) (keeps (now (variables .entry)) (now (log .entry)) (now (records .entry))) (now (held .entry)) (Call.Grant thread)) (keeps (now (variables .entry)) (now (log .entry)) (now (records .entry))) (now (held .entry)) (now (answer .entry)) r (keeps (now (variables .exit)) (now (log .exit)) (now (records .exit))) (now (held .exit)) (now (answer .exit)) ⌝ }
 {
     let grant = Call::Grant(thread);
     export_step::call_into(file, words, held, variables, log, records, grant, answer)
@@ -130,7 +130,7 @@ pub extern "C" fn teaselauger_finish(
     thread: u8,
     answer: &mut [u64],
 ) -> u8
-    ensures { λ r. ⌜ Calls (now (file .entry)) (callBy (now (file .entry)) (now (words .entry)) (keeps (now (variables .entry)) (now (log .entry)) (now (records .entry))) (now (held .entry)) (Call.Finish thread)) (keeps (now (variables .entry)) (now (log .entry)) (now (records .entry))) (now (held .entry)) (now (answer .entry)) r (keeps (now (variables .exit)) (now (log .exit)) (now (records .exit))) (now (held .exit)) (now (answer .exit)) ⌝ }
+    ensures { λ r. ⌜ Calls (now (file .entry)) (Call.Finish thread) (callBy (now (file .entry)) (now (words .entry)) (keeps (now (variables .entry)) (now (log .entry)) (now (records .entry))) (now (held .entry)) (Call.Finish thread)) (keeps (now (variables .entry)) (now (log .entry)) (now (records .entry))) (now (held .entry)) (now (answer .entry)) r (keeps (now (variables .exit)) (now (log .exit)) (now (records .exit))) (now (held .exit)) (now (answer .exit)) ⌝ }
 {
     let finish = Call::Finish(thread);
     export_step::call_into(file, words, held, variables, log, records, finish, answer)
@@ -149,7 +149,7 @@ pub extern "C" fn teaselauger_grant_by_rows(
     answer: &mut [u64],
 ) -> u8
     ensures { λ _. ⌜ LeftFree (now (row .entry)) (now (row .exit)) ⌝ }
-    ensures { λ r. ⌜ Calls (now (file .entry)) (callRowsBy (now (file .entry)) (length (now (row .entry))) (keeps (now (variables .entry)) (now (log .entry)) (now (records .entry))) (now (held .entry)) (Call.Grant thread)) (keeps (now (variables .entry)) (now (log .entry)) (now (records .entry))) (now (held .entry)) (now (answer .entry)) r (keeps (now (variables .exit)) (now (log .exit)) (now (records .exit))) (now (held .exit)) (now (answer .exit)) ⌝ }
+    ensures { λ r. ⌜ Calls (now (file .entry)) (Call.Grant thread) (callRowsBy (now (file .entry)) (length (now (row .entry))) (keeps (now (variables .entry)) (now (log .entry)) (now (records .entry))) (now (held .entry)) (Call.Grant thread)) (keeps (now (variables .entry)) (now (log .entry)) (now (records .entry))) (now (held .entry)) (now (answer .entry)) r (keeps (now (variables .exit)) (now (log .exit)) (now (records .exit))) (now (held .exit)) (now (answer .exit)) ⌝ }
 {
     let grant = Call::Grant(thread);
     export_step::call_by_rows_into(file, row, held, variables, log, records, grant, answer)
@@ -168,7 +168,7 @@ pub extern "C" fn teaselauger_finish_by_rows(
     answer: &mut [u64],
 ) -> u8
     ensures { λ _. ⌜ LeftFree (now (row .entry)) (now (row .exit)) ⌝ }
-    ensures { λ r. ⌜ Calls (now (file .entry)) (callRowsBy (now (file .entry)) (length (now (row .entry))) (keeps (now (variables .entry)) (now (log .entry)) (now (records .entry))) (now (held .entry)) (Call.Finish thread)) (keeps (now (variables .entry)) (now (log .entry)) (now (records .entry))) (now (held .entry)) (now (answer .entry)) r (keeps (now (variables .exit)) (now (log .exit)) (now (records .exit))) (now (held .exit)) (now (answer .exit)) ⌝ }
+    ensures { λ r. ⌜ Calls (now (file .entry)) (Call.Finish thread) (callRowsBy (now (file .entry)) (length (now (row .entry))) (keeps (now (variables .entry)) (now (log .entry)) (now (records .entry))) (now (held .entry)) (Call.Finish thread)) (keeps (now (variables .entry)) (now (log .entry)) (now (records .entry))) (now (held .entry)) (now (answer .entry)) r (keeps (now (variables .exit)) (now (log .exit)) (now (records .exit))) (now (held .exit)) (now (answer .exit)) ⌝ }
 {
     let finish = Call::Finish(thread);
     export_step::call_by_rows_into(file, row, held, variables, log, records, finish, answer)

@@ -15,7 +15,7 @@ returns c =
     let o = c .before .before .before .before .before .before .before .outlook-of in
     let h = c .before .before .before .hazard in (
       h .ensures .0,
-      λ ws shown.
+      λ es l same ws shown.
           let seen = same-hazard (x .n) (x .t) (conflictsOn (x .marks) (x .names .now) (x .starts)) ws (x .reach .now) (logOf (x .site)) (x .threads .at) (x .at .thread .0) (x .at .cycle) (s .pre) _ _ (o .ensures) in
           let told = h .ensures .1 ws (shown .known) (shows-within (x .n) (x .t) (x .reach .now) (logOf (x .site)) (x .threads .at) _ _ (s .pre) (o .ensures) (shown .within)) in
           ready-hazard _ _ _ _ _ (sym seen ∙ (sym told ∙ c .if1 .taken)),
@@ -28,10 +28,10 @@ returns-2 c =
     let o = c .before .before .before .before .before .before .before .before .before .before .outlook-of in
     let h = c .before .before .before .before .before .before .hazard in (
       h .ensures .0,
-      λ ws shown.
+      λ es l same ws shown.
           let seen = same-hazard (x .n) (x .t) (conflictsOn (x .marks) (x .names .now) (x .starts)) ws (x .reach .now) (logOf (x .site)) (x .threads .at) (x .at .thread .0) (x .at .cycle) (s .pre) _ _ (o .ensures) in
           let told = h .ensures .1 ws (shown .known) (shows-within (x .n) (x .t) (x .reach .now) (logOf (x .site)) (x .threads .at) _ _ (s .pre) (o .ensures) (shown .within)) in
-          ready-full _ _ _ _ _ (sym seen ∙ (sym told ∙ c .before .before .before .if1 .left)) (sym (c .before .is-full .ensures) ∙ c .if2 .taken),
+          ready-full _ _ _ _ _ (sym seen ∙ (sym told ∙ c .before .before .before .if1 .left)) (rw (← same) (sym (c .before .is-full .ensures) ∙ c .if2 .taken)),
     )
 
 returns-3 : tie.Need-returns-3
@@ -41,10 +41,10 @@ returns-3 c =
     let o = c .before .before .before .before .before .before .before .before .before .before .outlook-of in
     let h = c .before .before .before .before .before .before .hazard in (
       h .ensures .0,
-      λ ws shown.
+      λ es l same ws shown.
           let seen = same-hazard (x .n) (x .t) (conflictsOn (x .marks) (x .names .now) (x .starts)) ws (x .reach .now) (logOf (x .site)) (x .threads .at) (x .at .thread .0) (x .at .cycle) (s .pre) _ _ (o .ensures) in
           let told = h .ensures .1 ws (shown .known) (shows-within (x .n) (x .t) (x .reach .now) (logOf (x .site)) (x .threads .at) _ _ (s .pre) (o .ensures) (shown .within)) in
-          ready-free _ _ _ _ _ (sym seen ∙ (sym told ∙ c .before .before .before .if1 .left)) (sym (c .before .is-full .ensures) ∙ c .if2 .left),
+          ready-free _ _ _ _ _ (sym seen ∙ (sym told ∙ c .before .before .before .if1 .left)) (rw (← same) (sym (c .before .is-full .ensures) ∙ c .if2 .left)),
     )
 
 pub decide-ready-spec : {M : Type 1} → statement M

@@ -27,10 +27,10 @@ returns c =
 
 returns-2 : tie.Need-returns-2
 returns-2 c =
-    let x = c .before .before .before .before .before .before .before .before .before .before .before .before .before .before .before .before .before .before .before .before .before .before .before .before .before .before .before .args in
-    let o = c .before .before .before .before .before .before .before .before .before .before .before .before .before .before .before .with-room in
+    let x = c .before .before .before .before .before .before .before .before .before .before .before .before .before .before .before .before .before .before .before .before .before .before .before .before .before .before .args in
+    let o = c .before .before .before .before .before .before .before .before .before .before .before .before .before .before .with-room in
     let d = c .before .before .before .before .before .before .before .before .replay-by-rows in
-    let h = c .before .before .before .before .before .before .before .before .before .before .before .before .before .if1 .left in
+    let h = c .before .before .before .before .before .before .before .before .before .before .before .before .if1 .left in
     let read = o .ensures .1 h in
     let same = d .ensures .1 .0 ∙ ap (λ (y : Read). replayedByRows (y .model) (length (x .row .now)) (x .held .now) (x .calls .now) (x .answers .now)) read in (
       d .ensures .0,
@@ -45,10 +45,10 @@ returns-2 c =
 
 returns-3 : tie.Need-returns-3
 returns-3 c =
-    let x = c .before .before .before .before .before .before .before .before .before .before .before .before .before .before .before .before .before .before .before .before .before .before .before .before .before .before .before .before .before .before .before .before .before .before .before .before .before .args in
-    let o = c .before .before .before .before .before .before .before .before .before .before .before .before .before .before .before .before .before .before .before .before .before .before .before .before .before .with-room in
+    let x = c .before .before .before .before .before .before .before .before .before .before .before .before .before .before .before .before .before .before .before .before .before .before .before .before .before .before .before .before .before .before .before .before .before .before .before .before .args in
+    let o = c .before .before .before .before .before .before .before .before .before .before .before .before .before .before .before .before .before .before .before .before .before .before .before .before .with-room in
     let d = c .before .before .before .before .before .before .before .before .before .before .before .before .before .before .before .before .before .before .replay-by-rows in
-    let h = c .before .before .before .before .before .before .before .before .before .before .before .before .before .before .before .before .before .before .before .before .before .before .before .if1 .left in
+    let h = c .before .before .before .before .before .before .before .before .before .before .before .before .before .before .before .before .before .before .before .before .before .before .if1 .left in
     let read = o .ensures .1 h in
     let same = d .ensures .1 .0 ∙ ap (λ (y : Read). replayedByRows (y .model) (length (x .row .now)) (x .held .now) (x .calls .now) (x .answers .now)) read in
     let z = c .before .before .before .before .before .before .before .before .before .before .if2 .left in (

@@ -25,10 +25,10 @@ returns c =
 
 returns-2 : tie.Need-returns-2
 returns-2 c =
-    let x = c .before .before .before .before .before .before .before .before .before .before .before .before .before .before .before .before .before .before .before .before .before .before .before .before .before .before .before .args in
-    let o = c .before .before .before .before .before .before .before .before .before .before .before .before .before .before .before .with-room in
+    let x = c .before .before .before .before .before .before .before .before .before .before .before .before .before .before .before .before .before .before .before .before .before .before .before .before .before .before .args in
+    let o = c .before .before .before .before .before .before .before .before .before .before .before .before .before .before .with-room in
     let d = c .before .before .before .before .before .before .before .before .replay-on in
-    let h = c .before .before .before .before .before .before .before .before .before .before .before .before .before .if1 .left in
+    let h = c .before .before .before .before .before .before .before .before .before .before .before .before .if1 .left in
     let read = o .ensures .1 h in
     let same = d .ensures .0 ∙ ap (λ (y : Read). replayedOn (y .model) (x .words .now) (x .held .now) (x .calls .now) (x .answers .now)) read in (
       replay-refused (x .file .now) (x .held .now) (x .calls .now) (replayedOn (readFile (x .file .now) .model) (x .words .now) (x .held .now) (x .calls .now) (x .answers .now)) (keeps (x .variables .now) (x .log .now) (x .records .now)) (o .result) (o .ensures .0) (o .ensures .1) h (d .result) same (c .if2 .taken) _,
@@ -43,10 +43,10 @@ returns-2 c =
 
 returns-3 : tie.Need-returns-3
 returns-3 c =
-    let x = c .before .before .before .before .before .before .before .before .before .before .before .before .before .before .before .before .before .before .before .before .before .before .before .before .before .before .before .before .before .before .before .before .before .before .before .before .before .args in
-    let o = c .before .before .before .before .before .before .before .before .before .before .before .before .before .before .before .before .before .before .before .before .before .before .before .before .before .with-room in
+    let x = c .before .before .before .before .before .before .before .before .before .before .before .before .before .before .before .before .before .before .before .before .before .before .before .before .before .before .before .before .before .before .before .before .before .before .before .before .args in
+    let o = c .before .before .before .before .before .before .before .before .before .before .before .before .before .before .before .before .before .before .before .before .before .before .before .before .with-room in
     let d = c .before .before .before .before .before .before .before .before .before .before .before .before .before .before .before .before .before .before .replay-on in
-    let h = c .before .before .before .before .before .before .before .before .before .before .before .before .before .before .before .before .before .before .before .before .before .before .before .if1 .left in
+    let h = c .before .before .before .before .before .before .before .before .before .before .before .before .before .before .before .before .before .before .before .before .before .before .if1 .left in
     let read = o .ensures .1 h in
     let same = d .ensures .0 ∙ ap (λ (y : Read). replayedOn (y .model) (x .words .now) (x .held .now) (x .calls .now) (x .answers .now)) read in
     let z = c .before .before .before .before .before .before .before .before .before .before .if2 .left in (

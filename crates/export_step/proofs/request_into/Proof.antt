@@ -13,9 +13,9 @@ returns c =
 
 returns-2 : tie.Need-returns-2
 returns-2 c =
-    let x = c .before .before .before .before .before .before .before .before .before .before .before .before .before .before .before .before .before .before .before .before .before .before .before .before .before .before .before .before .before .before .before .before .args in
-    let o = c .before .before .before .before .before .before .before .before .before .before .before .before .before .before .before .before .before .before .before .before .before .with-state in
-    let h = c .before .before .before .before .before .before .before .before .before .before .before .before .before .before .before .before .before .before .before .if1 .left in
+    let x = c .before .before .before .before .before .before .before .before .before .before .before .before .before .before .before .before .before .before .before .before .before .before .before .before .before .before .before .before .before .before .before .args in
+    let o = c .before .before .before .before .before .before .before .before .before .before .before .before .before .before .before .before .before .before .before .before .with-state in
+    let h = c .before .before .before .before .before .before .before .before .before .before .before .before .before .before .before .before .before .before .if1 .left in
     let a = c .before .before .put-answer .ensures in
     let l = c .before .before .before .before .before .before .before .before .before .before .before .before .before .before .request-on in
     request-answered (x .file .now) (requestBy (x .file .now) (x .words .now) (keeps (x .variables .now) (x .log .now) (x .records .now)) (x .thread)) (keeps (x .variables .now) (x .log .now) (x .records .now)) (x .answer .now) (o .result) (o .ensures .0) h _ (l .result)
