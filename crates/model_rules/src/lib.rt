@@ -191,48 +191,43 @@ pub fn ports_fault(v: u8, ports: [u8; 8]) -> u8
 }
 
 // Thread by thread, its ports' 17; the 33rd is 4.
-fn starts_fault(m: Model) -> u8
-    ensures { λ r. ⌜ r ≡ startsFault m ⌝ }
+fn starts_fault(starts: [Start; 32], t: u8, v: u8) -> u8
+    ensures { λ r. ⌜ ((m : Model) → m .starts ≡ starts → m .t ≡ t → m .v ≡ v → r ≡ startsFault m) ⌝ }
 {
-    let t = m.t as usize;
+    let count = t as usize;
     let mut k = 0;
-    while (k < t) & (k < 32) {
-        let x = m.starts[k];
+    while (k < count) & (k < 32) {
+        let x = starts[k];
         let ports = x.ports;
-        let fault = ports_fault(m.v, ports);
+        let fault = ports_fault(v, ports);
         if fault != 0 {
             return fault;
         }
         k += 1;
     }
-    unless(m.t <= 32, 4)
+    unless(t <= 32, 4)
 }
 
-fn counts_fault(m: Model) -> u8
-    ensures { λ r. ⌜ r ≡ countsFault m ⌝ }
+// 2 for no segment or no thread, then the threads' faults.
+fn counts_fault(starts: [Start; 32], n: u8, t: u8, v: u8) -> u8
+    ensures { λ r. ⌜ ((m : Model) → m .starts ≡ starts → m .n ≡ n → m .t ≡ t → m .v ≡ v → r ≡ countsFault m) ⌝ }
 {
-    or_else(unless((1 <= m.n) & (1 <= m.t), 2), starts_fault(m))
+    or_else(unless((1 <= n) & (1 <= t), 2), starts_fault(starts, t, v))
 }
 
-fn any_start_leaves(m: Model) -> bool
-    ensures { λ r. ⌜ r ≡ anyStartLeaves m ⌝ }
+fn any_start_leaves(starts: [Start; 32], n: u8, t: u8) -> bool
+    ensures { λ r. ⌜ ((m : Model) → m .starts ≡ starts → m .n ≡ n → m .t ≡ t → r ≡ anyStartLeaves m) ⌝ }
 {
-    let t = m.t as usize;
+    let count = t as usize;
     let mut k = 0;
-    while (k < t) & (k < 32) {
-        if m.n <= m.starts[k].first {
+    while (k < count) & (k < 32) {
+        let x = starts[k];
+        if n <= x.first {
             return true;
         }
         k += 1;
     }
     false
-}
-
-// 8 where a next or first segment is not below N.
-fn targets_fault(m: Model) -> u8
-    ensures { λ r. ⌜ r ≡ targetsFault m ⌝ }
-{
-    or_else(first_fault(m, true), unless(!any_start_leaves(m), 8))
 }
 
 // 18 where a thread can reach a port that it leaves unused, by the masks of what it lacks.
@@ -273,11 +268,15 @@ pub fn parts_fault(m: Model) -> u8
     if segments != 0 {
         return segments;
     }
-    let counts = counts_fault(m);
+    let starts = m.starts;
+    let counts = counts_fault(starts, m.n, m.t, m.v);
     if counts != 0 {
         return counts;
     }
-    targets_fault(m)
+    or_else(
+        first_fault(m, true),
+        unless(!any_start_leaves(starts, m.n, m.t), 8),
+    )
 }
 
 // The number of the first fault of a held model, in file order; 0 where it keeps the file rules.
