@@ -2,13 +2,19 @@
 #![forbid(unsafe_code)]
 
 mod arguments;
+mod build;
 mod check;
 mod failure;
 mod files;
 mod frames;
+mod language;
 mod meaning;
 mod model;
+mod names;
 mod place;
+mod resolve;
+mod show;
+mod words;
 
 use arguments::{Arguments, Known};
 use failure::{Failure, Status};
@@ -19,6 +25,8 @@ const HELP: &str = "\
 teaselauger COMMAND ..
 
     check FILE                 whether a model file is accepted, and where it is not
+    show FILE                  a model file as text
+    build TEXT [-o OUT]        a text to a model file
 
 teaselauger COMMAND --help says more of each. Exit status: 0; 1 for a refused file or text; 2 for wrong usage; 3 for input
 or output that failed. docs/TUTORIAL.md leads through all of them.
@@ -31,8 +39,10 @@ struct Command {
     run: fn(&Arguments, &mut dyn Write) -> Result<Status, Failure>,
 }
 
-const COMMANDS: [Command; 1] = [
+const COMMANDS: [Command; 3] = [
     Command { name: "check", help: check::HELP, options: &[], run: check::command },
+    Command { name: "show", help: show::HELP, options: &[], run: show::command },
+    Command { name: "build", help: build::HELP, options: &build::OPTIONS, run: build::command },
 ];
 
 // Arguments that are no text cannot be named in a message.
