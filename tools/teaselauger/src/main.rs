@@ -13,6 +13,7 @@ mod model;
 mod names;
 mod place;
 mod resolve;
+mod run;
 mod show;
 mod words;
 
@@ -27,6 +28,7 @@ teaselauger COMMAND ..
     check FILE                 whether a model file is accepted, and where it is not
     show FILE                  a model file as text
     build TEXT [-o OUT]        a text to a model file
+    run FILE                   the plain run's sheet
 
 teaselauger COMMAND --help says more of each. Exit status: 0; 1 for a refused file or text; 2 for wrong usage; 3 for input
 or output that failed. docs/TUTORIAL.md leads through all of them.
@@ -39,10 +41,11 @@ struct Command {
     run: fn(&Arguments, &mut dyn Write) -> Result<Status, Failure>,
 }
 
-const COMMANDS: [Command; 3] = [
+const COMMANDS: [Command; 4] = [
     Command { name: "check", help: check::HELP, options: &[], run: check::command },
     Command { name: "show", help: show::HELP, options: &[], run: show::command },
     Command { name: "build", help: build::HELP, options: &build::OPTIONS, run: build::command },
+    Command { name: "run", help: run::HELP, options: &run::OPTIONS, run: run::command },
 ];
 
 // Arguments that are no text cannot be named in a message.
