@@ -11,7 +11,11 @@ mod language;
 mod meaning;
 mod model;
 mod names;
+mod order;
 mod place;
+mod player;
+mod records;
+mod replay;
 mod resolve;
 mod run;
 mod show;
@@ -29,6 +33,7 @@ teaselauger COMMAND ..
     show FILE                  a model file as text
     build TEXT [-o OUT]        a text to a model file
     run FILE                   the plain run's sheet
+    replay FILE CALL..         requests, grants and finishes, or by an order until nothing is ready
 
 teaselauger COMMAND --help says more of each. Exit status: 0; 1 for a refused file or text; 2 for wrong usage; 3 for input
 or output that failed. docs/TUTORIAL.md leads through all of them.
@@ -41,11 +46,12 @@ struct Command {
     run: fn(&Arguments, &mut dyn Write) -> Result<Status, Failure>,
 }
 
-const COMMANDS: [Command; 4] = [
+const COMMANDS: [Command; 5] = [
     Command { name: "check", help: check::HELP, options: &[], run: check::command },
     Command { name: "show", help: show::HELP, options: &[], run: show::command },
     Command { name: "build", help: build::HELP, options: &build::OPTIONS, run: build::command },
     Command { name: "run", help: run::HELP, options: &run::OPTIONS, run: run::command },
+    Command { name: "replay", help: replay::HELP, options: &replay::OPTIONS, run: replay::command },
 ];
 
 // Arguments that are no text cannot be named in a message.
