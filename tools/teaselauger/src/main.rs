@@ -8,10 +8,12 @@ mod failure;
 mod files;
 mod frames;
 mod language;
+mod layout;
 mod meaning;
 mod model;
 mod names;
 mod order;
+mod picture;
 mod place;
 mod player;
 mod records;
@@ -19,6 +21,10 @@ mod replay;
 mod resolve;
 mod run;
 mod show;
+mod steps;
+mod svg;
+mod trace;
+mod vcd;
 mod words;
 
 use arguments::{Arguments, Known};
@@ -34,6 +40,7 @@ teaselauger COMMAND ..
     build TEXT [-o OUT]        a text to a model file
     run FILE                   the plain run's sheet
     replay FILE CALL..         requests, grants and finishes, or by an order until nothing is ready
+    trace FILE                 each segment with what it did: as text, for GTKWave (--vcd), as a picture (--svg)
 
 teaselauger COMMAND --help says more of each. Exit status: 0; 1 for a refused file or text; 2 for wrong usage; 3 for input
 or output that failed. docs/TUTORIAL.md leads through all of them.
@@ -46,12 +53,13 @@ struct Command {
     run: fn(&Arguments, &mut dyn Write) -> Result<Status, Failure>,
 }
 
-const COMMANDS: [Command; 5] = [
+const COMMANDS: [Command; 6] = [
     Command { name: "check", help: check::HELP, options: &[], run: check::command },
     Command { name: "show", help: show::HELP, options: &[], run: show::command },
     Command { name: "build", help: build::HELP, options: &build::OPTIONS, run: build::command },
     Command { name: "run", help: run::HELP, options: &run::OPTIONS, run: run::command },
     Command { name: "replay", help: replay::HELP, options: &replay::OPTIONS, run: replay::command },
+    Command { name: "trace", help: trace::HELP, options: &trace::OPTIONS, run: trace::command },
 ];
 
 // Arguments that are no text cannot be named in a message.
