@@ -1,5 +1,5 @@
 //! How a command can end, and the exit status of each way.
-use std::fmt;
+use std::{fmt, io};
 
 /// A command that has said all that it has to say.
 #[derive(Clone, Copy, Debug, PartialEq, Eq)]
@@ -30,14 +30,18 @@ impl Failure {
     }
 
     /// Of a path that could not be read or written.
-    pub fn of_path(path: &str, error: std::io::Error) -> Failure {
+    pub fn of_path(path: &str, error: io::Error) -> Failure {
         Failure::Io(format!("{path}: {error}"))
     }
 }
 
-impl From<std::io::Error> for Failure {
-    fn from(error: std::io::Error) -> Failure {
-        Failure::Io(format!("standard output: {error}"))
+// Whoever reads standard output may stop when it has read enough: the status tells it, and nothing is said.
+impl From<io::Error> for Failure {
+    fn from(error: io::Error) -> Failure {
+        match error.kind() {
+            io::ErrorKind::BrokenPipe => Failure::Io(String::new()),
+            _ => Failure::Io(format!("standard output: {error}")),
+        }
     }
 }
 

@@ -71,9 +71,9 @@ impl Layout {
         let (from, to) = (window.0.unwrap_or(0), window.1.unwrap_or(u64::MAX));
         let inside: Vec<&(Cycle, Vec<u32>)> = all.iter().filter(|(cycle, _)| (from..=to).contains(&cycle.0)).collect();
         let (segments, threads) = (fitted(&names.segments), fitted(&names.threads));
-        let left = MARGIN + widest(threads.iter().cloned(), TEXT).max(text_width("delta", TEXT)) + 16.0;
+        let left = MARGIN + widest(threads.iter().cloned(), TEXT).max(text_width("delta", TEXT)).ceil() + 16.0;
         let labels = widest(inside.iter().take(MOST_COLUMNS).map(|(cycle, _)| cycle.0.to_string()), SMALL);
-        let width = widest(segments.iter().cloned(), TEXT).max(labels).max(22.0) + 10.0;
+        let width = widest(segments.iter().cloned(), TEXT).max(labels).max(22.0).ceil() + 10.0;
         let mut layout = Layout {
             cycles: vec![],
             slots: vec![],

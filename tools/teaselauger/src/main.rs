@@ -104,8 +104,11 @@ fn main() -> ExitCode {
         Ok(Status::Done) => ExitCode::SUCCESS,
         Ok(Status::Refused) => ExitCode::from(1),
         Err(failure) => {
-            // Where this cannot be written either, the status is all that is left.
-            let _ = writeln!(io::stderr(), "teaselauger: {failure}");
+            let said = failure.to_string();
+            if !said.is_empty() {
+                // Where this cannot be written either, the status is all that is left.
+                let _ = writeln!(io::stderr(), "teaselauger: {said}");
+            }
             ExitCode::from(failure.status())
         }
     }

@@ -69,9 +69,11 @@ pub fn command(arguments: &Arguments, out: &mut dyn Write) -> Result<Status, Fai
     Ok(if run.right { Status::Done } else { Status::Refused })
 }
 
+// The file by its last name, and the order.
 fn title(path: &str, arguments: &Arguments) -> String {
+    let name = path.rsplit('/').next().unwrap_or(path);
     let seed = arguments.value("--seed").map_or(String::new(), |seed| format!(", seed {seed}"));
-    format!("{path}, order {}{seed}", arguments.value("--order").unwrap_or("least"))
+    format!("{name}, order {}{seed}", arguments.value("--order").unwrap_or("least"))
 }
 
 fn names(text: Option<&str>, file: &[u8], model: &Model) -> Result<Names, Failure> {
