@@ -77,7 +77,7 @@ class Dump:
                 scope.pop()
             if words[0] == "$var":
                 assert words[3] not in self.names
-                self.names[words[3]] = (*scope, words[4])
+                self.names[words[3]] = (*scope, words[4].removeprefix(scope[-1] + "_"))
         assert "$timescale 1 ps $end" in head and not scope
         self.times, self.start = collections.OrderedDict(), {}
         self.read(body.splitlines())

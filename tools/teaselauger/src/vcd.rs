@@ -15,6 +15,10 @@ const COMMENT: &str = "  One unit of the site's time is 1 us, that is 1000000 ps
   Of a thread: segment is the one that it ran last, runs counts them, early is 1 if that was granted at a cycle later than the
   floor, state is what it does since. An event is marked when it is notified.";
 
+/// The signals of a thread: kind and width, name, value at the start.
+const OF_THREAD: [(&str, &str, &str); 4] =
+    [("string 1", "segment", "s- "), ("integer 32", "runs", "b0 "), ("wire 1", "early", "0"), ("string 1", "state", "sready ")];
+
 /// What changes at a time: the code of a signal, and its value as it is written.
 struct Change {
     at: u64,
@@ -52,7 +56,7 @@ impl Signals {
         code(self.variables + i)
     }
 
-    // 0 segment, 1 runs, 2 early, 3 state
+    // By the place in OF_THREAD.
     fn thread(&self, k: usize, which: usize) -> String {
         code(self.variables + self.events + 4 * k + which)
     }
@@ -94,16 +98,8 @@ fn head(names: &Names, signals: &Signals, run: &Run, title: &str) -> String {
     text += &format!("{up}{}", scope("threads"));
     for (k, name) in names.threads.iter().enumerate() {
         text += &scope(name);
-        for (which, (kind, width, signal, value)) in [
-            ("string", 1, "segment", "s- "),
-            ("reg", 32, "runs", "b0 "),
-            ("wire", 1, "early", "0"),
-            ("string", 1, "state", "sready "),
-        ]
-        .into_iter()
-        .enumerate()
-        {
-            text += &format!("$var {kind} {width} {} {signal} $end\n", signals.thread(k, which));
+        for (which, (kind, signal, value)) in OF_THREAD.into_iter().enumerate() {
+            text += &format!("$var {kind} {} {name}_{signal} $end\n", signals.thread(k, which));
             start += &format!("{value}{}\n", signals.thread(k, which));
         }
         text += up;
