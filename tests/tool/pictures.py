@@ -3,7 +3,7 @@
 
 Everything lies inside the view box. No two texts overlap; no two lanes and no two segments; each segment lies in its thread's lane and
 its texts inside of it; no line crosses a segment. The segments are those of trace --text in the cycles that the picture says it shows,
-the early ones marked, and each hearing has its arrow.
+the early ones marked; each hearing has its arrow, and each segment a mark that notifies what nobody hears.
 """
 import itertools
 import re
@@ -69,7 +69,8 @@ class Picture:
         above = lambda found: [box for box in found if box.low < legend]
         self.all, self.texts, self.lanes = boxes, of("text", ""), of("rect", "lane")
         self.segments, self.heads = above(of("rect", "segment")), above(of("path", "head"))
-        self.lines = above(of("line", "wait") + of("line", "event") + of("line", "bus"))
+        self.lines = above(of("line", "wait") + of("line", "event") + of("line", "bus") + of("line", "nobody"))
+        self.lost = above(of("circle", "lost"))
         self.names, self.inside = of("text", "name"), of("text", "what") + of("text", "grant")
         self.bars, self.said = above(of("rect", "bar")), [box.node.text for box in of("text", "said")]
 
@@ -116,6 +117,9 @@ def check(path, options, window=()):
                 for i, (stamp, _, _) in enumerate(lines.order) if first <= stamp[:2] <= last}
     assert picture.told() == expected, f"{path}: the picture shows another run"
     assert len(picture.heads) == sum(first <= heard[:2] <= last for heard in lines.heard), f"{path}: arrows"
+    known = {(*heard[:2], event) for heard, event in lines.heard.items()}
+    lost = sum(any((*stamp[:2], event) not in known for event in step.notified) for stamp, step in lines.steps.items() if first <= stamp[:2] <= last)
+    assert len(picture.lost) == lost, f"{path}: what nobody hears"
     limits = dict(zip(window[::2], window[1::2]))
     assert first[0] >= limits.get("--from", 0) and last[0] <= limits.get("--to", last[0])
     return len(expected)

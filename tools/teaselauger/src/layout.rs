@@ -6,6 +6,7 @@ use crate::records::Cycle;
 use crate::steps::Run;
 use crate::svg::{Entry, Mark};
 use crate::trace::cycle_text;
+use std::collections::{BTreeMap, BTreeSet};
 
 pub const MARGIN: f64 = 16.0;
 pub const LANE: f64 = 38.0;
@@ -29,7 +30,7 @@ const LONGEST_NAME: usize = 18;
 
 pub struct Layout {
     pub cycles: Vec<Cycle>,
-    /// The events that are notified in each cycle.
+    /// The events that are notified in each cycle and heard.
     pub slots: Vec<Vec<u32>>,
     /// Where each column begins, and where the one after the last would.
     starts: Vec<f64>,
@@ -53,26 +54,41 @@ fn widest(texts: impl Iterator<Item = String>, size: f64) -> f64 {
     texts.map(|text| text_width(&text, size)).fold(0.0, f64::max)
 }
 
-// All cycles in which a segment ran, in order, with the events that are notified in each.
-fn all_cycles(model: &Model, run: &Run) -> Vec<(Cycle, Vec<u32>)> {
-    let mut all: std::collections::BTreeMap<Cycle, Vec<u32>> = Default::default();
-    for step in &run.steps {
-        let events = all.entry(step.cycle).or_default();
-        events.extend(model.segments[step.segment].notified());
-        events.sort_unstable();
-        events.dedup();
+/// A cycle in which a segment ran.
+struct Column {
+    cycle: Cycle,
+    /// The events that are notified in it and heard.
+    heard: Vec<u32>,
+    /// Whether one is notified that nobody hears.
+    lost: bool,
+}
+
+// All of them, in order.
+fn all_columns(model: &Model, run: &Run) -> Vec<Column> {
+    let mut heard: BTreeMap<Cycle, BTreeSet<u32>> = BTreeMap::new();
+    for of in run.steps.iter().flat_map(|step| &step.heard) {
+        heard.entry(of.of).or_default().insert(of.event);
     }
-    all.into_iter().collect()
+    let mut notified: BTreeMap<Cycle, BTreeSet<u32>> = BTreeMap::new();
+    for step in &run.steps {
+        notified.entry(step.cycle).or_default().extend(model.segments[step.segment].notified());
+    }
+    let none = BTreeSet::new();
+    let column = |(cycle, notified): (Cycle, BTreeSet<u32>)| {
+        let heard = heard.get(&cycle).unwrap_or(&none);
+        Column { cycle, lost: !notified.is_subset(heard), heard: heard.iter().copied().collect() }
+    };
+    notified.into_iter().map(column).collect()
 }
 
 impl Layout {
     pub fn of(model: &Model, names: &Names, run: &Run, window: (Option<u64>, Option<u64>)) -> Layout {
-        let all = all_cycles(model, run);
+        let all = all_columns(model, run);
         let (from, to) = (window.0.unwrap_or(0), window.1.unwrap_or(u64::MAX));
-        let inside: Vec<&(Cycle, Vec<u32>)> = all.iter().filter(|(cycle, _)| (from..=to).contains(&cycle.0)).collect();
+        let inside: Vec<&Column> = all.iter().filter(|column| (from..=to).contains(&column.cycle.0)).collect();
         let (segments, threads) = (fitted(&names.segments), fitted(&names.threads));
         let left = MARGIN + widest(threads.iter().cloned(), TEXT).max(text_width("delta", TEXT)).ceil() + 16.0;
-        let labels = widest(inside.iter().take(MOST_COLUMNS).map(|(cycle, _)| cycle.0.to_string()), SMALL);
+        let labels = widest(inside.iter().take(MOST_COLUMNS).map(|column| column.cycle.0.to_string()), SMALL);
         let width = widest(segments.iter().cloned(), TEXT).max(labels).max(22.0).ceil() + 10.0;
         let mut layout = Layout {
             cycles: vec![],
@@ -85,13 +101,14 @@ impl Layout {
             threads,
             legend: vec![],
         };
-        for &&(cycle, ref events) in inside.iter().take(MOST_COLUMNS) {
-            let next = layout.right() + width + GAP + SLOT * events.len() as f64;
+        for column in inside.iter().take(MOST_COLUMNS) {
+            let slots = column.heard.len() + usize::from(column.lost);
+            let next = layout.right() + width + GAP + SLOT * slots as f64;
             if window == (None, None) && next > WIDE && !layout.cycles.is_empty() {
                 break;
             }
-            layout.cycles.push(cycle);
-            layout.slots.push(events.clone());
+            layout.cycles.push(column.cycle);
+            layout.slots.push(column.heard.clone());
             layout.starts.push(next);
         }
         layout.said = layout.said(inside.len(), all.len(), window);
@@ -142,7 +159,7 @@ impl Layout {
         self.starts[column]
     }
 
-    /// The line of an event that is notified in a column's cycle.
+    /// The line of an event that is notified in a column's cycle; after those that are heard, of what nobody hears.
     pub fn slot(&self, column: usize, slot: usize) -> f64 {
         self.x(column) + self.width + 8.0 + SLOT * slot as f64
     }

@@ -23,7 +23,8 @@ text { fill: #222; }
 .stop { fill: #444; }
 .overrun { stroke: #c01818; stroke-width: 1.8; fill: none; }
 .bus { stroke-width: 1.4; fill: none; }
-.lost { stroke-width: 1.2; fill: #fff; }
+.nobody { stroke: #555; stroke-width: 1.2; }
+.lost { stroke: #555; stroke-width: 1.2; fill: #fff; }
 .bar { fill: #8fa3bd; }
 .axis { stroke: #aab2bf; stroke-width: 1; }
 .faint { fill: #666; }
@@ -168,11 +169,28 @@ impl View<'_> {
         }
         for (i, &cycle) in self.layout.cycles.iter().enumerate() {
             for (slot, &event) in self.layout.slots[i].iter().enumerate() {
-                let notifies = |step: &&&Step| step.cycle == cycle && self.model.segments[step.segment].notified().contains(&event);
+                let notifies = |step: &&&Step| step.cycle == cycle && self.notified(step).contains(&event);
                 let from: Vec<usize> = self.steps.iter().filter(notifies).map(|step| step.thread).collect();
-                let to = heard.get(&(cycle, event)).map_or(&[][..], Vec::as_slice);
-                self.notification(picture, (i, slot), event, &from, to);
+                self.notification(picture, (i, slot), event, &from, &heard[&(cycle, event)]);
             }
+        }
+        for step in &self.steps {
+            self.lost(picture, step);
+        }
+    }
+
+    fn notified(&self, step: &Step) -> Vec<u32> {
+        self.model.segments[step.segment].notified()
+    }
+
+    // One mark for all that a segment notifies and nobody hears.
+    fn lost(&self, picture: &mut Picture, step: &Step) {
+        let Some(column) = self.layout.column(step.cycle) else { return };
+        let heard = &self.layout.slots[column];
+        if self.notified(step).iter().any(|event| !heard.contains(event)) {
+            let (x, y) = (self.layout.slot(column, heard.len()), self.layout.middle(step.thread) + 10.0);
+            picture.line("nobody", (self.layout.x(column) + self.layout.width, y), (x, y), "");
+            picture.circle("lost", (x, y), 2.5, "");
         }
     }
 
@@ -183,12 +201,6 @@ impl View<'_> {
         let y = |k: usize| self.layout.middle(k) + [-7.0, 7.0, -4.0, 4.0][slot % 4];
         for &k in from {
             picture.line("bus", (self.layout.x(column) + self.layout.width, y(k)), (x, y(k)), &style);
-            if to.is_empty() {
-                picture.circle("lost", (x, y(k)), 2.5, &style);
-            }
-        }
-        if to.is_empty() {
-            return;
         }
         let ends = || from.iter().copied().chain(to.iter().map(|hearer| hearer.0)).map(y);
         let (high, low) = (ends().fold(f64::MAX, f64::min), ends().fold(f64::MIN, f64::max));
@@ -244,7 +256,7 @@ impl View<'_> {
                 Mark::Line(class) => picture.line(class, mark, (x + 18.0, y - 4.0), ""),
                 Mark::Stop => picture.rect("stop", (x + 7.0, y - 8.0), (4.0, 8.0)),
                 Mark::Cross => picture.cross("overrun", (x + 9.0, y - 4.0)),
-                Mark::Lost => picture.circle("lost", (x + 9.0, y - 4.0), 2.5, " style=\"stroke: #222\""),
+                Mark::Lost => picture.circle("lost", (x + 9.0, y - 4.0), 2.5, ""),
                 Mark::Event(event) => {
                     picture.line("bus", mark, (x + 14.0, y - 4.0), &stroke(event));
                     picture.head((x + 18.0, y - 4.0), &format!(" style=\"fill: {}\"", colour(event)));
