@@ -6,6 +6,7 @@ crates/test_files: the records before it must be without fault, and the record, 
 Of each accepted file: build(show(file)) is the file, byte by byte, and its text shown again is the same text.
 """
 import collections
+import random
 import re
 import struct
 import sys
@@ -110,6 +111,22 @@ def texts():
     return count
 
 
+def spoilt_texts(count):
+    """Texts with a piece taken out, doubled or changed are built or refused with a line and column, whatever they are."""
+    r, said = random.Random(5), collections.Counter()
+    texts = [path.read_text() for path in sorted((ROOT / "models").glob("*.txt")) + [ROOT / "docs/pictures/school.txt"]]
+    for _ in range(count):
+        text = r.choice(texts)
+        a = r.randrange(len(text))
+        b = min(len(text), a + r.randrange(12))
+        put = r.choice(["", text[a:b] * 2, r.choice([" ", "\n", "0", "=", "\u00e4", "\t", ",", "end", "4294967296", "p0"])])
+        code, out, err = ran("build", "-", given=(text[:a] + put + text[b:]).encode())
+        assert code == 0 or (code == 1 and out == b"" and re.match(rb"teaselauger: -: line \d+, column \d+: .+", err)), (text[:a] + put + text[b:], err)
+        said[code] += 1
+    assert min(said.values()) > count // 10, said
+    return count
+
+
 def main(count):
     refused, accepted = collections.Counter(), 0
     shipped = [(number(path.read_bytes()), path.read_bytes()) for path in MODELS]
@@ -123,7 +140,8 @@ def main(count):
             check_accepted(file)
             accepted += 1
     assert set(refused) == {*range(1, 10), 17, 18}, refused
-    print(f"{sum(refused.values())} refused files, the place found in each; {accepted} accepted files shown and built again; {texts()} texts of shipped models")
+    print(f"{sum(refused.values())} refused files, the place found in each; {accepted} accepted files shown and built again; "
+          f"{texts()} texts of shipped models, {spoilt_texts(300)} spoilt ones")
 
 
 if __name__ == "__main__":

@@ -44,7 +44,7 @@ pub fn place(file: &[u8], number: u8) -> Option<Place> {
         2 => out_of_order(&frames),
         3 => first(&wrong_length),
         4 => first(&out_of_range),
-        5 => first(&|frame| closer(frame).and_then(|bytes| closer_rule(bytes))),
+        5 => first(&|frame| closer(frame).and_then(closer_rule)),
         6 => first(&wrong_operation),
         7 => first(&|frame| unknown_name(frame, variables, events)),
         8 => unknown_segment(&frames),
@@ -110,7 +110,7 @@ fn wrong_length(frame: &Frame) -> Option<Fault> {
     let n = frame.bytes.len();
     let (fits, must) = match frame.kind {
         HEAD => (n == 10, "10"),
-        SEGMENT => (n >= 17 && n <= 209 && (n - 17) % 6 == 0, "17 + 6 n, n at most 32"),
+        SEGMENT => ((17..=209).contains(&n) && (n - 17) % 6 == 0, "17 + 6 n, n at most 32"),
         THREAD => (n == 5, "5"),
         END => (n == 4, "4"),
         PORTS => (n == 12, "12"),
