@@ -158,3 +158,40 @@ pub enum End {
     /// After so many calls.
     Stopped(u64),
 }
+
+#[cfg(test)]
+mod tests {
+    use super::*;
+    use crate::build::of_text;
+    use teaselauger::Drawing;
+
+    #[test]
+    fn a_run_equals_the_plain_run_at_its_end_alone() {
+        let file = of_text(include_str!("../../../models/m.txt")).unwrap().file;
+        let model = Model::of(&Drawing::open(&file).unwrap());
+        let mut player = Player::new(&file, &model).unwrap();
+        assert!(!player.equals_plain_run() && !player.ending(End::Done).1);
+        let stopped = player.play(&mut Order::least(), 253, |_, _, _| Ok(())).unwrap();
+        assert!(stopped == End::Stopped(253) && !player.equals_plain_run() && player.ending(stopped).1);
+        let done = player.play(&mut Order::least(), 254, |_, _, _| Ok(())).unwrap();
+        assert!(done == End::Done && player.equals_plain_run() && player.ending(done).1);
+        assert!(!player.ending(End::Standstill).1);
+        player.counts.grants += 1;
+        assert!(!player.equals_plain_run());
+    }
+
+    #[test]
+    fn variables_and_threads_are_compared() {
+        let text = include_str!("../../../models/case07.txt");
+        let file = of_text(text).unwrap().file;
+        let model = Model::of(&Drawing::open(&file).unwrap());
+        for (from, to) in [("sounder2 = 1", "sounder2 = 2"), ("wait 10", "wait 11")] {
+            let other = of_text(&text.replace(from, to)).unwrap().file;
+            let mut player = Player::new(&file, &model).unwrap();
+            assert_eq!(player.play(&mut Order::least(), 100, |_, _, _| Ok(())).unwrap(), End::Done);
+            assert!(player.equals_plain_run());
+            player.file = &other;
+            assert!(!player.equals_plain_run());
+        }
+    }
+}
