@@ -89,7 +89,7 @@ def main(count):
     assert ends["equal"] > 100 and early > 100, (ends, early)
     spent = next(path for path in MODELS if path.stem == "spent")
     assert printed("run", spent, "--budget", 5) == "t 0 0 ready 5 0\nn 5\nspent\n"
-    assert printed("replay", spent, 0, 0, 0, "--most", 2).splitlines()[-1] == "stopped after 2 calls (--most), with 1 not made"
+    assert printed("replay", spent, 0, 0, 0, "--most", 2).splitlines()[-1] == "stopped after 2 calls (--most); calls not made: 1"
     print(f"{runs} sheets and {replays} lists as the programs print them; by an order {ends['equal']} runs equal to the plain run, "
           f"{ends['stopped']} stopped as asked, {early} early grants")
 

@@ -15,7 +15,8 @@ USAGE = [[], ["chek", M], ["check"], ["check", M, M], ["check", "--all", M], ["r
          ["run", M, "--budget", "18446744073709551616"], ["replay"], ["replay", M, "x"], ["replay", M, "g"], ["replay", M, "1x"], ["replay", M, "--quiet"],
          ["replay", M, "0", "--order", "least"], ["replay", M, "--order", "lest"], ["replay", M, "--seed", "1"], ["replay", M, "--order", "least", "--seed", "1"],
          ["replay", M, "--order", "least", "--order", "least"], ["replay", M, "12345678901234567890"], ["trace", M, "--from", "1"], ["trace", M, "0"], ["build"],
-         ["trace", M, "--vcd"], ["run", M, "--budget=5x"], ["check", M, "--names=x"]]
+         ["trace", M, "--vcd"], ["run", M, "--budget=5x"], ["trace", M, "--vcd", "-", "--svg", "-"], ["trace", M, "--text", "--svg", "-"], ["trace", "-", "--names", "-"],
+         ["check", M, "--names=x"]]
 FAILED = [["check", "no/such.model"], ["check", "models"], ["show", "no/such.model"], ["build", "no/such.txt"], ["run", "no/such"], ["replay", "no/such", "0"],
           ["build", "models/m.txt", "-o", "no/such/place"], ["trace", M, "--svg", "no/such/place"], ["trace", M, "--vcd", "models"], ["trace", M, "--names", "no/such"]]
 

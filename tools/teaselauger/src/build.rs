@@ -32,7 +32,8 @@ said with its line and column. TEXT may be - for standard input. A text has thes
     thread poller starts at poll
     thread loop starts at tally with counter = count
 
-What follows a # is a comment. Numbers are given in the order of the lines: the first variable is variable 0.
+Names are parted by spaces; what follows a # is a comment. Variables, events, ports, segments and threads are numbered as they
+stand, the first being 0; lines of variables, events and ports go on from one another. A file holds no names.
 ";
 
 pub const OPTIONS: [Known; 1] = [("-o", true)];

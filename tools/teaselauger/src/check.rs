@@ -35,8 +35,8 @@ pub fn command(arguments: &Arguments, out: &mut dyn Write) -> Result<Status, Fai
 pub fn report(file: &ModelFile, refused: Refused) -> String {
     let found = place(&file.bytes, refused.0).map_or("place not found".into(), |place| place.to_string());
     let mut text = format!("{refused}\n{}\n{found}", meaning(refused.0));
-    if file.past > 0 {
-        text += &format!("\nread: {} bytes, as the programs do; {} more were not", file.bytes.len(), file.past);
+    if file.is_longer {
+        text += &format!("\nthe first {} bytes were read, as the programs do, and the file has more", file.bytes.len());
     }
     text
 }

@@ -124,9 +124,9 @@ impl<'a> Player<'a> {
         let still = self.ready().len();
         match end {
             End::Stopped(most) => {
-                (format!("stopped after {most} calls (--most), with {still} threads ready up to the horizon\n"), true)
+                (format!("stopped after {most} calls (--most); threads ready up to the horizon: {still}\n"), true)
             }
-            End::Standstill => (format!("at a standstill, with {still} threads ready up to the horizon\n"), false),
+            End::Standstill => (format!("at a standstill; threads ready up to the horizon: {still}\n"), false),
             End::Done if self.equals_plain_run() => {
                 (format!("equal to the plain run: variables, threads and {} segments\n", self.counts.grants), true)
             }

@@ -107,7 +107,7 @@ fn list(player: &mut Player, calls: &[Asked], most: u64, out: &mut dyn Write) ->
     }
     write!(out, "{}{}", player.site_lines(), log_lines(&player.state))?;
     let left = calls.len() as u64 - player.counts.calls;
-    Ok((if left == 0 { String::new() } else { format!("stopped after {most} calls (--most), with {left} not made\n") }, true))
+    Ok((if left == 0 { String::new() } else { format!("stopped after {most} calls (--most); calls not made: {left}\n") }, true))
 }
 
 fn by_order(player: &mut Player, mut order: Order, most: u64, quiet: bool, out: &mut dyn Write) -> Result<(String, bool), Failure> {

@@ -90,7 +90,7 @@ fn heard(model: &Model, granted: &Granted, before: &[Record], after: &[Record]) 
     let hears = |k: usize| {
         let (event, (time, delta)) = (waited(k)?, after[k].cycle);
         match after[k].standing {
-            Standing::Ready => Some(Heard { thread: k, event, of: (time, delta - 1), overrun: false }),
+            Standing::Ready => Some(Heard { thread: k, event, of: (time, delta.saturating_sub(1)), overrun: false }),
             Standing::Overrun => Some(Heard { thread: k, event, of: (time, delta), overrun: true }),
             _ => None,
         }

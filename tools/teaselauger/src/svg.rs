@@ -11,7 +11,7 @@ use std::collections::BTreeMap;
 
 /// The colours of lanes, segments and lines.
 const STYLE: &str = "\
-text { fill: #222; }
+text { fill: #222; pointer-events: none; }
 .paper { fill: #fff; }
 .lane { fill: #f5f6f8; }
 .lane.odd { fill: #fff; }

@@ -22,7 +22,8 @@ tells of each granted segment: its cycle, thread and number, whether it was gran
 which variables have another value after it, which events it notifies, who hears an event by its grant, and what its thread
 does then. Several forms may be asked for at once; --text if none is.
 
-    --text      a line for each segment, in the order of the grants; the last line says whether the run equals the plain run
+    --text      a line for each segment, in the order of the grants; then the counts of replay --stats; the last line says
+                whether the run equals the plain run
     --vcd OUT   a file for GTKWave, in the order of the site's own time. A comment in it says how cycles are told as time
     --svg OUT   a picture: a lane for each thread, and the log's fill below. It shows the cycles of the times --from to --to;
                 without these the first that fit. The picture says which it shows
@@ -52,6 +53,7 @@ pub fn command(arguments: &Arguments, out: &mut dyn Write) -> Result<Status, Fai
     if window != (None, None) && !arguments.has("--svg") {
         return Err(Failure::Usage("--from and --to go with --svg".into()));
     }
+    one_at_a_time(path, arguments)?;
     let file = read_model(path)?;
     let model = open(path, &file)?;
     let names = names(arguments.value("--names"), &file.bytes, &model)?;
@@ -63,10 +65,26 @@ pub fn command(arguments: &Arguments, out: &mut dyn Write) -> Result<Status, Fai
     if let Some(to) = arguments.value("--svg") {
         write(to, svg::text(&model, &names, &run, &title, window).as_bytes(), out)?;
     }
-    if arguments.has("--text") || !(arguments.has("--vcd") || arguments.has("--svg")) {
+    if asks_text(arguments) {
         lines(&model, &names, &run, out)?;
     }
     Ok(if run.right { Status::Done } else { Status::Refused })
+}
+
+fn asks_text(arguments: &Arguments) -> bool {
+    arguments.has("--text") || !(arguments.has("--vcd") || arguments.has("--svg"))
+}
+
+// Standard output has room for one form, and standard input for one file.
+fn one_at_a_time(path: &str, arguments: &Arguments) -> Result<(), Failure> {
+    let printed = [arguments.value("--vcd") == Some("-"), arguments.value("--svg") == Some("-"), asks_text(arguments)];
+    if printed.iter().filter(|&&asked| asked).count() > 1 {
+        return Err(Failure::Usage("one form alone can go to standard output".into()));
+    }
+    if path == "-" && arguments.value("--names") == Some("-") {
+        return Err(Failure::Usage("FILE and --names cannot both be standard input".into()));
+    }
+    Ok(())
 }
 
 // The file by its last name, and the order.

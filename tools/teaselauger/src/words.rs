@@ -45,7 +45,7 @@ pub struct Named {
 }
 
 /// The words of the language. Nothing else may be called so.
-const OWN: [&str; 17] = [
+const OWN: [&str; 16] = [
     "horizon",
     "variables",
     "events",
@@ -62,7 +62,6 @@ const OWN: [&str; 17] = [
     "starts",
     "at",
     "with",
-    "port",
 ];
 const SIGNS: [&str; 5] = ["+=", "-=", "=", "<", ","];
 
