@@ -9,9 +9,10 @@ import collections
 import random
 import re
 import struct
+import subprocess
 import sys
 
-from tool import MODELS, ROOT, generated, printed, ran, stored, stored_runs, vectors
+from tool import MODELS, ROOT, TOOL, generated, printed, ran, stored, stored_runs, vectors
 import files as second
 
 PLACE = re.compile(r"record (\d+) \(([a-z 0-9]+)\), byte (\d+)(?:, statement (\d+))?: .+")
@@ -97,6 +98,20 @@ def long_files():
     return [(n, file) for _, n, file in held["FILES"]]
 
 
+def commands():
+    """The files of docs/REFUSALS.md, made by its commands, through check in place of plainrun: the number, and a place."""
+    count = 0
+    for line in (ROOT / "docs/REFUSALS.md").read_text().splitlines():
+        match = re.match(r"^\| (\d+) \|.*?\| `(.+?target/bin/plainrun.*?|target/bin/plainrun.+?)` → ", line.replace(r"\|", "\0"))
+        if match:
+            command = match[2].replace("\0", "|").replace("target/bin/plainrun", f"{TOOL} check -")
+            lines = subprocess.run(["bash", "-c", command], capture_output=True, text=True).stdout.splitlines()
+            assert lines[0] == f"refused {match[1]}" and PLACE.fullmatch(lines[2]), (command, lines)
+            count += 1
+    assert count == 11, count
+    return count
+
+
 def texts():
     """The text beside each shipped model builds the model; a model that is refused has none."""
     count = 0
@@ -140,7 +155,7 @@ def main(count):
             check_accepted(file)
             accepted += 1
     assert set(refused) == {*range(1, 10), 17, 18}, refused
-    print(f"{sum(refused.values())} refused files, the place found in each; {accepted} accepted files shown and built again; "
+    print(f"{sum(refused.values())} refused files and {commands()} of docs/REFUSALS.md, the place found in each; {accepted} accepted files shown and built again; "
           f"{texts()} texts of shipped models, {spoilt_texts(300)} spoilt ones")
 
 
