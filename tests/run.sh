@@ -30,3 +30,4 @@ step "files above 65,536 bytes" python3 tests/refusals/long.py
 step "library beside the programs" python3 tests/boundary/boundary.py 200
 step "models as numbers and their files" python3 tests/writer/writer.py 100
 step "vectors" python3 tests/vectors/run.py
+step "command line tool" tests/tool/run.sh

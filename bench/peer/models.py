@@ -6,7 +6,7 @@ import pathlib
 import random
 import sys
 
-sys.path.insert(0, str(pathlib.Path(__file__).resolve().parents[2] / "models"))
+sys.path.insert(0, str(pathlib.Path(__file__).resolve().parent))
 from make import ADD, ADD_VARIABLE, COPY, SET, SUB_VARIABLE, end, hear, model, notify, wait
 
 H, V, T = 1000000000, 64, 32

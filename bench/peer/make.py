@@ -1,4 +1,4 @@
-"""Model files from a short description, in the format of docs/MODEL-FILE.md, for bench/peer. The shipped models have their texts."""
+"""Model files from a short description, in the format of docs/MODEL-FILE.md. The shipped models have their texts."""
 import struct
 
 SET, ADD, COPY, ADD_VARIABLE, SUB_VARIABLE, NOTIFY = 1, 2, 3, 4, 5, 6
