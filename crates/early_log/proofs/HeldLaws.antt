@@ -68,7 +68,7 @@ module _ (site : Site) (size : length (site .log) ≡ places) where
   unfolding logOf
   logOf-first n e = rw e (take-within (site .log) (site .count) places size)
 
-  logOf-at : (i : ℕ) → i < length (logOf site) → getD (logOf site) i noPair ≡ placeOf site i
+  pub logOf-at : (i : ℕ) → i < length (logOf site) → getD (logOf site) i noPair ≡ placeOf site i
   unfolding logOf
   logOf-at i h = getD-take (site .count) (site .log) i noPair (omega (arith, length-take (site .count) (site .log)))
 

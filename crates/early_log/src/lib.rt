@@ -19,6 +19,7 @@ ghost use Rattle.model.specs.Footprint.{has};
 ghost use Rattle.model.specs.Record.{threadAt, isRunning};
 ghost use Rattle.early.specs.Log.{places, pairOf, logOf, siteOf, holds, placesWith, countedLog, isHeard, leastHeard, isDropped, dropBefore};
 ghost use Rattle.early_log.specs.Noted.{noPair, notedOf};
+ghost use Rattle.early_log.specs.Spread.{logIn};
 
 // What is counted of a log: whether it takes more than 128 places with the pairs of the running threads, and else the log with them.
 pub struct CountedLog {
@@ -260,6 +261,29 @@ pub fn least_heard(site: Site, e: u8, since: Cycle) -> Bound
         }
     }
     best
+}
+
+// The log as three rows of numbers, for those that read it often: event, time and delta of each place below the count, and how many these are.
+pub fn spread(
+    site: Site,
+    events: &mut [u8; 128],
+    times: &mut [u64; 128],
+    deltas: &mut [u32; 128],
+) -> usize
+    requires { ⌜ (length (now events) ≡ places) × (length (now times) ≡ places) × (length (now deltas) ≡ places) ⌝ }
+    ensures { λ r. ⌜ logIn (now (events .exit)) (now (times .exit)) (now (deltas .exit)) r ≡ logOf site ⌝ }
+{
+    let logged = within(site.count, 128);
+    let mut i = 0;
+    while i < logged {
+        let x = site.log[i];
+        let c = x.cycle;
+        events[i] = x.event;
+        times[i] = c.time.0;
+        deltas[i] = c.delta.0;
+        i += 1;
+    }
+    logged
 }
 
 // Whether it is before the floor, or there is none.
