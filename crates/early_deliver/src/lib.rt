@@ -19,6 +19,7 @@ ghost use Rattle.early.specs.Log.{logOf};
 ghost use Rattle.early.specs.Deliver.{heardBy, lookedBy, sweptBy, settledBy};
 ghost use Rattle.early_limits.specs.Limit.{sumOf, atMost};
 ghost use Rattle.early_limits.specs.Ahead.{eventAwaited, sinceAwaited, crewOf};
+ghost use Rattle.early_log.specs.Spread.{logIn};
 ghost use Rattle.early_deliver.specs.Awake.{boundLimit, firstLimit, firstLimits, soonerAt, soonerOn, outlookOf};
 
 // A limit that stands for never, and the least that does so in a sum.
@@ -108,21 +109,41 @@ fn bound_limit(b: Bound) -> u64
 }
 
 // Document 01: chains "begin at a ready thread or a logged notification"; a running thread counts at its cycle as a ready one.
-fn first_limit(site: Site, s: State) -> u64
-    ensures { λ r. ⌜ r ≡ firstLimit (logOf site) s ⌝ }
+fn first_limit(
+    events: &[u8; 128],
+    times: &[u64; 128],
+    deltas: &[u32; 128],
+    logged: usize,
+    s: State,
+) -> u64
+    ensures { λ r. ⌜ r ≡ firstLimit (logIn (now (events .entry)) (now (times .entry)) (now (deltas .entry)) logged) s ⌝ }
 {
     match s {
         State::Ended(_) => NEVER,
         State::Overrun(_) => NEVER,
         State::Ready(c) => early_ahead::limit_of(c),
-        State::Waiting(e, since) => one_later(bound_limit(early_log::least_heard(site, e, since))),
+        State::Waiting(e, since) => one_later(bound_limit(early_log::least_in(
+            events,
+            times,
+            deltas,
+            logged,
+            e,
+            since,
+        ))),
         State::Running(c) => early_ahead::limit_of(c),
     }
 }
 
-fn first_limits(site: Site, threads: Threads, t: u8) -> Limits
+fn first_limits(
+    events: &[u8; 128],
+    times: &[u64; 128],
+    deltas: &[u32; 128],
+    logged: usize,
+    threads: Threads,
+    t: u8,
+) -> Limits
     requires { ⌜ t ≤ 32 ⌝ }
-    ensures { λ r. ⌜ r .at ≡ firstLimits t (logOf site) (threads .at) ⌝ }
+    ensures { λ r. ⌜ r .at ≡ firstLimits t (logIn (now (events .entry)) (now (times .entry)) (now (deltas .entry)) logged) (threads .at) ⌝ }
 {
     let n = buffers::wide(t);
     let mut at = [NEVER; 32];
@@ -130,18 +151,27 @@ fn first_limits(site: Site, threads: Threads, t: u8) -> Limits
     while k < n {
         let x = threads.at[k];
         let s = x.state;
-        at[k] = first_limit(site, s);
+        at[k] = first_limit(events, times, deltas, logged, s);
         k += 1;
     }
     Limits { at }
 }
 
-fn outlook_with(reach: &[u64], site: Site, threads: Threads, t: u8, heard: bool) -> Outlook
+fn outlook_with(
+    reach: &[u64],
+    events: &[u8; 128],
+    times: &[u64; 128],
+    deltas: &[u32; 128],
+    logged: usize,
+    threads: Threads,
+    t: u8,
+    heard: bool,
+) -> Outlook
     requires { ⌜ t ≤ 32 ⌝ }
-    ensures { λ r. ⌜ r ≡ outlookOf (now (reach .entry)) t (logOf site) (threads .at) heard ⌝ }
+    ensures { λ r. ⌜ r ≡ outlookOf (now (reach .entry)) t (logIn (now (events .entry)) (now (times .entry)) (now (deltas .entry)) logged) (threads .at) heard ⌝ }
 {
     let crew = crew_of(threads, t);
-    let first = first_limits(site, threads, t);
+    let first = first_limits(events, times, deltas, logged, threads, t);
     let limits = early_ahead::earliest(reach, crew, first, t);
     let segments = crew.segments;
     Outlook {
@@ -153,13 +183,23 @@ fn outlook_with(reach: &[u64], site: Site, threads: Threads, t: u8, heard: bool)
 }
 
 // Document 01: "A delivery is looked for only if the thread waits".
-fn heard_by(reach: &[u64], site: Site, segments: [u8; 32], xs: Limits, t: u8, s: State) -> Bound
-    ensures { λ r. ⌜ r ≡ heardBy (soonerAt (now (reach .entry)) t segments (xs .at)) (logOf site) (awaitedBy s) ⌝ }
+fn heard_by(
+    reach: &[u64],
+    events: &[u8; 128],
+    times: &[u64; 128],
+    deltas: &[u32; 128],
+    logged: usize,
+    segments: [u8; 32],
+    xs: Limits,
+    t: u8,
+    s: State,
+) -> Bound
+    ensures { λ r. ⌜ r ≡ heardBy (soonerAt (now (reach .entry)) t segments (xs .at)) (logIn (now (events .entry)) (now (times .entry)) (now (deltas .entry)) logged) (awaitedBy s) ⌝ }
 {
     let State::Waiting(e, since) = s else {
         return Bound::Never;
     };
-    let Bound::At(c) = early_log::least_heard(site, e, since) else {
+    let Bound::At(c) = early_log::least_in(events, times, deltas, logged, e, since) else {
         return Bound::Never;
     };
     if early_ahead::forecast(reach, segments, xs, t, e) < early_ahead::limit_of(c) {
@@ -179,11 +219,20 @@ fn woken_at(c: Cycle) -> State
 }
 
 // One look at thread k.
-fn look(reach: &[u64], site: Site, o: Outlook, t: u8, k: usize) -> Outlook
+fn look(
+    reach: &[u64],
+    events: &[u8; 128],
+    times: &[u64; 128],
+    deltas: &[u32; 128],
+    logged: usize,
+    o: Outlook,
+    t: u8,
+    k: usize,
+) -> Outlook
     requires { ⌜ t ≤ 32 ⌝ }
     requires { ⌜ k < t ⌝ }
-    requires { ⌜ o ≡ outlookOf (now reach) t (logOf site) (o .threads .at) (o .heard) ⌝ }
-    ensures seen { λ r. ⌜ r ≡ outlookOf (now (reach .entry)) t (logOf site) (lookedBy (soonerOn (now (reach .entry)) t (logOf site)) (logOf site) (o .threads .at) k) (r .heard) ⌝ }
+    requires { ⌜ o ≡ outlookOf (now reach) t (logIn (now events) (now times) (now deltas) logged) (o .threads .at) (o .heard) ⌝ }
+    ensures seen { λ r. ⌜ r ≡ outlookOf (now (reach .entry)) t (logIn (now (events .entry)) (now (times .entry)) (now (deltas .entry)) logged) (lookedBy (soonerOn (now (reach .entry)) t (logIn (now (events .entry)) (now (times .entry)) (now (deltas .entry)) logged)) (logIn (now (events .entry)) (now (times .entry)) (now (deltas .entry)) logged) (o .threads .at) k) (r .heard) ⌝ }
     ensures still { λ r. ⌜ (r .heard ≡ false → (o .heard ≡ false) × (r .threads .at ≡ o .threads .at)) ⌝ }
 {
     let mut threads = o.threads;
@@ -191,7 +240,7 @@ fn look(reach: &[u64], site: Site, o: Outlook, t: u8, k: usize) -> Outlook
     let limits = o.limits;
     let x = threads.at[k];
     let s = x.state;
-    let Bound::At(c) = heard_by(reach, site, segments, limits, t, s) else {
+    let Bound::At(c) = heard_by(reach, events, times, deltas, logged, segments, limits, t, s) else {
         return o;
     };
     let state = woken_at(c);
@@ -199,14 +248,22 @@ fn look(reach: &[u64], site: Site, o: Outlook, t: u8, k: usize) -> Outlook
         segment: x.segment,
         state,
     };
-    outlook_with(reach, site, threads, t, true)
+    outlook_with(reach, events, times, deltas, logged, threads, t, true)
 }
 
 // Document 01: "every thread is looked at".
-fn sweep(reach: &[u64], site: Site, o: Outlook, t: u8) -> Outlook
+fn sweep(
+    reach: &[u64],
+    events: &[u8; 128],
+    times: &[u64; 128],
+    deltas: &[u32; 128],
+    logged: usize,
+    o: Outlook,
+    t: u8,
+) -> Outlook
     requires { ⌜ t ≤ 32 ⌝ }
-    requires { ⌜ o ≡ outlookOf (now reach) t (logOf site) (o .threads .at) (o .heard) ⌝ }
-    ensures seen { λ r. ⌜ r ≡ outlookOf (now (reach .entry)) t (logOf site) (sweptBy (soonerOn (now (reach .entry)) t (logOf site)) (logOf site) (o .threads .at) t) (r .heard) ⌝ }
+    requires { ⌜ o ≡ outlookOf (now reach) t (logIn (now events) (now times) (now deltas) logged) (o .threads .at) (o .heard) ⌝ }
+    ensures seen { λ r. ⌜ r ≡ outlookOf (now (reach .entry)) t (logIn (now (events .entry)) (now (times .entry)) (now (deltas .entry)) logged) (sweptBy (soonerOn (now (reach .entry)) t (logIn (now (events .entry)) (now (times .entry)) (now (deltas .entry)) logged)) (logIn (now (events .entry)) (now (times .entry)) (now (deltas .entry)) logged) (o .threads .at) t) (r .heard) ⌝ }
     ensures still { λ r. ⌜ (r .heard ≡ false → r .threads .at ≡ o .threads .at) ⌝ }
 {
     let n = buffers::wide(t);
@@ -221,22 +278,30 @@ fn sweep(reach: &[u64], site: Site, o: Outlook, t: u8) -> Outlook
     };
     let mut k = 0;
     while k < n {
-        w = look(reach, site, w, t, k);
+        w = look(reach, events, times, deltas, logged, w, t, k);
         k += 1;
     }
     w
 }
 
 // Document 01: "again and again until none hears anything".
-fn settle_below(reach: &[u64], site: Site, threads: Threads, t: u8) -> Threads
+fn settle_below(
+    reach: &[u64],
+    events: &[u8; 128],
+    times: &[u64; 128],
+    deltas: &[u32; 128],
+    logged: usize,
+    threads: Threads,
+    t: u8,
+) -> Threads
     requires { ⌜ t ≤ 32 ⌝ }
-    ensures { λ r. ⌜ r .at ≡ settledBy (soonerOn (now (reach .entry)) t (logOf site)) (logOf site) t (threads .at) ⌝ }
+    ensures { λ r. ⌜ r .at ≡ settledBy (soonerOn (now (reach .entry)) t (logIn (now (events .entry)) (now (times .entry)) (now (deltas .entry)) logged)) (logIn (now (events .entry)) (now (times .entry)) (now (deltas .entry)) logged) t (threads .at) ⌝ }
 {
     let n = buffers::wide(t);
-    let mut o = outlook_with(reach, site, threads, t, false);
+    let mut o = outlook_with(reach, events, times, deltas, logged, threads, t, false);
     let mut i = 0;
     while i < n {
-        o = sweep(reach, site, o, t);
+        o = sweep(reach, events, times, deltas, logged, o, t);
         if !o.heard {
             return o.threads;
         }
@@ -265,12 +330,29 @@ pub fn floor_of(threads: Threads, t: u8) -> Bound
 pub fn outlook_of(reach: &[u64], site: Site, threads: Threads, t: u8) -> Outlook
     ensures { λ r. ⌜ r ≡ outlookOf (now (reach .entry)) (atMost 32 t) (logOf site) (threads .at) false ⌝ }
 {
-    outlook_with(reach, site, threads, few(t), false)
+    let mut events = [0u8; 128];
+    let mut times = [0u64; 128];
+    let mut deltas = [0u32; 128];
+    let logged = early_log::spread(site, &mut events, &mut times, &mut deltas);
+    outlook_with(
+        reach,
+        &events,
+        &times,
+        &deltas,
+        logged,
+        threads,
+        few(t),
+        false,
+    )
 }
 
 // The records after all deliveries.
 pub fn settle(reach: &[u64], site: Site, threads: Threads, t: u8) -> Threads
     ensures { λ r. ⌜ r .at ≡ settledBy (soonerOn (now (reach .entry)) (atMost 32 t) (logOf site)) (logOf site) (atMost 32 t) (threads .at) ⌝ }
 {
-    settle_below(reach, site, threads, few(t))
+    let mut events = [0u8; 128];
+    let mut times = [0u64; 128];
+    let mut deltas = [0u32; 128];
+    let logged = early_log::spread(site, &mut events, &mut times, &mut deltas);
+    settle_below(reach, &events, &times, &deltas, logged, threads, few(t))
 }

@@ -92,34 +92,26 @@ unfolding leastHeard
 leastHeard-more l e since j x b h p r = rw (drop-cons l j noPair h, p, r) refl
 
 module _
-    (site : Site)
-    (size : length (site .log) ≡ places)
+    (l : List Notification)
     (e : ℕ)
     (since : Cycle)
     (i : ℕ)
     (b : Bound)
+    (x : Notification)
     (above : 0 < i)
-    (within : i ≤ length (logOf site))
-    (known : b ≡ leastHeard (drop i (logOf site)) e since)
+    (within : i ≤ length l)
+    (here : getD l (i - 1) noPair ≡ x)
+    (known : b ≡ leastHeard (drop i l) e since)
   where
-    step : leastHeard (drop (i - 1) (logOf site)) e since ≡ least (cond (isHeard e since (placeOf site (i - 1))) (At (placeOf site (i - 1) .cycle)) Never) b
+    step : leastHeard (drop (i - 1) l) e since ≡ least (cond (isHeard e since x) (At (x .cycle)) Never) b
     step =
         let next : i ≡ suc (i - 1) = omega arith in
-        leastHeard-more
-        (logOf site)
-        e
-        since
-        (i - 1)
-        (placeOf site (i - 1))
-        b
-        (omega arith)
-        (logOf-at site size (i - 1) (omega arith))
-        (subst (λ (n : ℕ). b ≡ leastHeard (drop n (logOf site)) e since) next known)
+        leastHeard-more l e since (i - 1) x b (omega arith) here (subst (λ (n : ℕ). b ≡ leastHeard (drop n l) e since) next known)
 
-    pub leastHeard-heard : (a : Bound) → isHeard e since (placeOf site (i - 1)) ≡ true → a ≡ least (At (placeOf site (i - 1) .cycle)) b → a ≡ leastHeard (drop (i - 1) (logOf site)) e since
+    pub leastHeard-heard : (a : Bound) → isHeard e since x ≡ true → a ≡ least (At (x .cycle)) b → a ≡ leastHeard (drop (i - 1) l) e since
     leastHeard-heard a p r = rw (step, p) r
 
-    pub leastHeard-passed : isHeard e since (placeOf site (i - 1)) ≡ false → b ≡ leastHeard (drop (i - 1) (logOf site)) e since
+    pub leastHeard-passed : isHeard e since x ≡ false → b ≡ leastHeard (drop (i - 1) l) e since
     leastHeard-passed p = rw (step, p) (sym (least-Never-left b))
 
 -- a floor at a cycle

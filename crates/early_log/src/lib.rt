@@ -17,7 +17,7 @@ ghost use lib.ListN.{length, take};
 ghost use Rattle.base.specs.Index.{anyBelow};
 ghost use Rattle.model.specs.Footprint.{has};
 ghost use Rattle.model.specs.Record.{threadAt, isRunning};
-ghost use Rattle.early.specs.Log.{places, pairOf, logOf, siteOf, holds, placesWith, countedLog, isHeard, leastHeard, isDropped, dropBefore};
+ghost use Rattle.early.specs.Log.{places, pairOf, logOf, siteOf, holds, placesWith, countedLog, leastHeard, isDropped, dropBefore};
 ghost use Rattle.early_log.specs.Noted.{noPair, notedOf};
 ghost use Rattle.early_log.specs.Spread.{logIn};
 
@@ -235,34 +235,6 @@ pub fn counted_site(m: Model, site: Site, threads: Threads) -> Site
     site
 }
 
-// Whether event e is heard of it since a cycle.
-fn is_heard(x: Notification, e: u8, since: Cycle) -> bool
-    ensures { λ r. ⌜ r ≡ isHeard e since x ⌝ }
-{
-    let c = x.cycle;
-    if x.event == e {
-        return !clock::is_before(c, since);
-    }
-    false
-}
-
-// Document 01: "the least logged notification not before its wait".
-pub fn least_heard(site: Site, e: u8, since: Cycle) -> Bound
-    ensures { λ r. ⌜ r ≡ leastHeard (logOf site) e since ⌝ }
-{
-    let mut best = Bound::Never;
-    let mut i = within(site.count, 128);
-    while 0 < i {
-        i -= 1;
-        let x = site.log[i];
-        let c = x.cycle;
-        if is_heard(x, e, since) {
-            best = clock::least_of(Bound::At(c), best);
-        }
-    }
-    best
-}
-
 // The log as three rows of numbers, for those that read it often: event, time and delta of each place below the count, and how many these are.
 pub fn spread(
     site: Site,
@@ -284,6 +256,35 @@ pub fn spread(
         i += 1;
     }
     logged
+}
+
+// Document 01: "the least logged notification not before its wait", of a log that is spread out.
+pub fn least_in(
+    events: &[u8; 128],
+    times: &[u64; 128],
+    deltas: &[u32; 128],
+    n: usize,
+    e: u8,
+    since: Cycle,
+) -> Bound
+    ensures { λ r. ⌜ r ≡ leastHeard (logIn (now (events .entry)) (now (times .entry)) (now (deltas .entry)) n) e since ⌝ }
+{
+    let mut best = Bound::Never;
+    let mut i = buffers::least(n, 128);
+    while 0 < i {
+        i -= 1;
+        let event = events[i];
+        if event == e {
+            let c = Cycle {
+                time: Time(times[i]),
+                delta: Delta(deltas[i]),
+            };
+            if !clock::is_before(c, since) {
+                best = clock::least_of(Bound::At(c), best);
+            }
+        }
+    }
+    best
 }
 
 // Whether it is before the floor, or there is none.

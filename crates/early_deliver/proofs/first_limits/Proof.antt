@@ -3,26 +3,26 @@ use Prim.Native.Nat.{_≤_, _-_}
 use mathlib.Core.Path.{_≡_}
 use native.Mathlib.Omega.{arith}
 use borrow.Author.Needs.{needs}
-use Rattle.early.specs.Log.{logOf}
+use Rattle.early_log.specs.Spread.{logIn}
 use Rattle.early_deliver.specs.Awake.{firstLimits}
 use Rattle.early_deliver.proofs.CrewLaws.{limits-none, limits-more}
 use Rattle.early_deliver.proofs.first_limits.Statement.{statement}
 use Rattle.early_deliver.proofs.first_limits.Tie as tie
 
 abbrev Inv-loop : tie.InvT-loop
-Inv-loop site t threads n at₀ k₀ at k = (k ≤ n) × (at ≡ firstLimits k (logOf site) (threads .at))
+Inv-loop events times deltas logged t threads n at₀ k₀ at k = (k ≤ n) × (at ≡ firstLimits k (logIn events times deltas logged) (threads .at))
 
 abbrev μ-loop : tie.MeasureT-loop
-μ-loop site t threads n at₀ k₀ at k = n - k
+μ-loop events times deltas logged t threads n at₀ k₀ at k = n - k
 
 loop-holds : tie.Need-loop-holds Inv-loop μ-loop
-loop-holds c = (omega arith, limits-none (c .before .args .t2 .at) (logOf (c .before .args .site)))
+loop-holds c = (omega arith, limits-none (c .before .args .t5 .at) (logIn (c .before .args .events .now) (c .before .args .times .now) (c .before .args .deltas .now) (c .before .args .logged)))
 
 loop-again : tie.Need-loop-again Inv-loop μ-loop
 loop-again c =
     let start = c .before .before .before .before .before in
     let here = c .before .before .before .loop in
-    (omega arith, limits-more (start .args .t2 .at) (logOf (start .args .site)) (here .at) (here .k) _ (omega arith) (here .inv .1) (c .first-limit .ensures))
+    (omega arith, limits-more (start .args .t5 .at) (logIn (start .args .events .now) (start .args .times .now) (start .args .deltas .now) (start .args .logged)) (here .at) (here .k) _ (omega arith) (here .inv .1) (c .first-limit .ensures))
 
 returns : tie.Need-returns Inv-loop μ-loop
 returns c =

@@ -1,7 +1,7 @@
 -- `early_deliver::look` meets its contract. Nothing is heard and nothing changes, or the outlook is made anew.
 use mathlib.Core.Path.{refl}
 use borrow.Author.Needs.{needs}
-use Rattle.early.specs.Log.{logOf}
+use Rattle.early_log.specs.Spread.{logIn}
 use Rattle.early_deliver.proofs.SweepLaws.{look-none, look-set, look-heard}
 use Rattle.early_deliver.proofs.look.Statement.{statement}
 use Rattle.early_deliver.proofs.look.Tie as tie
@@ -12,7 +12,7 @@ enum-told c = search needs
 returns : tie.Need-returns
 returns c =
     let start = c .before .before .before .before .before .before .before .before in (
-      look-none (start .args .reach .now) (start .args .t) (logOf (start .args .site)) (start .args .o) (start .pre .1 .1) (start .args .k) _
+      look-none (start .args .reach .now) (start .args .t) (logIn (start .args .events .now) (start .args .times .now) (start .args .deltas .now) (start .args .logged)) (start .args .o) (start .pre .1 .1) (start .args .k) _
           (c .before .before .heard-by .ensures)
           (c .enum-told .given .1),
       λ h. (h, refl),
@@ -21,9 +21,9 @@ returns c =
 returns-2 : tie.Need-returns-2
 returns-2 c =
     let start = c .before .before .before .before .before .before .before .before .before .before .before in
-    look-heard (start .args .reach .now) (start .args .t) (logOf (start .args .site)) _ _ _
+    look-heard (start .args .reach .now) (start .args .t) (logIn (start .args .events .now) (start .args .times .now) (start .args .deltas .now) (start .args .logged)) _ _ _
     (c .outlook-with .ensures)
-    (look-set (start .args .reach .now) (start .args .t) (logOf (start .args .site)) (start .args .o) (start .pre .1 .1) (start .args .k) _
+    (look-set (start .args .reach .now) (start .args .t) (logIn (start .args .events .now) (start .args .times .now) (start .args .deltas .now) (start .args .logged)) (start .args .o) (start .pre .1 .1) (start .args .k) _
     (c .before .before .before .before .before .heard-by .ensures) _ _
     (c .before .before .before .c .given .1)
     (c .before .woken-at .ensures))
