@@ -8,18 +8,16 @@ use mathlib.Core.Bool.{Bool, true, false, cond}
 use mathlib.Core.List.{List}
 use native.Mathlib.Omega.{arith}
 use lib.Dec.{ltb}
-use lib.ListN.{set, getD}
+use lib.ListN.{getD}
 use borrow.Author.Tests.{lt-ltb, le-ltb}
 use Rattle.clock.specs.declared.Cycle.{Cycle}
-use Rattle.clock.specs.declared.Wait.the-variants as wait
 use Rattle.clock.specs.declared.Bound.{Bound}
 use Rattle.clock.specs.declared.Bound.the-variants.{Never, At}
-use Rattle.clock.specs.Wait.{waitEnds}
 use Rattle.model.specs.declared.State.{State}
 use Rattle.model.specs.declared.Thread.{Thread}
 use Rattle.model.specs.declared.Threads.{Threads}
 use Rattle.model.specs.Record as view
-use Rattle.model.specs.Record.{noThread, threadAt, nothing, awaitedBy, stateAfter, viewOf}
+use Rattle.model.specs.Record.{noThread, threadAt, nothing, awaitedBy, viewOf}
 use Rattle.early.specs.declared.Notification.{Notification}
 use Rattle.early.specs.Log.{leastHeard}
 use Rattle.early.specs.Deliver.{heardBy, lookedBy, sweptBy, sweepsBy}
@@ -30,7 +28,7 @@ use Rattle.early_limits.specs.declared.Limits.{Limits}
 use Rattle.early_limits.specs.Limit.{limitOfCycle}
 use Rattle.early_limits.specs.Ahead.{forecastAt, earliestLimits, segmentsOf, crewOf}
 use Rattle.early_deliver.specs.declared.Outlook.{Outlook}
-use Rattle.early_deliver.specs.Awake.{firstLimits, aheadOf, soonerAt, soonerOn, outlookOf}
+use Rattle.early_deliver.specs.Awake.{firstLimits, aheadOf, soonerAt, soonerOn, outlookOf, withWoken}
 
 true-not-false : true ≡ false → ⊥
 true-not-false e = let z : _≡_ {A = ℕ} 0 1 = cc in omega arith
@@ -83,10 +81,8 @@ module _ (reach : List ℕ) (t : ℕ) (l : List Notification) where
       pub look-none : b ≡ Never → o ≡ outlookOf reach t l (lookedBy (soonerOn reach t l) l (o .threads .at) k) (o .heard)
       look-none h = rw (lookedBy-none (soonerOn reach t l) l (o .threads .at) k (heard-now ∙ h)) kept
 
-      pub look-set : (c : Cycle) (s : State) → b ≡ At c → s ≡ stateAfter (waitEnds wait.Event c)
-          → set (o .threads .at) k (record { segment = getD (o .threads .at) k noThread .segment; state = s }) ≡ lookedBy (soonerOn reach t l) l (o .threads .at) k
-      unfolding threadAt
-      look-set c s h f = rw (f, lookedBy-heard (soonerOn reach t l) l (o .threads .at) k c (heard-now ∙ h)) refl
+      pub look-woken : (c : Cycle) → b ≡ At c → withWoken (o .threads .at) k c ≡ lookedBy (soonerOn reach t l) l (o .threads .at) k
+      look-woken c h = sym (lookedBy-heard (soonerOn reach t l) l (o .threads .at) k c (heard-now ∙ h))
 
   -- an outlook says what its records are
   module _ (o : Outlook) (ts : List Thread) (heard : Bool) (e : o ≡ outlookOf reach t l ts heard) where
@@ -112,11 +108,11 @@ module _ (reach : List ℕ) (t : ℕ) (l : List Notification) where
       rw (p, q) refl
 
   -- for the code: a look that hears, and a turn of the sweep
-  pub look-heard : (r : Outlook) (us vs : List Thread) {Q : Type 0} → r ≡ outlookOf reach t l us true → us ≡ vs
-      → (r ≡ outlookOf reach t l vs (r .heard)) × (r .heard ≡ false → Q)
-  look-heard r us vs e f =
-      let h = outlook-heard r us true e in
-      (e ∙ (ap (outlookOf reach t l us) (sym h) ∙ ap (λ (ws : List Thread). outlookOf reach t l ws (r .heard)) f), λ g. let z : true ≡ false = sym h ∙ g in absurd (true-not-false z))
+  pub look-heard : (w : Outlook) (us vs : List Thread) {Q : Type 0} → w ≡ outlookOf reach t l us true → us ≡ vs
+      → (record { threads = w .threads; segments = w .segments; limits = w .limits; heard = true } ≡ outlookOf reach t l vs true) × (true ≡ false → Q)
+  unfolding outlookOf
+  look-heard w us vs e f =
+      (ap (λ (p : Outlook). record { threads = p .threads; segments = p .segments; limits = p .limits; heard = true }) e ∙ ap (λ (ws : List Thread). outlookOf reach t l ws true) f, λ g. absurd (true-not-false g))
 
   pub sweep-more : (o w : Outlook) (ts : List Thread) (k : ℕ) → o ≡ outlookOf reach t l (sweptBy (soonerOn reach t l) l ts k) (o .heard)
       → w ≡ outlookOf reach t l (lookedBy (soonerOn reach t l) l (o .threads .at) k) (w .heard) → w ≡ outlookOf reach t l (sweptBy (soonerOn reach t l) l ts (k + 1)) (w .heard)

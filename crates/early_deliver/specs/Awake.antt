@@ -3,13 +3,17 @@ use Prim.Native.Nat.{ℕ}
 use mathlib.Core.Bool.{Bool, cond}
 use mathlib.Core.List.{List}
 use lib.Dec.{ltb}
+use lib.ListN.{set}
 use Rattle.base.specs.Index.{tabulate}
+use Rattle.clock.specs.declared.Cycle.{Cycle}
+use Rattle.clock.specs.declared.Wait.the-variants as wait
 use Rattle.clock.specs.declared.Bound.{Bound}
 use Rattle.clock.specs.declared.Bound.the-variants.{Never, At}
+use Rattle.clock.specs.Wait.{waitEnds}
 use Rattle.model.specs.declared.State.{State}
 use Rattle.model.specs.declared.Thread.{Thread}
 use Rattle.model.specs.Record as view
-use Rattle.model.specs.Record.{threadAt, View, viewOf}
+use Rattle.model.specs.Record.{threadAt, View, viewOf, stateAfter}
 use Rattle.tables.specs.Word.{allOnes}
 use Rattle.early.specs.declared.Notification.{Notification}
 use Rattle.early.specs.Log.{leastHeard}
@@ -50,3 +54,7 @@ soonerOn reach t l ts = soonerAt reach t (segmentsOf t ts) (aheadOf reach t l ts
 -- what the code holds of the records ts
 unfoldable pub outlookOf : List ℕ → ℕ → List Notification → List Thread → Bool → Outlook
 outlookOf reach t l ts heard = record { threads = record { at = ts }; segments = segmentsOf t ts; limits = record { at = aheadOf reach t l ts }; heard = heard }
+
+-- "It then becomes ready or overrun as in the plain run": the records after thread k has heard at c
+abbrev pub withWoken : List Thread → ℕ → Cycle → List Thread
+withWoken ts k c = set ts k (record { segment = threadAt ts k .segment; state = stateAfter (waitEnds wait.Event c) })

@@ -11,16 +11,16 @@ use model::Thread;
 use model::Threads;
 ghost use Prim.Native.Nat.{_<_, _≤_};
 ghost use mathlib.Core.Path.{_≡_};
-ghost use mathlib.Core.Bool.{false};
+ghost use mathlib.Core.Bool.{true, false};
 ghost use Rattle.clock.specs.Wait.{waitEnds};
 ghost use Rattle.model.specs.Record.{awaitedBy, stateAfter};
 ghost use Rattle.plain.specs.Wake.{floorBelow};
 ghost use Rattle.early.specs.Log.{logOf};
-ghost use Rattle.early.specs.Deliver.{heardBy, lookedBy, sweptBy, settledBy};
+ghost use Rattle.early.specs.Deliver.{heardBy, sweptBy, settledBy};
 ghost use Rattle.early_limits.specs.Limit.{sumOf, atMost};
 ghost use Rattle.early_limits.specs.Ahead.{eventAwaited, sinceAwaited, crewOf};
 ghost use Rattle.early_log.specs.Spread.{logIn};
-ghost use Rattle.early_deliver.specs.Awake.{boundLimit, firstLimit, firstLimits, soonerAt, soonerOn, outlookOf};
+ghost use Rattle.early_deliver.specs.Awake.{boundLimit, firstLimit, firstLimits, soonerAt, soonerOn, outlookOf, withWoken};
 
 // A limit that stands for never, and the least that does so in a sum.
 const NEVER: u64 = 18446744073709551615;
@@ -218,37 +218,30 @@ fn woken_at(c: Cycle) -> State
     }
 }
 
-// One look at thread k.
-fn look(
+// Thread k hears at c: its record anew, and what is known of the records.
+fn wake(
     reach: &[u64],
     events: &[u8; 128],
     times: &[u64; 128],
     deltas: &[u32; 128],
     logged: usize,
-    o: Outlook,
+    threads: Threads,
     t: u8,
     k: usize,
+    c: Cycle,
 ) -> Outlook
     requires { ⌜ t ≤ 32 ⌝ }
     requires { ⌜ k < t ⌝ }
-    requires { ⌜ o ≡ outlookOf (now reach) t (logIn (now events) (now times) (now deltas) logged) (o .threads .at) (o .heard) ⌝ }
-    ensures seen { λ r. ⌜ r ≡ outlookOf (now (reach .entry)) t (logIn (now (events .entry)) (now (times .entry)) (now (deltas .entry)) logged) (lookedBy (soonerOn (now (reach .entry)) t (logIn (now (events .entry)) (now (times .entry)) (now (deltas .entry)) logged)) (logIn (now (events .entry)) (now (times .entry)) (now (deltas .entry)) logged) (o .threads .at) k) (r .heard) ⌝ }
-    ensures still { λ r. ⌜ (r .heard ≡ false → (o .heard ≡ false) × (r .threads .at ≡ o .threads .at)) ⌝ }
+    ensures { λ r. ⌜ r ≡ outlookOf (now (reach .entry)) t (logIn (now (events .entry)) (now (times .entry)) (now (deltas .entry)) logged) (withWoken (threads .at) k c) true ⌝ }
 {
-    let mut threads = o.threads;
-    let segments = o.segments;
-    let limits = o.limits;
-    let x = threads.at[k];
-    let s = x.state;
-    let Bound::At(c) = heard_by(reach, events, times, deltas, logged, segments, limits, t, s) else {
-        return o;
-    };
+    let mut after = threads;
+    let x = after.at[k];
     let state = woken_at(c);
-    threads.at[k] = Thread {
+    after.at[k] = Thread {
         segment: x.segment,
         state,
     };
-    outlook_with(reach, events, times, deltas, logged, threads, t, true)
+    outlook_with(reach, events, times, deltas, logged, after, t, true)
 }
 
 // Document 01: "every thread is looked at".
@@ -267,21 +260,32 @@ fn sweep(
     ensures still { λ r. ⌜ (r .heard ≡ false → r .threads .at ≡ o .threads .at) ⌝ }
 {
     let n = buffers::wide(t);
-    let threads = o.threads;
-    let segments = o.segments;
-    let limits = o.limits;
-    let mut w = Outlook {
+    let mut threads = o.threads;
+    let mut segments = o.segments;
+    let mut limits = o.limits;
+    let mut heard = false;
+    let mut k = 0;
+    while k < n {
+        let j = k;
+        let x = threads.at[j];
+        let s = x.state;
+        k += 1;
+        let Bound::At(c) = heard_by(reach, events, times, deltas, logged, segments, limits, t, s)
+        else {
+            continue;
+        };
+        let w = wake(reach, events, times, deltas, logged, threads, t, j, c);
+        threads = w.threads;
+        segments = w.segments;
+        limits = w.limits;
+        heard = true;
+    }
+    Outlook {
         threads,
         segments,
         limits,
-        heard: false,
-    };
-    let mut k = 0;
-    while k < n {
-        w = look(reach, events, times, deltas, logged, w, t, k);
-        k += 1;
+        heard,
     }
-    w
 }
 
 // Document 01: "again and again until none hears anything".
