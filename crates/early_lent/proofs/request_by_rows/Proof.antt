@@ -17,8 +17,7 @@ use ghost.Atoms.{Atoms, sem}
 use contract.Monad.{Fun, fact}
 use contract.Running.{givenOf, tables, tablesOf}
 use types.Kit.{Given, Item, Sq, runs, atRet, ‵, raw, _⊛_, some, later, ⋆, _$_, _∵_, !, qed, by, move, keep, drop, use1, use2, rewrite, split, join, pick, fsplit, fjoin, suffices, frame, await, done}
-use types.Run.{look, init, forget, stop, hop, fld, from, load, addr, and-then, no-more, assigns, land, returns, enter, alloc1, alloc0, params1, pass1, pass0, free1, free0}
-use types.Part.{agg, whole, sub, look-in}
+use types.Run.{look, init, forget, stop, from, load, and-then, no-more, land, returns, enter, alloc1, alloc0, params1, pass1, pass0, free1, free0}
 use sound.WpLaws.{FmC, fmOf, WpFn-mono}
 use denote.RattleType.{RattleType, owns}
 use denote.Laws.{Is, shows}
@@ -64,7 +63,7 @@ use Rattle.early_lent.specs.Moved.{loaded, stored, noThreads, movedOf, r
 use Rattle.early_lent.proofs.MovedLaws.{moved-asked, moved-back, holdingNone}
 use Rattle.early_lent.proofs.RowsLaws.{requestByRows-moves}
 use Rattle.early_lent.proofs.WalkLaws.{threadsVal}
-use Rattle.early_lent.proofs.RequestWalk.{askedVal, modelTy, modelVal, pastCounts, doneTy, Stands, stands, recordsTy, Again, Known, knows, loads, stores}
+use Rattle.early_lent.proofs.RequestWalk.{askedVal, modelTy, modelVal, pastCounts, doneTy, Stands, stands, recordsTy, Again, Known, knows, gives-up, loads, stores}
 use Rattle.early_lent.proofs.Asked as Ans
 use Rattle.early_lent.proofs.Asked.Laws as Ans′
 use Rattle.early_lent.proofs.Done as Don
@@ -215,26 +214,25 @@ module _ {M : Type 1} (𝓤 : URA M) (H : Heap 𝓤) (A : Atoms 𝓤) (W : Given
     begun =
         loads 𝓤 H A W mem run C Λ fm (known .moves) κ′ q′ b o γ ts room m vh vp t-is ν τh τp (τa, l₀) (τx, l₂) (wordsTy, l₃) (τs, l₄) Past l₁ l₅ l₇ l₈ l₉ l₁₁ l₁₂ l₁₃ 7 8 9 11 12 13 refl refl refl refl refl refl (λ is.
         -- the words, to be given up
-        assigns ! (addr ! (from ! (fld ! refl (hop ! (look-in ! 13 (sub ! 0 refl (whole !))) (stop !))))) (from ! (stop !)) (init ! 21 refl (tt, tt)) $
-        assigns ! (agg ! (and-then ! (load ! (from ! (stop !)) (look ! 21 refl)) (and-then ! (load ! (from ! (fld ! refl (stop !))) (look-in ! 13 (sub ! 1 refl (whole !)))) (no-more !)))) (from ! (stop !)) (init ! 22 refl (tt, (tt, (record { fits = rs-room .0 }, tt)))) $
+        move ! (13 ∷ 21 ∷ 22 ∷ []) $ gives-up W C Λ En (named 0) (tyInt w64) (rs .ptr) (length (rs .now)) (rs-room .0) l₃ l₁₄ l₁₅ 3 14 15 refl refl refl (
         -- `request_of_rows`
-        move ! (10 ∷ 11 ∷ []) $ use2 W (raw (Ask 𝓤 H A mem run .pre to-ask)) (asks-ask is) $
+        move ! (13 ∷ 14 ∷ []) $ use2 W (raw (Ask 𝓤 H A mem run .pre to-ask)) (asks-ask is) $
         calls-at ! fm (Ask 𝓤 H A mem run) (known .ask) to-ask
-        (and-then ! (load ! (from ! (stop !)) (look ! 3 refl)) (and-then ! (load ! (from ! (stop !)) (look ! 11 refl)) (and-then ! (load ! (from ! (stop !)) (look ! 21 refl)) (and-then ! (load ! (from ! (stop !)) (look ! 13 refl)) (and-then ! (load ! (from ! (stop !)) (look ! 7 refl)) (and-then ! (load ! (from ! (stop !)) (look ! 5 refl)) (and-then ! (load ! (from ! (stop !)) (look ! 14 refl)) (no-more !)))))))) (λ v.
+        (and-then ! (load ! (from ! (stop !)) (look ! 6 refl)) (and-then ! (load ! (from ! (stop !)) (look ! 14 refl)) (and-then ! (load ! (from ! (stop !)) (look ! 3 refl)) (and-then ! (load ! (from ! (stop !)) (look ! 15 refl)) (and-then ! (load ! (from ! (stop !)) (look ! 10 refl)) (and-then ! (load ! (from ! (stop !)) (look ! 8 refl)) (and-then ! (load ! (from ! (stop !)) (look ! 16 refl)) (no-more !)))))))) (λ v.
         use1 W (later (some (λ (r : Done). ((‵ (flft κ q) ⊛ ‵ ftrue) ⊛ ‵ (Don.the-row .own r (v ∷ []))) ⊛ raw (ensured 𝓤 H A ask′.ended (ask′.clauses 𝓤 H A mem run) (κ, tt) (m, (marks, (rs, (site, (before, (length ts, (k, tt))))))) tt r)))) (id⊢ 𝓤 _) $ await ! tt $ pick ! (λ r.
         split ! $ move ! (1 ∷ []) $ use1 W (some (λ (z : Unit {0} × (Unit {0} × (List ℕ × (Unit {0} × (Unit {0} × (Unit {0} × (Unit {0} × Unit {0}))))))). ‵ (lasts ask′.ended (κ, tt) (m, (marks, (rs, (site, (before, (length ts, (k, tt))))))) z) ⊛ raw (fact 𝓤 (LeftFree (rs .now) (z .1 .1 .0))) ⊛ raw (fact 𝓤 (r ≡ left)))) (id⊢ 𝓤 _) $ pick ! (λ z.
         split ! $ move ! (1 ∷ []) $ split ! $ heard ! (LeftFree (rs .now) (z .1 .1 .0)) (λ free. heard ! (r ≡ left) (λ e. fsplit ! $ drop ! $ fsplit ! $ drop ! $ fsplit ! $ fsplit ! $ move ! (1 ∷ []) $ drop ! $
         move ! (1 ∷ []) $ drop ! $ move ! (1 ∷ []) $ split ! $ move ! (1 ∷ []) $
         peeks ! Don.the-row (Is Don.the-row) (shows 𝓤 H A Don.the-row) r (v ∷ []) (λ r-is. drop ! $
-        land ! (from ! (stop !)) (init ! 16 refl (returned r v e r-is .typed)) $ rewrite ! 16 (λ (y : Val). ‵ (fat fullShare (doneTy νd τa) l₁₀ 0 y)) (returned r v e r-is .is) refl $
+        land ! (from ! (stop !)) (init ! 18 refl (returned r v e r-is .typed)) $ rewrite ! 18 (λ (y : Val). ‵ (fat fullShare (doneTy νd τa) l₁₀ 0 y)) (returned r v e r-is .is) refl $
         -- [κ's token; the last words; the slice; κ′'s token; …]
-        move ! (2 ∷ 3 ∷ 5 ∷ 7 ∷ 16 ∷ 17 ∷ 18 ∷ 19 ∷ 20 ∷ []) $
+        move ! (5 ∷ 6 ∷ 8 ∷ 10 ∷ 18 ∷ 19 ∷ 20 ∷ 21 ∷ 22 ∷ []) $
         stores 𝓤 H A W mem run C Λ fm (known .moves) κ′ q′ b o γ ts room m (left .threads) (returned r v e r-is .threads) νd τa va (returned r v e r-is .asked-typed) (modelTy ν τh τp, l₁) (τx, l₂) (wordsTy, l₃) (τs, l₄) Past l₀ l₅ l₈ l₁₀ l₁₆ l₁₇ l₁₈ 8 10 16 17 18 refl refl refl refl refl (λ us e₂ long.
         -- [κ′'s token; the last records; …]: every local is freed
-        returns ! (look ! 8 refl) $ forget ! 2 refl $ forget ! 3 refl $ forget ! 4 refl $ forget ! 8 refl $ forget ! 11 refl $ forget ! 12 refl $ forget ! 13 refl $ forget ! 17 refl $ forget ! 18 refl $ forget ! 19 refl $ forget ! 20 refl $ forget ! 21 refl $ forget ! 22 refl $
-        move ! (8 ∷ 23 ∷ 11 ∷ 24 ∷ 17 ∷ 25 ∷ 18 ∷ 26 ∷ 19 ∷ 27 ∷ 2 ∷ 28 ∷ 20 ∷ 29 ∷ 12 ∷ 30 ∷ 3 ∷ 31 ∷ 13 ∷ 32 ∷ 4 ∷ 33 ∷ 14 ∷ 34 ∷ 15 ∷ 35 ∷ 16 ∷ 36 ∷ 21 ∷ 37 ∷ 22 ∷ 38 ∷ 5 ∷ 39 ∷ 6 ∷ 40 ∷ 7 ∷ 41 ∷ []) $
+        returns ! (look ! 8 refl) $ forget ! 2 refl $ forget ! 3 refl $ forget ! 4 refl $ forget ! 8 refl $ forget ! 11 refl $ forget ! 13 refl $ forget ! 14 refl $ forget ! 15 refl $ forget ! 16 refl $ forget ! 20 refl $ forget ! 21 refl $ forget ! 22 refl $
+        move ! (8 ∷ 23 ∷ 14 ∷ 24 ∷ 20 ∷ 25 ∷ 11 ∷ 26 ∷ 21 ∷ 27 ∷ 2 ∷ 28 ∷ 22 ∷ 29 ∷ 15 ∷ 30 ∷ 3 ∷ 31 ∷ 16 ∷ 32 ∷ 4 ∷ 33 ∷ 17 ∷ 34 ∷ 18 ∷ 35 ∷ 19 ∷ 36 ∷ 12 ∷ 37 ∷ 13 ∷ 38 ∷ 5 ∷ 39 ∷ 6 ∷ 40 ∷ 7 ∷ 41 ∷ []) $
         free1 ! $ free1 ! $ free1 ! $ free1 ! $ free1 ! $ free1 ! $ free1 ! $ free1 ! $ free1 ! $ free1 ! $ free1 ! $ free1 ! $ free1 ! $ free1 ! $ free1 ! $ free1 ! $ free1 ! $ free1 ! $ free1 ! $ free0 ! $
-        by ! (leaves us e₂ long (z .1 .1 .0) free (returned r v e r-is .asked))))))))))
+        by ! (leaves us e₂ long (z .1 .1 .0) free (returned r v e r-is .asked)))))))))))
 
   walk : (C : Calls 𝓤 H) (Λ : Loops 𝓤 H) → FmC 𝓤 H (W .laws) C → Callees 𝓤 H A mem run C
       → ent 𝓤 (onEntry 𝓤 H A rows.signature (κ, (κ′, tt)) (q, (q′, tt)) args words) (WpFn 𝓤 H C Λ code.function (modelVal m vh vp ∷ vx ∷ w ∷ vs ∷ s ∷ vk ∷ []) Post)
