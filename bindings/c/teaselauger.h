@@ -58,7 +58,7 @@ extern "C" {
 /* Variables, whatever their number in the model; those past it are 0 in a fresh state and are not touched. */
 #define TEASELAUGER_VARIABLES 64
 /* The log: the count, then 128 places of three words: event, time, delta. Places past the count are not looked at, and are 0 after a
- * grant. */
+ * request that is granted and after a finish. */
 #define TEASELAUGER_LOG 385
 /* Records of threads, five words each: segment, state, event (0 unless waiting), time, delta. A model of T threads needs 5 x T
  * words, and no call looks at words past them or writes to them; these are enough for every model. */
