@@ -1,7 +1,7 @@
 #!/usr/bin/env python3
 """The plain run of two libraries on the seven models of bench/peer, in turns in one run: how much longer the second takes.
 
-  placed.py BEFORE/libteaselauger.a AFTER/libteaselauger.a [ROUNDS]
+  placed.py BEFORE/libexports.a AFTER/libexports.a [ROUNDS]
 
 Where a loop stands to a cache line's 64 bytes changes its time, by up to a fifth on timed, and it hangs on what a program has before the library. So each library is linked four times,
 at each of the places that its 16 bytes of alignment leave; a ratio is that of the mean over the four of the least times.

@@ -10,7 +10,7 @@ for x in files requests; do
     g++ -O3 -std=c++17 -Wall -Wextra -I peer -c $x.cpp -o "$out/$x.o"
     ar rcs "$out/lib$x.a" "$out/$x.o"
 done
-link="-L ../target/staticlib -l static=teaselauger -l stdc++"
+link="-L ../target/staticlib -l static=exports -l stdc++"
 rustc --edition 2021 -O -o "$out/files" files.rs $link -L "$out" -l static=files
 rustc --edition 2021 -O -o "$out/requests" requests.rs $link -L "$out" -l static=requests
 rustc --edition 2021 -O -o "$out/plain" plain.rs $link

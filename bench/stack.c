@@ -1,5 +1,5 @@
 /* The deepest stack that each call of the library needs, in KB, over the model files named: a call runs on a stack that was painted before, and
-   on the fresh state; a finish after its grant, and why after a request. */
+   on the fresh state. */
 #include "teaselauger.h"
 #include <pthread.h>
 #include <stdio.h>
@@ -13,8 +13,7 @@ static uint16_t calls_made[LIST];
 static size_t n;
 static uint64_t words[TEASELAUGER_WORDS], row[TEASELAUGER_ROW], log_words[TEASELAUGER_LOG], records[TEASELAUGER_RECORDS], answers[5 * LIST];
 static uint32_t variables[TEASELAUGER_VARIABLES], held[TEASELAUGER_HELD], numbers[TEASELAUGER_MODEL];
-static uint8_t again[TEASELAUGER_FILE], text[TEASELAUGER_TEXT];
-static uint64_t counts[TEASELAUGER_COUNTS], ended[TEASELAUGER_ENDED_WORDS];
+static uint8_t again[TEASELAUGER_FILE];
 
 static void call_read(void) { teaselauger_read(file, n); }
 static void call_load(void) { teaselauger_load(file, n, words, TEASELAUGER_WORDS); }
@@ -25,10 +24,6 @@ static void call_fresh(void) {
 static void call_request(void) {
   teaselauger_request(file, n, words, TEASELAUGER_WORDS, variables, TEASELAUGER_VARIABLES, log_words, TEASELAUGER_LOG, records, TEASELAUGER_RECORDS, 0,
                       answers, 3);
-}
-static void call_why(void) {
-  teaselauger_why(file, n, words, TEASELAUGER_WORDS, variables, TEASELAUGER_VARIABLES, log_words, TEASELAUGER_LOG, records, TEASELAUGER_RECORDS, 0, answers,
-                  4);
 }
 static void call_replay(void) {
   teaselauger_replay(file, n, words, TEASELAUGER_WORDS, held, TEASELAUGER_HELD, calls_made, LIST, answers, 5 * LIST, variables, TEASELAUGER_VARIABLES,
@@ -61,20 +56,6 @@ static void call_finish_by_rows(void) {
 }
 static void call_model(void) { teaselauger_model(file, n, numbers, TEASELAUGER_MODEL); }
 static void call_write(void) { teaselauger_write(numbers, TEASELAUGER_MODEL, again, sizeof again, answers, 1); }
-static void call_version(void) { teaselauger_version(); }
-static void call_text(void) { teaselauger_text(4, text, sizeof text); }
-static void call_counts(void) { teaselauger_counts(file, n, counts, TEASELAUGER_COUNTS); }
-static void call_run(void) {
-  teaselauger_run(file, n, 1000000, variables, TEASELAUGER_VARIABLES, records, TEASELAUGER_RECORDS, ended, TEASELAUGER_ENDED_WORDS);
-}
-static void call_requests(void) {
-  teaselauger_requests(file, n, words, TEASELAUGER_WORDS, held, TEASELAUGER_HELD, calls_made, LIST, answers, 5 * LIST, variables,
-                       TEASELAUGER_VARIABLES, log_words, TEASELAUGER_LOG, records, TEASELAUGER_RECORDS);
-}
-static void call_requests_by_rows(void) {
-  teaselauger_requests_by_rows(file, n, row, TEASELAUGER_ROW, held, TEASELAUGER_HELD, calls_made, LIST, answers, 5 * LIST, variables,
-                               TEASELAUGER_VARIABLES, log_words, TEASELAUGER_LOG, records, TEASELAUGER_RECORDS);
-}
 static void call_none(void) {}
 
 static void *run(void *call) {
@@ -106,7 +87,6 @@ int main(int argc, char **argv) {
       {"sheet", call_sheet},
       {"fresh", call_fresh},
       {"request", call_request},
-      {"why", call_why},
       {"request_by_rows", call_request_by_rows},
       {"grant", call_grant},
       {"finish", call_finish},
@@ -114,12 +94,6 @@ int main(int argc, char **argv) {
       {"finish_by_rows", call_finish_by_rows},
       {"replay", call_replay},
       {"replay_by_rows", call_replay_by_rows},
-      {"requests", call_requests},
-      {"requests_by_rows", call_requests_by_rows},
-      {"version", call_version},
-      {"text", call_text},
-      {"counts", call_counts},
-      {"run", call_run},
       {"model", call_model},
       {"write", call_write},
   };
@@ -135,7 +109,6 @@ int main(int argc, char **argv) {
     fclose(f);
     for (int i = 0; i < CALLS; i++) {
       call_fresh();
-      if (calls[i].call == call_why) call_request();
       if (calls[i].call == call_finish || calls[i].call == call_finish_by_rows) call_grant();
       size_t d = depth(calls[i].call) - none;
       if (d > most[i]) most[i] = d;

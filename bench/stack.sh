@@ -5,7 +5,7 @@ cd "$(dirname "$0")/.."
 rt check plainrun replayrun rewrite >/dev/null
 bindings/library.sh
 mkdir -p target/bench
-cc -O2 -Wall -Wextra -I bindings/c -o target/bench/stack bench/stack.c -L target/staticlib -lteaselauger -lpthread
+cc -O2 -Wall -Wextra -I bindings/c -o target/bench/stack bench/stack.c -L target/staticlib -lexports -lpthread
 target/bench/stack models/*.model
 least() { # PROGRAM ARGS...
     want=$("$@" <models/m.model)

@@ -5,7 +5,7 @@ set -e
 cd "$(dirname "$0")/.."
 bindings/library.sh
 mkdir -p target/examples
-cc -O2 -Wall -Wextra -I bindings/c -o target/examples/example bindings/c/example.c -L target/staticlib -lteaselauger
+cc -O2 -Wall -Wextra -I bindings/c -o target/examples/example bindings/c/example.c -L target/staticlib -lexports
 target/examples/example models/m.model
 target/examples/example models/m.model rows
 target/examples/example models/m.model apart

@@ -17,7 +17,7 @@ step() { # NAME COMMAND...
     echo "tests/run.sh: $name: passed ($((SECONDS - began)) s)"
 }
 
-for tool in rt cc g++ cargo python3; do
+for tool in rt cc cargo python3; do
     command -v $tool >/dev/null || stop "$tool is not on the path"
 done
 for program in plainrun replayrun rewrite; do
@@ -31,4 +31,3 @@ step "library beside the programs" python3 tests/boundary/boundary.py 200
 step "models as numbers and their files" python3 tests/writer/writer.py 100
 step "vectors" python3 tests/vectors/run.py
 step "command line tool" tests/tool/run.sh
-step "kit as it is handed out" tests/kit/run.sh

@@ -1,10 +1,10 @@
-/* Teaselauger for C: a model file's number, counts, tables, sheet and plain run, requests, grants and finishes one at a time or as a list,
- * and models as numbers, to be drawn, changed and saved.
+/* Teaselauger for C: a model file's number, tables and sheet, requests, grants and finishes one at a time or as a list, and models as
+ * numbers, to be drawn, changed and saved.
  *
  * Every call answers for every argument. A number of refusal is 1 to 19 (docs/REFUSALS.md lists them, docs/RULES.md says exactly
  * when each applies); 0 says that there is none. Of several that apply the first is answered, in one order in all calls: the reader's
  * number of the file (1 to 9, 17, 18); 11 for a buffer of the state, of the answer or of the answers that is too short, or for numbers that are
- * none of a state; 16 for too few words of a table or of counts, or, reading a file or making a list by rows, of a row; then the own
+ * none of a state; 16 for too few words of a table that is to be made, or, reading a file or making a list by rows, of a row; then the own
  * numbers of a request, a grant or a finish, 11, by rows 16 for too few words of a row, 10, 19, 12, 13, 14, 15. Beside each call stands after
  * the word ORDER which of these it has. On a refusal every buffer holds what it held, but for the words of a row.
  *
@@ -24,8 +24,7 @@
  * +-----------------------------------------------------------------------------------------------------------------------------+
  * | WORDS AND A STATE ARE USED AS GIVEN. A request does NOT know which file they were made from: of words and state it tests    |
  * | ranges alone (11). Words or a state of ANOTHER MODEL that are in range get AN ANSWER FOR THAT MIXTURE, NOT AN ERROR; so do  |
- * | words or a state that the caller has written to. To keep file, words and state together is THE CALLER'S PART, or that of    |
- * | teaselauger_site.h, whose calls take a state that knows its file and words.                                                 |
+ * | words or a state that the caller has written to. To keep file, words and state together is THE CALLER'S PART.               |
  * |                                                                                                                             |
  * | Demand 3 (docs/RULES.md, 8: every order ends alike) speaks ONLY of a state that BEGAN WITH teaselauger_fresh OF THE SAME    |
  * | FILE and that, with the values held beside it, NOTHING BUT requests, grants and finishes with that file have changed, with  |
@@ -37,9 +36,9 @@
  * buffers that a call is given overlap. Words past those that a call speaks of are neither read nor written.
  *
  * The library holds no state, uses no heap, and reads and writes nothing but the buffers: several threads may call it at once,
- * each with its own buffers. A call needs at most 219 KB of stack (bench/stack.sh measures it).
+ * each with its own buffers. A call needs at most 218 KB of stack (bench/stack.sh measures it).
  *
- * Link target/staticlib/libteaselauger.a (bindings/library.sh makes it), x86-64.
+ * Link target/staticlib/libexports.a (`rt staticlib exports` makes it), x86-64.
  */
 #ifndef TEASELAUGER_H
 #define TEASELAUGER_H
@@ -50,10 +49,6 @@
 #ifdef __cplusplus
 extern "C" {
 #endif
-
-/* The version of this header: 1,000,000 for each interface, 1,000 for each slip in force (document 02), 1 for each repair. A call that
- * was there is made otherwise only in another interface. teaselauger_version answers that of the library. */
-#define TEASELAUGER_VERSION 1007000
 
 /* Words of the distance table for the largest model. A model of N segments needs N x N; the word from segment r to s is at
  * r * N + s: time * 1,024 + delta, or all ones for never. */
@@ -77,11 +72,6 @@ extern "C" {
 #define TEASELAUGER_FINISH(thread) (512 + (thread))
 /* Bytes that are enough for every sheet. */
 #define TEASELAUGER_SHEET 8192
-/* Bytes that are enough for the text of every number. */
-#define TEASELAUGER_TEXT 128
-/* Words of a file's counts, H, V, E, N and T; and of how a plain run ended, how many segments ran and 1 where it is spent. */
-#define TEASELAUGER_COUNTS 5
-#define TEASELAUGER_ENDED_WORDS 2
 /* A model as numbers of 32 bits: H, V, E, N, T; then 104 for each segment: the closer's kind (0 end, 1 wait for time, 2 wait for event),
  * event, delay, A, B, test, limit, then n, then 32 places of 3 numbers for statements: operation, a, b; then 9 for each thread: its first
  * segment, and the variables of its ports 0 to 7. Places past n are not looked at. A model of n segments and t threads has so many; the
@@ -99,21 +89,9 @@ extern "C" {
  * which was granted. The cycle is that at which it is ready, ended, overrun or running, or in which its wait began. */
 enum { TEASELAUGER_ENDED, TEASELAUGER_OVERRUN, TEASELAUGER_READY, TEASELAUGER_WAITING, TEASELAUGER_RUNNING };
 
-/* The version of the library, as TEASELAUGER_VERSION has it for this header. It reads and writes nothing. */
-uint32_t teaselauger_version(void);
-
-/* What a number says, 0 to 19, in one English sentence in ASCII, without a line feed and without a 0 at its end; of any other number, that
- * there is none such: how many bytes of out it takes, 122 at most. If out is too short it is not written, and the answer is 0. */
-size_t teaselauger_text(uint8_t number, uint8_t *out, size_t out_count);
-
 /* The reader's number of a model file: 0, or 1 to 9, 17 or 18.
  * ORDER: as docs/RULES.md, 7, has it for a file. */
 uint8_t teaselauger_read(const uint8_t *file, size_t file_count);
-
-/* The counts of a model file, H (the horizon), V, E, N and T (how many variables, events, segments and threads), in the first 5 words: 0
- * where they are there. Words past them stay.
- * ORDER: the reader's number; 16 for fewer than 5 words. */
-uint8_t teaselauger_counts(const uint8_t *file, size_t file_count, uint64_t *counts, size_t counts_count);
 
 /* The distance table of a model file, in the first N x N words: 0 where it is there.
  * ORDER: the reader's number; 16 for fewer than N x N words. */
@@ -126,13 +104,6 @@ uint8_t teaselauger_load_by_rows(const uint8_t *file, size_t file_count, const u
 /* The sheet of the plain run with a budget, or the line `refused NUMBER`, as the program plainrun prints it: how many bytes of out
  * it takes. If out is too short it is not written, and the answer is 0. It is never a number of refusal. */
 size_t teaselauger_sheet(const uint8_t *file, size_t file_count, uint64_t budget, uint8_t *out, size_t out_count);
-
-/* The plain run with a budget, as numbers: the values of which the sheet is made. 0 where it was made: variables has 64 and records 5 words
- * for each thread, as teaselauger_fresh has them, of the state in which the run ended, and ended how many segments ran, then 1 where the run
- * is spent and 0 where it is done. Variables from V on are 0. Words past these stay.
- * ORDER: the reader's number; 11 for fewer than 64 variables, 5 words of records for each thread, or 2 words of ended. */
-uint8_t teaselauger_run(const uint8_t *file, size_t file_count, uint64_t budget, uint32_t *variables, size_t variables_count,
-                        uint64_t *records, size_t records_count, uint64_t *ended, size_t ended_count);
 
 /* The fresh state of a model file, in 64 variables, 385 words of log and 5 words of records for each thread: 0 where it is there.
  * ORDER: the reader's number; 11 for a buffer that is too short. */
@@ -158,16 +129,6 @@ uint8_t teaselauger_request(const uint8_t *file, size_t file_count, const uint64
 uint8_t teaselauger_request_by_rows(const uint8_t *file, size_t file_count, uint64_t *row, size_t row_count, uint32_t *variables,
                                     size_t variables_count, uint64_t *log, size_t log_count, uint64_t *records, size_t records_count,
                                     uint8_t thread, uint64_t *answer, size_t answer_count);
-
-/* Why a request by a thread would be refused, on the state in variables, log and records, of which nothing is written: the number that
- * teaselauger_request would answer with the same file, words, state and thread; 0 where it would be granted. Where it is 14, against has
- * what stands against it (4 words): the thread, the segment that it could run before and that conflicts, and time and delta of the bound at
- * which it could: a real hazard, proved, the one of the lowest thread and of its lowest segment. A bound's delta is not cut at 1,023. Beside
- * any other number against is as it was. WORDS AND STATE ARE USED AS GIVEN (see above).
- * ORDER: as teaselauger_request, with 11 for fewer than 4 words of against. */
-uint8_t teaselauger_why(const uint8_t *file, size_t file_count, const uint64_t *words, size_t words_count, const uint32_t *variables,
-                        size_t variables_count, const uint64_t *log, size_t log_count, const uint64_t *records, size_t records_count,
-                        uint8_t thread, uint64_t *against, size_t against_count);
 
 /* One grant of a thread, on the state in variables, log and records and the values in held, with the words of the file as teaselauger_request
  * has them. 0 where it is granted: answer has segment, time and delta, the thread's record is running, the variables are held for it, and
@@ -214,26 +175,6 @@ uint8_t teaselauger_replay_by_rows(const uint8_t *file, size_t file_count, uint6
                                    size_t held_count, const uint16_t *calls, size_t calls_count, uint64_t *answers, size_t answers_count,
                                    uint32_t *variables, size_t variables_count, uint64_t *log, size_t log_count, uint64_t *records,
                                    size_t records_count);
-
-/* A list of calls as teaselauger_replay takes it, but on the state in variables, log and records and the values in held, as they are handed
- * in, and with the words that teaselauger_load made of the same file, which are only read. WORDS AND STATE ARE USED AS GIVEN (see above).
- * 0 where the list was made: answers has 5 words for each call, as teaselauger_replay writes them, and the other buffers have the state and
- * the held values after the list; places past the log's count are 0. A list in two parts, one after the other, answers and leaves what it
- * does in one, and a list of one call what that call does by itself, but for places past the log's count. Where words or state do not fit
- * the model (the request's own 11) the list is made, and each of its calls answers 11.
- * ORDER: the reader's number; 11 for a buffer or numbers as teaselauger_grant has it, but for its words, or for fewer than 5 words of
- * answers for each call. */
-uint8_t teaselauger_requests(const uint8_t *file, size_t file_count, const uint64_t *words, size_t words_count, uint32_t *held,
-                             size_t held_count, const uint16_t *calls, size_t calls_count, uint64_t *answers, size_t answers_count,
-                             uint32_t *variables, size_t variables_count, uint64_t *log, size_t log_count, uint64_t *records,
-                             size_t records_count);
-
-/* The same list by rows, with no words of the file. The 64 words of the row are left free, also on a refusal.
- * ORDER: as teaselauger_requests; then 16 for fewer than 64 words. */
-uint8_t teaselauger_requests_by_rows(const uint8_t *file, size_t file_count, uint64_t *row, size_t row_count, uint32_t *held,
-                                     size_t held_count, const uint16_t *calls, size_t calls_count, uint64_t *answers, size_t answers_count,
-                                     uint32_t *variables, size_t variables_count, uint64_t *log, size_t log_count, uint64_t *records,
-                                     size_t records_count);
 
 /* The model of a file as numbers, TEASELAUGER_NUMBERS(N, T) of them, zero past each n, with TEASELAUGER_UNUSED for each unused port: 0
  * where they are there.

@@ -1,12 +1,7 @@
-// Links the static library: that of a checkout, which bindings/library.sh makes, or that of an installed or unpacked kit.
-use std::path::Path;
-
+// Links the static library that `rt staticlib exports` writes.
 fn main() {
-    let here = Path::new(env!("CARGO_MANIFEST_DIR"));
-    let places = ["../../target/staticlib", "../../../../lib"].map(|place| here.join(place));
-    let library = "libteaselauger.a";
-    let place = places.iter().find(|place| place.join(library).exists()).unwrap_or(&places[0]);
-    println!("cargo:rustc-link-search=native={}", place.display());
-    println!("cargo:rerun-if-changed={}", place.join(library).display());
-    println!("cargo:rustc-link-lib=static=teaselauger");
+    let root = std::path::Path::new(env!("CARGO_MANIFEST_DIR")).join("../..");
+    println!("cargo:rustc-link-search=native={}", root.join("target/staticlib").display());
+    println!("cargo:rerun-if-changed={}", root.join("target/staticlib/libexports.a").display());
+    println!("cargo:rustc-link-lib=static=exports");
 }

@@ -1,16 +1,13 @@
 #!/usr/bin/env python3
 """The library's calls against the programs' output, the header and docs/RULES.md, on generated files, long, short and damaged.
 
-  boundary.py [FILES] [SEED]     needs target/bin/plainrun, target/bin/replayrun and target/staticlib/libteaselauger.a
+  boundary.py [FILES] [SEED]     needs target/bin/plainrun, target/bin/replayrun and target/staticlib/libexports.a
 
-Of the library: its version, and the text of every number. Of each file: the sheet and the line of a refusal (teaselauger_sheet,
-teaselauger_read), its counts (teaselauger_counts) beside its bytes, the plain run as numbers (teaselauger_run) beside the sheet, with several
-budgets, the distance table (teaselauger_load), and a list of requests, grants and finishes, as a list (teaselauger_replay) and one at a time (teaselauger_fresh, teaselauger_request,
+Of each file: the sheet and the line of a refusal (teaselauger_sheet, teaselauger_read), the distance table (teaselauger_load), and a
+list of requests, grants and finishes, as a list (teaselauger_replay) and one at a time (teaselauger_fresh, teaselauger_request,
 teaselauger_grant, teaselauger_finish), against what replayrun prints. Each list and each call is made by rows too, in 64 words of junk, and
 must answer and leave the same; of those 64 words nothing is asked. Before each call junk is held for the threads that are not running: a grant
-must leave the variables in its thread's place, a finish 0, and nothing else may change there. The list is made again in two parts, split at
-every place, each on the state that the last one left (teaselauger_requests), and in parts of one call. Before each request and each grant
-teaselauger_why is asked: it must answer the same number, write to nothing of the state, and beside 14 alone write four words.
+must leave the variables in its thread's place, a finish 0, and nothing else may change there.
 
 Of each call on it: every buffer exactly long enough, longer, one element short and empty, and every two one element short, with the number
 that the header's ORDER has for them. Of a request, a grant and a finish also: numbers that no state has, numbers that just fit the model and
@@ -37,47 +34,36 @@ PARAMETERS = {
     "read": ["file"],
     "load": ["file", "words"],
     "sheet": ["file", "budget", "out"],
-    "text": ["number", "out"],
-    "counts": ["file", "counts"],
-    "run": ["file", "budget", "variables", "records", "ended"],
     "fresh": ["file", *STATE],
     "request": ["file", "words", *STATE, "thread", "answer"],
-    "why": ["file", "words", *STATE, "thread", "against"],
     "grant": ["file", "words", "held", *STATE, "thread", "answer"],
     "finish": ["file", "words", "held", *STATE, "thread", "answer"],
     "replay": ["file", "words", "held", "calls", "answers", *STATE],
-    "requests": ["file", "words", "held", "calls", "answers", *STATE],
 }
-ONLY_READ = {"request": ["file", "words"], "why": ["file", "words", *STATE], "grant": ["file", "words"], "finish": ["file", "words"], "replay": ["file", "calls"],
-             "requests": ["file", "words", "calls"], "text": []}
-SCALARS = {"budget": ctypes.c_uint64, "thread": ctypes.c_uint8, "number": ctypes.c_uint8}
+ONLY_READ = {"request": ["file", "words"], "grant": ["file", "words"], "finish": ["file", "words"], "replay": ["file", "calls"]}
+SCALARS = {"budget": ctypes.c_uint64, "thread": ctypes.c_uint8}
 ELEMENTS = {"file": "B", "variables": "I", "held": "I", "calls": "H", "out": "B"}
 
 # teaselauger.h: after the word ORDER, which buffers are looked at for their length, and the number of one that is too short
 FILE = "file"
 ORDER = {
     "load": [FILE, (("words",), 16)],
-    "counts": [FILE, (("counts",), 16)],
-    "run": [FILE, (("variables", "records", "ended"), 11)],
     "fresh": [FILE, (STATE, 11)],
     "request": [FILE, (STATE + ("answer", "words"), 11)],
-    "why": [FILE, (STATE + ("against", "words"), 11)],
     "grant": [FILE, (STATE + ("answer", "words", "held"), 11)],
     "finish": [FILE, (STATE + ("answer", "words", "held"), 11)],
     "replay": [FILE, (STATE + ("answers", "held"), 11), (("words",), 16)],
-    "requests": [FILE, (STATE + ("answers", "held"), 11)],
 }
 # those by rows, of which all but the first leave the first 64 words of the row free
-for name in ["load", "request", "grant", "finish", "replay", "requests"]:
+for name in ["load", "request", "grant", "finish", "replay"]:
     rows = name + "_by_rows"
     PARAMETERS[rows] = ["row" if p == "words" else p for p in PARAMETERS[name]]
     ONLY_READ[rows] = [p for p in ONLY_READ.get(name, ["file"]) if p != "words"] + ["row"] * (name == "load")
     ORDER[rows] = [FILE, *[(tuple(p for p in short if p != "words"), n) for short, n in ORDER[name][1:] if n == 11], (("row",), 16)]
-LEAVE_FREE = {"request_by_rows", "grant_by_rows", "finish_by_rows", "replay_by_rows", "requests_by_rows"}
+LEAVE_FREE = {"request_by_rows", "grant_by_rows", "finish_by_rows", "replay_by_rows"}
 # the calls of a list, by their words: a thread's number, and 256 more for the next kind
 KINDS = ["request", "grant", "finish"]
-LISTS = ["requests", "requests_by_rows"]
-ASKING = ["why", *KINDS, *[kind + "_by_rows" for kind in KINDS], *LISTS]
+ASKING = [*KINDS, *[kind + "_by_rows" for kind in KINDS]]
 
 
 def filled(p, value, size):
@@ -86,20 +72,18 @@ def filled(p, value, size):
 
 
 # what the buffers hold before a call that writes to them
-UNUSED = {p: filled(p, 9, size) for p, size in [("words", 4096), ("row", 64), ("variables", 64), ("log", 385), ("records", 160), ("held", 2048), ("answer", 3),
-                                              ("counts", 5), ("ended", 2), ("against", 4)]}
+UNUSED = {p: filled(p, 9, size) for p, size in [("words", 4096), ("row", 64), ("variables", 64), ("log", 385), ("records", 160), ("held", 2048), ("answer", 3)]}
 # what a row may hold before a call, beside what the last one left: all ones, distances of another model, numbers that are no distance
 JUNK = [filled("row", NEVER, 64), array("Q", [1024 * i for i in range(64)]), array("Q", [(2 * i + 1) * 0x9E3779B97F4A7C15 % 2**64 for i in range(64)])]
 
 
 def library():
     out = os.path.join(tempfile.mkdtemp(), "libteaselauger.so")
-    archive = os.path.join(ROOT, "target/staticlib/libteaselauger.a")
+    archive = os.path.join(ROOT, "target/staticlib/libexports.a")
     subprocess.run(["cc", "-shared", "-o", out, "-Wl,--whole-archive", archive, "-Wl,--no-whole-archive"], check=True)
     lib = ctypes.CDLL(out)
     for name in PARAMETERS:
-        getattr(lib, "teaselauger_" + name).restype = ctypes.c_size_t if name in ["sheet", "text"] else ctypes.c_uint8
-    lib.teaselauger_version.restype = ctypes.c_uint32
+        getattr(lib, "teaselauger_" + name).restype = ctypes.c_size_t if name == "sheet" else ctypes.c_uint8
     return lib
 
 
@@ -245,54 +229,6 @@ def number_of(name, file_number, short):
     return 0
 
 
-def check_version(lib):
-    """The library's version, and the header's."""
-    header = open(os.path.join(ROOT, "bindings/c/teaselauger.h")).read()
-    assert lib.teaselauger_version() == int(header.split("#define TEASELAUGER_VERSION ")[1].split()[0]), "version"
-
-
-def check_text(c, number, other):
-    """The text of a number: printed bytes of ASCII, in buffers exactly long enough and longer; nothing written in shorter ones. The text."""
-    size, after = c.call("text", {"number": number, "out": filled("out", 7, 128)})
-    text = after["out"][:size]
-    assert 0 < size <= 122 and all(32 <= x < 127 for x in text) and text[-1] == ord("."), "text of %d" % number
-    assert after["out"][size:] == filled("out", 7, 128 - size), "text of %d: what lies past it" % number
-    assert c.call("text", {"number": number, "out": filled("out", 7, size)}) == (size, {"out": text}), "text of %d, exact" % number
-    for less in [size - 1, 0]:
-        c.refused("text", 0, {"number": number, "out": filled("out", 7, less)}, "number %d, %d bytes" % (number, less))
-    assert number < 20 or text == other, "text of %d" % number
-    return text
-
-
-def check_texts(lib):
-    """Every number has a text, and those up to 19 one of their own."""
-    c = Calls(lib, b"")
-    other = c.call("text", {"number": 20, "out": filled("out", 7, 128)})
-    texts = [check_text(c, number, other[1]["out"][:other[0]]).tobytes() for number in range(256)]
-    assert len(set(texts)) == 21, "texts"
-
-
-def check_counts(c, file, t):
-    """H, V, E, N and T, as the file's bytes have them."""
-    exact = {"counts": UNUSED["counts"]}
-    after = c.made("counts", exact, "exact words")
-    assert list(after["counts"]) == [int.from_bytes(file[4:8], "little"), file[8], file[9], segments(file), t], "counts"
-    check_longer(c, "counts", exact, after)
-
-
-def check_run(c, r, file, t):
-    """The plain run as numbers, beside the sheet with the same budget."""
-    for budget in [BUDGET, 0, 1, r.randrange(2, 300), 2**64 - 1]:
-        exact = {**UNUSED, "records": filled("records", 9, 5 * t), "budget": budget}
-        after = c.made("run", exact, "exact buffers")
-        n, spent = after["ended"]
-        lines = state_lines(file[8], t, after["variables"], [0], after["records"]) + ["n %d" % n] + ["spent"] * spent
-        size, sheet = c.call("sheet", {"budget": budget, "out": filled("out", 7, 8192)})
-        assert "\n".join(lines + [""]).encode() == sheet["out"][:size].tobytes(), "run with budget %d" % budget
-        assert not any(after["variables"][file[8]:]) and spent in [0, 1], "run with budget %d: what no line shows" % budget
-        check_longer(c, "run", exact, after)
-
-
 def check_sheet(c, sheet):
     """The sheet in buffers of 8,192 bytes and exactly long enough; 0, and nothing written, in shorter ones."""
     text = array("B", sheet)
@@ -317,7 +253,7 @@ def check_lengths(c, name, file_number, exact):
 
 def check_refused(c, number, calls):
     """Every call on a refused file. How many calls."""
-    exact = {**UNUSED, "calls": calls, "thread": 0, "budget": BUDGET, "answers": filled("answers", 9, 5 * len(calls))}
+    exact = {**UNUSED, "calls": calls, "thread": 0, "answers": filled("answers", 9, 5 * len(calls))}
     c.refused("read", number, {}, "a refused file")
     return 1 + sum(check_lengths(c, name, number, exact) for name in ORDER)
 
@@ -334,7 +270,6 @@ def check_replay(c, file, t, calls):
     """A list against replayrun, by rows against the list, and the words against load: the buffers, exactly long enough, before and after."""
     exact = {**UNUSED, "words": filled("words", 9, segments(file) ** 2), "records": filled("records", 9, 5 * t), "calls": calls}
     exact["answers"] = filled("answers", 9, 5 * len(calls))
-    exact["budget"] = BUDGET
     exact["held"] = array("I", range(64 * t))
     after = c.made("replay", exact, "exact buffers")
     lines = [*answer_lines(calls, after["answers"]), *state_lines(file[8], t, *[after[p] for p in STATE])]
@@ -382,20 +317,6 @@ def holding(kind, k, given):
     return held
 
 
-def check_why(c, t, given, number, what):
-    """The number of a request or a grant, and beside 14 alone four words: another thread, a segment, and a bound that is no later."""
-    for more in [0, 5]:
-        before = filled("against", 9, 4 + more)
-        answered, after = c.call("why", {**given, "against": before})
-        assert answered == number, "why, %s: %d, must be %d" % (what, answered, number)
-        if number != 14:
-            assert after["against"] == before, "why, %s: written beside %d" % (what, number)
-            continue
-        k, (thread, segment, *bound) = given["thread"], after["against"][:4]
-        assert after["against"][4:] == before[4:] and thread < t and thread != k and segment < 64, "why, %s" % what
-        assert (bound, thread) < (list(given["records"][5 * k + 3:5 * k + 5]), k), "why, %s: no smaller stamp" % what
-
-
 def check_calls(c, r, t, words, fresh, exact, after):
     """The list's calls one at a time, by rows too: the answers and the state of the list. The states on the way, and the numbers."""
     state, states, numbers = {**fresh, "held": exact["held"]}, [], []
@@ -405,63 +326,20 @@ def check_calls(c, r, t, words, fresh, exact, after):
         given = {**UNUSED, "words": words, **strewn(r, state, t), "thread": k}
         states.append(given)
         numbers.append((kind, number))
-        if kind != "finish":
-            check_why(c, t, given, number, what)
         if number:
             c.refused(kind, number, given, what)
             c.same_by_rows(kind, number, given, given, what)
-            check_one(c, call, number, grant, given, given)
             continue
         made = c.made(kind, given, what)
         assert list(made["answer"]) == grant, what
         assert kind == "request" or made["held"] == holding(kind, k, given), "%s: what is held" % what
         assert kind != "grant" or all(made[p] == given[p] for p in ["variables", "log"]), "%s: a grant writes" % what
         c.same_by_rows(kind, 0, given, made, what)
-        check_one(c, call, 0, grant, given, {**made, "held": holding(kind, k, given)})
         for name in [kind, kind + "_by_rows"]:
             check_longer(c, name, given, made)
         state = {**{p: made[p] for p in STATE}, "held": holding(kind, k, {**given, "held": state["held"]})}
     assert all(state[p] == after[p] for p in [*STATE, "held"]), "state after calls"
     return states, numbers
-
-
-def listed(c, name, given, calls):
-    """A list of calls on a given state: the answers, the state and the held values that it leaves."""
-    given = {**given, "calls": calls, "answers": filled("answers", 9, 5 * len(calls))}
-    after = c.made(name, given, "%d calls" % len(calls))
-    return after["answers"], {p: after[p] for p in [*STATE, "held"]}, given, after
-
-
-def check_requests(c, r, file, t, words, fresh, exact, after):
-    """The list in two parts, split at every place, by rows at one; with junk past the log's count, which is 0 after it; with too few words
-    of the table, and with longer buffers."""
-    calls, n = exact["calls"], segments(file)
-    start = {**UNUSED, "words": words, **{p: fresh[p] for p in STATE}, "held": exact["held"]}
-    for cut in range(len(calls) + 1):
-        for name in LISTS if cut == len(calls) // 2 else LISTS[:1]:
-            front, state, _, _ = listed(c, name, {**start, "row": c.junk()}, calls[:cut])
-            back, state, _, _ = listed(c, name, {**start, **state, "row": c.junk()}, calls[cut:])
-            assert front + back == after["answers"], "%s, split at %d: answers" % (name, cut)
-            assert all(state[p] == after[p] for p in state), "%s, split at %d: state" % (name, cut)
-    junk = {**start, "log": start["log"][:1] + filled("log", 5, 384)}
-    for name in LISTS:
-        answers, state, _, _ = listed(c, name, {**junk, "row": c.junk()}, calls)
-        assert answers == after["answers"] and all(state[p] == after[p] for p in state), "%s: junk past the log's count" % name
-        _, state, _, _ = listed(c, name, {**junk, "row": c.junk()}, calls[:0])
-        assert all(state[p] == start[p] for p in state), "%s: no calls" % name
-    _, _, given, made = listed(c, "requests", start, calls)
-    check_longer(c, "requests", given, made)
-    check_longer(c, "requests_by_rows", {**given, "row": c.junk()}, {p: made[p] for p in made if p != "words"})
-    answers, state, _, _ = listed(c, "requests", {**start, "words": words[:n * n - 1]}, calls)
-    assert set(answers[1::5]) <= {11} and all(state[p] == start[p] for p in state), "requests, too few words"
-
-
-def check_one(c, call, number, grant, given, made):
-    """A list of one call answers and leaves what the call does; places past the log's count are 0."""
-    for name in LISTS:
-        answers, state, _, _ = listed(c, name, {**given, "row": c.junk()}, array("H", [call]))
-        assert list(answers) == [call, number, *(grant if number == 0 else [0, 0, 0])], "%s of one call" % name
-        assert all(state[p] == made[p] for p in state), "%s of one call: state" % name
 
 
 def no_states(r, t, state):
@@ -564,12 +442,10 @@ def check_out_of_range(c, r, file, t, given):
     wrong += r.sample(unused, min(len(unused), 9))
     calls = 0
     for p, at, value in wrong:
-        c.refused("why", 11, changed(given, p, at, value), "%s %d is %d" % (p, at, value))
         for name, k in zip(KINDS, [given["thread"], 255, given["thread"]]):
             spoilt, what = {**changed(given, p, at, value), "thread": k}, "%s %d is %d" % (p, at, value)
             c.refused(name, 11, spoilt, what)
             calls += 1 + (c.same_by_rows(name, 11, spoilt, spoilt, what) if judged(name, p) else 0)
-    calls += len(wrong)
     fits = [x for x in least if (x[0], x[1], x[2] - 1) not in unused]
     for p, at, value in fits:
         fitting, what = changed(given, p, at, value - 1), "%s %d is %d" % (p, at, value - 1)
@@ -621,13 +497,8 @@ def check_unjudged(c, r, file, t, given):
 def check_short(c, r, file, t, exact, given):
     """Short buffers and refused calls on an accepted file, the calls on a given state. How many calls."""
     calls = check_out_of_range(c, r, file, t, given) + check_unjudged(c, r, file, t, given)
-    listing = {**given, "calls": exact["calls"], "answers": exact["answers"]}
-    for p, at, value in no_states(r, t, given):
-        for name in LISTS:
-            c.refused(name, 11, changed(listing, p, at, value), "%s %d is %d" % (p, at, value))
-            calls += 1
     for name in ORDER:
-        calls += check_lengths(c, name, 0, listing if name in ASKING else exact)
+        calls += check_lengths(c, name, 0, given if name in ASKING else exact)
     return calls + check_refused(Calls(c.lib, file[:-1]), 1, exact["calls"])
 
 
@@ -647,12 +518,8 @@ def check(lib, r, file):
     calls = drawn(r, max(t, 1))
     if refused:
         return refused, [], check_refused(c, refused, calls)
-    check_counts(c, file, t)
-    check_run(c, r, file, t)
     exact, after = check_replay(c, file, t, calls)
-    fresh = check_fresh(c, exact)
-    check_requests(c, r, file, t, after["words"], fresh, exact, after)
-    states, numbers = check_calls(c, r, t, after["words"], fresh, exact, after)
+    states, numbers = check_calls(c, r, t, after["words"], check_fresh(c, exact), exact, after)
     given = r.choice([x for x in states if running(x, t)] or states)
     return 0, numbers, check_short(c, r, file, t, exact, given)
 
@@ -663,8 +530,6 @@ def counted(numbers):
 
 def main(files, seed):
     lib, numbers, made = library(), [], []
-    check_version(lib)
-    check_texts(lib)
     calls = check_refused(Calls(lib, b""), 1, array("H", [0, 257, 512]))
     for i in range(files):
         r = random.Random("%d %d" % (seed, i))

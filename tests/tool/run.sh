@@ -10,6 +10,6 @@ if ! cargo test --quiet --offline --manifest-path tools/teaselauger/Cargo.toml -
     exit 1
 fi
 echo "the tool's own tests pass"
-for test in checks runs why traces pictures statuses tutorial; do
+for test in checks runs traces pictures statuses tutorial; do
     python3 tests/tool/$test.py
 done

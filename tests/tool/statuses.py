@@ -6,20 +6,18 @@ import tempfile
 from tool import ROOT, TOOL, ran
 
 M, REFUSED = "models/m.model", "models/refused7.model"
-COMMANDS = ["check", "show", "build", "run", "replay", "why", "trace"]
-DONE = [["check", M], ["show", M], ["build", "models/m.txt"], ["run", M], ["replay", M], ["replay", M, "7"], ["replay", M, "--order=random", "--seed=5"], ["why", M, "1"], ["why", M, "0", "--names", "models/m.txt"],
+COMMANDS = ["check", "show", "build", "run", "replay", "trace"]
+DONE = [["check", M], ["show", M], ["build", "models/m.txt"], ["run", M], ["replay", M], ["replay", M, "7"], ["replay", M, "--order=random", "--seed=5"],
         ["trace", M], ["trace", M, "--svg", "-"], ["trace", M, "--names", "models/m.txt", "--vcd", "-"], ["check", "--", M], ["run", M, "--budget", "0"]]
-REFUSALS = [["check", REFUSED], ["show", REFUSED], ["run", REFUSED], ["replay", REFUSED, "0"], ["replay", REFUSED, "--order", "least"], ["trace", REFUSED], ["why", REFUSED, "0"], ["why", M, "0", "0"], ["why", M, "300"],
-            ["why", M, "0", "--names", "models/loops.txt"],
+REFUSALS = [["check", REFUSED], ["show", REFUSED], ["run", REFUSED], ["replay", REFUSED, "0"], ["replay", REFUSED, "--order", "least"], ["trace", REFUSED],
             ["build", "README.md"], ["build", M], ["check", "README.md"], ["trace", M, "--names", "models/loops.txt"], ["trace", M, "--names", M]]
 USAGE = [[], ["chek", M], ["check"], ["check", M, M], ["check", "--all", M], ["run", M, "--budget"], ["run", M, "--budget", "x"], ["run", M, "--budget", "-1"],
          ["run", M, "--budget", "18446744073709551616"], ["replay"], ["replay", M, "x"], ["replay", M, "g"], ["replay", M, "1x"], ["replay", M, "--quiet"],
          ["replay", M, "0", "--order", "least"], ["replay", M, "--order", "lest"], ["replay", M, "--seed", "1"], ["replay", M, "--order", "least", "--seed", "1"],
-         ["replay", M, "--order", "least", "--order", "least"], ["replay", M, "12345678901234567890"], ["why"], ["why", M], ["why", M, "x"], ["why", M, "g0"], ["why", M, "x", "0"], ["why", M, "0", "--most", "1"],
-         ["why", "-", "0", "--names", "-"], ["trace", M, "--from", "1"], ["trace", M, "0"], ["build"],
+         ["replay", M, "--order", "least", "--order", "least"], ["replay", M, "12345678901234567890"], ["trace", M, "--from", "1"], ["trace", M, "0"], ["build"],
          ["trace", M, "--vcd"], ["run", M, "--budget=5x"], ["trace", M, "--vcd", "-", "--svg", "-"], ["trace", M, "--text", "--svg", "-"], ["trace", "-", "--names", "-"],
          ["check", M, "--names=x"]]
-FAILED = [["check", "no/such.model"], ["check", "models"], ["show", "no/such.model"], ["build", "no/such.txt"], ["run", "no/such"], ["replay", "no/such", "0"], ["why", "no/such", "0"],
+FAILED = [["check", "no/such.model"], ["check", "models"], ["show", "no/such.model"], ["build", "no/such.txt"], ["run", "no/such"], ["replay", "no/such", "0"],
           ["build", "models/m.txt", "-o", "no/such/place"], ["trace", M, "--svg", "no/such/place"], ["trace", M, "--vcd", "models"], ["trace", M, "--names", "no/such"]]
 
 

@@ -1,7 +1,7 @@
 #!/usr/bin/env python3
 """Models as numbers and their files: teaselauger_model and teaselauger_write against an encoding of their own, and the program rewrite.
 
-  writer.py [FILES] [SEED]     needs target/bin/rewrite and target/staticlib/libteaselauger.a
+  writer.py [FILES] [SEED]     needs target/bin/rewrite and target/staticlib/libexports.a
 
 Of each accepted file, the stored ones of crates/test_files and generated ones: its numbers are those that the file is decoded to here;
 written, they are the file byte by byte; rewrite prints it. Every buffer is tried exact, longer, one element short and empty. Then one

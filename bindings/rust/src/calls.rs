@@ -8,11 +8,9 @@ pub const LOG: usize = 385;
 pub const RECORDS: usize = 160;
 pub const HELD: usize = 2048;
 pub const ANSWER: usize = 3;
-pub const AGAINST: usize = 4;
 pub const SHEET: usize = 8192;
 pub const MODEL: usize = 6949;
 pub const FILE: usize = 13934;
-pub const TEXT: usize = 128;
 
 /// The distance table of the largest model has as many words.
 pub type Words = [u64; WORDS];
@@ -63,10 +61,6 @@ mod c {
             file: *const u8, n: usize, words: *const u64, w: usize, variables: *mut u32, v: usize, log: *mut u64, l: usize,
             records: *mut u64, r: usize, thread: u8, answer: *mut u64, a: usize,
         ) -> u8;
-        pub fn teaselauger_why(
-            file: *const u8, n: usize, words: *const u64, w: usize, variables: *const u32, v: usize, log: *const u64, l: usize,
-            records: *const u64, r: usize, thread: u8, against: *mut u64, a: usize,
-        ) -> u8;
         pub fn teaselauger_load_by_rows(file: *const u8, n: usize, row: *const u64, w: usize) -> u8;
         pub fn teaselauger_request_by_rows(
             file: *const u8, n: usize, row: *mut u64, w: usize, variables: *mut u32, v: usize, log: *mut u64, l: usize,
@@ -96,20 +90,6 @@ mod c {
             file: *const u8, n: usize, row: *mut u64, w: usize, held: *mut u32, h: usize, calls: *const u16, c: usize,
             answers: *mut u64, a: usize, variables: *mut u32, v: usize, log: *mut u64, l: usize, records: *mut u64, r: usize,
         ) -> u8;
-        pub fn teaselauger_version() -> u32;
-        pub fn teaselauger_text(number: u8, out: *mut u8, o: usize) -> usize;
-        pub fn teaselauger_counts(file: *const u8, n: usize, counts: *mut u64, c: usize) -> u8;
-        pub fn teaselauger_run(
-            file: *const u8, n: usize, budget: u64, variables: *mut u32, v: usize, records: *mut u64, r: usize, ended: *mut u64, e: usize,
-        ) -> u8;
-        pub fn teaselauger_requests(
-            file: *const u8, n: usize, words: *const u64, w: usize, held: *mut u32, h: usize, calls: *const u16, c: usize,
-            answers: *mut u64, a: usize, variables: *mut u32, v: usize, log: *mut u64, l: usize, records: *mut u64, r: usize,
-        ) -> u8;
-        pub fn teaselauger_requests_by_rows(
-            file: *const u8, n: usize, row: *mut u64, w: usize, held: *mut u32, h: usize, calls: *const u16, c: usize,
-            answers: *mut u64, a: usize, variables: *mut u32, v: usize, log: *mut u64, l: usize, records: *mut u64, r: usize,
-        ) -> u8;
         pub fn teaselauger_model(file: *const u8, n: usize, numbers: *mut u32, m: usize) -> u8;
         pub fn teaselauger_write(
             numbers: *const u32, m: usize, out: *mut u8, o: usize, length: *mut u64, l: usize,
@@ -119,29 +99,6 @@ mod c {
 
 pub fn read(file: &[u8]) -> u8 {
     unsafe { c::teaselauger_read(file.as_ptr(), file.len()) }
-}
-
-pub fn version() -> u32 {
-    unsafe { c::teaselauger_version() }
-}
-
-pub fn text(number: u8, out: &mut [u8; TEXT]) -> usize {
-    unsafe { c::teaselauger_text(number, out.as_mut_ptr(), out.len()) }
-}
-
-pub fn counts(file: &[u8], counts: &mut [u64; 5]) -> u8 {
-    unsafe { c::teaselauger_counts(file.as_ptr(), file.len(), counts.as_mut_ptr(), counts.len()) }
-}
-
-/// With how many segments ran, and 1 if the budget was used up.
-#[rustfmt::skip]
-pub fn run(file: &[u8], budget: u64, variables: &mut [u32; VARIABLES], records: &mut [u64; RECORDS], ended: &mut [u64; 2]) -> u8 {
-    unsafe {
-        c::teaselauger_run(
-            file.as_ptr(), file.len(), budget, variables.as_mut_ptr(), variables.len(), records.as_mut_ptr(), records.len(),
-            ended.as_mut_ptr(), ended.len(),
-        )
-    }
 }
 
 pub fn model(file: &[u8], numbers: &mut [u32]) -> u8 {
@@ -183,18 +140,6 @@ pub fn request(file: &[u8], words: &Words, kept: &mut Kept, thread: u8, answer: 
         c::teaselauger_request(
             file.as_ptr(), file.len(), words.as_ptr(), words.len(), variables.as_mut_ptr(), variables.len(),
             log.as_mut_ptr(), log.len(), records.as_mut_ptr(), records.len(), thread, answer.as_mut_ptr(), answer.len(),
-        )
-    }
-}
-
-/// The words that are written may be of any length here.
-#[rustfmt::skip]
-pub fn why(file: &[u8], words: &Words, kept: &Kept, thread: u8, against: &mut [u64]) -> u8 {
-    let Kept { variables, log, records, .. } = kept;
-    unsafe {
-        c::teaselauger_why(
-            file.as_ptr(), file.len(), words.as_ptr(), words.len(), variables.as_ptr(), variables.len(), log.as_ptr(), log.len(),
-            records.as_ptr(), records.len(), thread, against.as_mut_ptr(), against.len(),
         )
     }
 }
@@ -282,35 +227,6 @@ pub fn replay_by_rows(file: &[u8], row: &mut [u64], calls: &[u16], lent: Lent) -
     let mut answers = vec![0; 5 * calls.len()];
     let number = unsafe {
         c::teaselauger_replay_by_rows(
-            file.as_ptr(), file.len(), row.as_mut_ptr(), row.len(), held.as_mut_ptr(), held.len(), calls.as_ptr(), calls.len(),
-            answers.as_mut_ptr(), answers.len(), variables.as_mut_ptr(), variables.len(), log.as_mut_ptr(), log.len(),
-            records.as_mut_ptr(), records.len(),
-        )
-    };
-    (number, answers)
-}
-
-/// With the answers, as `replay`, on the state that is lent.
-#[rustfmt::skip]
-pub fn requests(file: &[u8], words: &Words, calls: &[u16], lent: Lent) -> (u8, Vec<u64>) {
-    let Lent { variables, log, records, held } = lent;
-    let mut answers = vec![0; 5 * calls.len()];
-    let number = unsafe {
-        c::teaselauger_requests(
-            file.as_ptr(), file.len(), words.as_ptr(), words.len(), held.as_mut_ptr(), held.len(), calls.as_ptr(), calls.len(),
-            answers.as_mut_ptr(), answers.len(), variables.as_mut_ptr(), variables.len(), log.as_mut_ptr(), log.len(),
-            records.as_mut_ptr(), records.len(),
-        )
-    };
-    (number, answers)
-}
-
-#[rustfmt::skip]
-pub fn requests_by_rows(file: &[u8], row: &mut [u64], calls: &[u16], lent: Lent) -> (u8, Vec<u64>) {
-    let Lent { variables, log, records, held } = lent;
-    let mut answers = vec![0; 5 * calls.len()];
-    let number = unsafe {
-        c::teaselauger_requests_by_rows(
             file.as_ptr(), file.len(), row.as_mut_ptr(), row.len(), held.as_mut_ptr(), held.len(), calls.as_ptr(), calls.len(),
             answers.as_mut_ptr(), answers.len(), variables.as_mut_ptr(), variables.len(), log.as_mut_ptr(), log.len(),
             records.as_mut_ptr(), records.len(),

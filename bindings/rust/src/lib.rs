@@ -1,70 +1,159 @@
 //! Safe wrappers of the Teaselauger scheduler library. `docs/REFUSALS.md` has the numbers of refusal, `docs/RULES.md` every rule.
 //!
-//! A [`Site`] owns a model file's bytes and the table made of them. It makes a [`State`], which is asked:
-//!
-//! ```
-//! use teaselauger::{Error, Site};
-//! let site = Site::new(&std::fs::read("../../models/m.model")?)?;
-//! let mut state = site.fresh();
-//! let grant = state.request(1)?;
-//! assert_eq!((grant.segment, grant.time, grant.delta), (2, 0, 0));
-//! // The display waits now, and says so in words.
-//! assert_eq!(state.request(1), Err(Error(12)));
-//! assert_eq!(Error(12).to_string(), "refused 12: The thread is not ready: it waits, has ended or is overrun.");
-//! # Ok::<(), Box<dyn std::error::Error>>(())
-//! ```
-//!
-//! Whatever the order in which ready threads are asked, a run ends as the plain run does (demand 3, `docs/RULES.md`, 8). Here the highest
-//! goes first:
-//!
-//! ```
-//! # let site = teaselauger::Site::new(&std::fs::read("../../models/m.model")?)?;
-//! let (mut state, mut granted) = (site.fresh(), 0);
-//! while state.ready().len() > 0 {
-//!     let threads: Vec<u8> = state.ready().collect();
-//!     granted += threads.into_iter().rev().filter(|&thread| state.request(thread).is_ok()).count();
-//! }
-//! assert_eq!(format!("{state}n {granted}\n"), site.sheet(1_000_000));
-//! # Ok::<(), Box<dyn std::error::Error>>(())
-//! ```
-//!
-//! The library itself uses words and a state as it is given them, of whatever model they are. Here no call takes both a site and a state: a
-//! state is asked with the file and the words of its own site, can be read but not written to, and so is always one that demand 3 speaks of.
+//! The library itself uses words and a state as it is given them, of whatever model they are. Here a [`Site`] owns a file's bytes and
+//! the words made of them (opened by rows it has none and needs none), a [`State`] knows its site and can be read but not written to, and
+//! a call with a state of another site is [`RequestError::OtherSite`]. So every answer is one that demand 3 (`docs/RULES.md`, 8) speaks of.
 //!
 //! Every buffer is an array of the length that the library asks, so that a buffer that is too short (11 or 16) cannot be handed in.
 //! The library holds no state: any thread may call it, on a stack of 256 KB or more.
 //!
-//! A request runs a segment at once. To run segments on several cores a thread is granted ([`State::grant`]) and finished
-//! ([`State::finish`]) apart: between the two it is running, and others can be granted. `examples/pool.rs` does so.
+//! ```
+//! let site = teaselauger::Site::new(&std::fs::read("../../models/m.model")?)?;
+//! let mut state = site.fresh();
+//! let grant = site.request(&mut state, 1)?;
+//! assert_eq!((grant.segment, grant.time, grant.delta), (2, 0, 0));
+//! # Ok::<(), Box<dyn std::error::Error>>(())
+//! ```
+//!
+//! A request runs a segment at once. To run segments on several cores a thread is granted ([`Site::grant`]) and finished ([`Site::finish`])
+//! apart: between the two it is running, and others can be granted. `examples/pool.rs` does so.
 #![deny(unsafe_code)]
 #![warn(missing_docs)]
 
-mod answer;
 #[allow(unsafe_code)]
 mod calls;
-mod error;
-mod info;
 #[cfg(test)]
 mod tests;
-mod thread;
-mod why;
-
-pub use answer::{Answer, Call, Grant};
-pub use error::Error;
-pub use info::{version, Counts, Run, VERSION};
-pub use thread::{Notification, Ready, Thread, ThreadState};
-pub use why::{Against, Why};
 
 use calls::{Kept, Words, ANSWER, FILE, HELD, LOG, MODEL, RECORDS, ROW, SHEET, VARIABLES};
-use error::checked;
-use std::{fmt, sync::Arc};
+use std::{error, fmt, sync::Arc};
+
+/// A number of refusal, 1 to 19.
+///
+/// ```
+/// assert_eq!(teaselauger::Refused(14).to_string(), "refused 14");
+/// ```
+#[derive(Clone, Copy, Debug, PartialEq, Eq)]
+pub struct Refused(pub u8);
+
+impl fmt::Display for Refused {
+    fn fmt(&self, f: &mut fmt::Formatter) -> fmt::Result {
+        write!(f, "refused {}", self.0)
+    }
+}
+
+impl error::Error for Refused {}
+
+fn checked(number: u8) -> Result<(), Refused> {
+    if number == 0 {
+        Ok(())
+    } else {
+        Err(Refused(number))
+    }
+}
+
+/// Why a request or a grant was not granted, or a thread not finished. The state is as it was.
+///
+/// ```
+/// use teaselauger::{RequestError, Refused, Site};
+/// let site = Site::new(&std::fs::read("../../models/m.model")?)?;
+/// assert_eq!(site.request(&mut site.fresh(), 2), Err(RequestError::Refused(Refused(10))));
+/// # Ok::<(), Box<dyn std::error::Error>>(())
+/// ```
+#[derive(Clone, Copy, Debug, PartialEq, Eq)]
+pub enum RequestError {
+    /// The library refused it, with this number.
+    Refused(Refused),
+    /// The state belongs to a site of other bytes; the library was not called.
+    OtherSite,
+}
+
+impl From<Refused> for RequestError {
+    fn from(refused: Refused) -> RequestError {
+        RequestError::Refused(refused)
+    }
+}
+
+impl fmt::Display for RequestError {
+    fn fmt(&self, f: &mut fmt::Formatter) -> fmt::Result {
+        match self {
+            RequestError::Refused(refused) => refused.fmt(f),
+            RequestError::OtherSite => f.write_str("the state belongs to another site"),
+        }
+    }
+}
+
+impl error::Error for RequestError {}
+
+/// A grant: the segment that is run, and its cycle. A finish answers that which was granted.
+///
+/// ```
+/// let site = teaselauger::Site::new(&std::fs::read("../../models/m.model")?)?;
+/// assert_eq!(site.request(&mut site.fresh(), 0)?, teaselauger::Grant { segment: 0, time: 0, delta: 0 });
+/// # Ok::<(), Box<dyn std::error::Error>>(())
+/// ```
+#[derive(Clone, Copy, Debug, PartialEq, Eq)]
+pub struct Grant {
+    /// The segment.
+    pub segment: u8,
+    /// The time of its cycle.
+    pub time: u64,
+    /// The delta of its cycle.
+    pub delta: u32,
+}
+
+// The library writes a segment and a delta that are in range.
+fn grant(segment: u64, time: u64, delta: u64) -> Grant {
+    Grant { segment: segment as u8, time, delta: delta as u32 }
+}
+
+// Of the five words of a list's answer, the first of which is the call's own.
+fn answered(a: &[u64]) -> Result<Grant, Refused> {
+    checked(a[1] as u8).map(|()| grant(a[2], a[3], a[4]))
+}
+
+/// A call of a list, of a thread. A thread's number alone is a request.
+///
+/// ```
+/// use teaselauger::{Call, Site};
+/// let site = Site::new(&std::fs::read("../../models/m.model")?)?;
+/// assert_eq!(site.replay(&[Call::Grant(0), Call::Finish(0)]).1, site.replay(&[Call::Both(0)]).1);
+/// assert_eq!(site.replay(&[Call::Both(0)]), site.replay(&[0]));
+/// # Ok::<(), Box<dyn std::error::Error>>(())
+/// ```
+#[derive(Clone, Copy, Debug, PartialEq, Eq)]
+pub enum Call {
+    /// A request: a grant and its finish at once, as [`Site::request`].
+    Both(u8),
+    /// A grant, as [`Site::grant`].
+    Grant(u8),
+    /// A finish, as [`Site::finish`].
+    Finish(u8),
+}
+
+impl From<u8> for Call {
+    fn from(thread: u8) -> Call {
+        Call::Both(thread)
+    }
+}
+
+impl Call {
+    // As the library has it in a list.
+    fn word(self) -> u16 {
+        match self {
+            Call::Both(thread) => thread.into(),
+            Call::Grant(thread) => 256 + u16::from(thread),
+            Call::Finish(thread) => 512 + u16::from(thread),
+        }
+    }
+}
 
 /// Whether a model file keeps the rules.
 ///
 /// ```
-/// assert_eq!(teaselauger::read(&[]), Err(teaselauger::Error(1)));
+/// assert_eq!(teaselauger::read(&[]), Err(teaselauger::Refused(1)));
 /// ```
-pub fn read(file: &[u8]) -> Result<(), Error> {
+pub fn read(file: &[u8]) -> Result<(), Refused> {
     checked(calls::read(file))
 }
 
@@ -111,7 +200,7 @@ pub const UNUSED: u32 = 255;
 /// assert_eq!(drawing.numbers[..5], [1261, 3, 1, 4, 2]);
 /// assert_eq!(drawing.save()?, file);
 /// drawing.numbers[0] = 0;
-/// assert_eq!(drawing.save(), Err(teaselauger::Error(4)));
+/// assert_eq!(drawing.save(), Err(teaselauger::Refused(4)));
 /// # Ok::<(), Box<dyn std::error::Error>>(())
 /// ```
 ///
@@ -133,14 +222,7 @@ pub struct Drawing {
 
 impl Drawing {
     /// The model of a file; the reader's number where it is refused.
-    ///
-    /// ```
-    /// use teaselauger::{Drawing, Error};
-    /// assert!(Drawing::open(&std::fs::read("../../models/m.model")?).is_ok());
-    /// assert_eq!(Drawing::open(&std::fs::read("../../models/refused7.model")?), Err(Error(7)));
-    /// # Ok::<(), std::io::Error>(())
-    /// ```
-    pub fn open(file: &[u8]) -> Result<Drawing, Error> {
+    pub fn open(file: &[u8]) -> Result<Drawing, Refused> {
         let mut numbers = vec![0; MODEL];
         checked(calls::model(file, &mut numbers))?;
         let mut drawing = Drawing { numbers };
@@ -150,17 +232,7 @@ impl Drawing {
 
     /// The model file, or the number of the first fault: 11 for fewer numbers than N and T ask for, then 2 to 7 and 17 in file order, then
     /// 8, then 18.
-    ///
-    /// ```
-    /// use teaselauger::{sheet, Drawing, Error};
-    /// let mut drawing = Drawing::open(&std::fs::read("../../models/case01.model")?)?;
-    /// drawing.add_thread(0, [teaselauger::UNUSED; 8]);
-    /// assert_eq!(sheet(&drawing.save()?, 10), "t 0 0 ended 0 0\nt 1 0 ended 0 0\nn 2\n");
-    /// drawing.add_thread(1, [teaselauger::UNUSED; 8]);
-    /// assert_eq!(drawing.save(), Err(Error(8)));
-    /// # Ok::<(), Box<dyn std::error::Error>>(())
-    /// ```
-    pub fn save(&self) -> Result<Vec<u8>, Error> {
+    pub fn save(&self) -> Result<Vec<u8>, Refused> {
         let mut out = vec![0; FILE];
         let (number, length) = calls::write(&self.numbers, &mut out);
         checked(number)?;
@@ -191,7 +263,7 @@ impl Drawing {
     /// let file = std::fs::read("../../models/loops.model")?;
     /// let mut loops = teaselauger::Drawing::open(&file)?;
     /// loops.set_ports(1, [teaselauger::UNUSED; 8]);
-    /// assert_eq!(loops.save(), Err(teaselauger::Error(18)));
+    /// assert_eq!(loops.save(), Err(teaselauger::Refused(18)));
     /// # Ok::<(), Box<dyn std::error::Error>>(())
     /// ```
     pub fn set_ports(&mut self, thread: u32, ports: [u32; 8]) {
@@ -219,21 +291,21 @@ impl Drawing {
 struct Opened {
     file: Box<[u8]>,
     words: Option<Box<Words>>,
-    counts: Counts,
 }
 
 /// A model file that was accepted, with its distance table or, for small machines, without it ([`Site::by_rows`]). A clone is the same
 /// site and costs nothing.
 ///
-/// Sites of equal bytes are equal, also where they were opened apart or the one by rows, and so are states of theirs that hold the same: the
-/// library keeps nothing between calls, its words follow from the bytes, and by rows it works out the same distances, so that both give the
-/// same answers.
+/// Sites of equal bytes are equal, also where they were opened apart or the one by rows, and a state of the one is a state of the other:
+/// the library keeps nothing between calls, its words follow from the bytes, and by rows it works out the same distances, so that both
+/// give the same answers. Whoever opens a file once for each thread, or again later, expects to go on with the state at hand; to tell
+/// the openings apart would refuse that and rule out no wrong answer.
 ///
 /// ```
 /// use teaselauger::Site;
 /// let file = std::fs::read("../../models/m.model")?;
-/// let (site, again) = (Site::new(&file)?, Site::by_rows(&file)?);
-/// assert!(site == again && site.replay(&[1, 0, 0]) == again.replay(&[1, 0, 0]));
+/// let (site, again) = (Site::new(&file)?, Site::new(&file)?);
+/// assert!(site == again && again.request(&mut site.fresh(), 0).is_ok());
 /// # Ok::<(), Box<dyn std::error::Error>>(())
 /// ```
 #[derive(Clone)]
@@ -258,13 +330,13 @@ impl Site {
     ///
     /// ```
     /// let refused = teaselauger::Site::new(&std::fs::read("../../models/refused7.model")?);
-    /// assert_eq!(refused, Err(teaselauger::Error(7)));
+    /// assert_eq!(refused, Err(teaselauger::Refused(7)));
     /// # Ok::<(), std::io::Error>(())
     /// ```
-    pub fn new(file: &[u8]) -> Result<Site, Error> {
+    pub fn new(file: &[u8]) -> Result<Site, Refused> {
         let mut words = calls::no_words();
         checked(calls::load(file, &mut words))?;
-        Site::opened(file, Some(words))
+        Ok(Site(Arc::new(Opened { file: file.into(), words: Some(words) })))
     }
 
     /// Reads a model file and makes no table: a call or a list works out one segment's distances at a time, when they are needed, in 512
@@ -272,20 +344,19 @@ impl Site {
     /// large sites are faster.
     ///
     /// ```
-    /// use teaselauger::{Error, Site};
+    /// use teaselauger::{Refused, Site};
     /// let file = std::fs::read("../../models/m.model")?;
     /// let (small, full) = (Site::by_rows(&file)?, Site::new(&file)?);
     /// assert_eq!(small.replay(&[1, 0, 0]), full.replay(&[1, 0, 0]));
-    /// assert_eq!(Site::by_rows(&[]), Err(Error(1)));
+    /// // The same bytes: a state goes from the one to the other.
+    /// let mut state = full.fresh();
+    /// assert!(small == full && small.request(&mut state, 1).is_ok() && full.request(&mut state, 0).is_ok());
+    /// assert_eq!(Site::by_rows(&[]), Err(Refused(1)));
     /// # Ok::<(), Box<dyn std::error::Error>>(())
     /// ```
-    pub fn by_rows(file: &[u8]) -> Result<Site, Error> {
+    pub fn by_rows(file: &[u8]) -> Result<Site, Refused> {
         checked(calls::load_by_rows(file, &[0; ROW]))?;
-        Site::opened(file, None)
-    }
-
-    fn opened(file: &[u8], words: Option<Box<Words>>) -> Result<Site, Error> {
-        Ok(Site(Arc::new(Opened { file: file.into(), words, counts: Counts::of(file)? })))
+        Ok(Site(Arc::new(Opened { file: file.into(), words: None })))
     }
 
     // Of an accepted file, in buffers of full length, the library refuses neither a fresh state nor a list.
@@ -294,55 +365,11 @@ impl Site {
         State { site: self.clone(), kept }
     }
 
-    /// The bytes of the model file.
-    ///
-    /// ```
-    /// let file = std::fs::read("../../models/m.model")?;
-    /// assert_eq!(teaselauger::Site::new(&file)?.file(), file);
-    /// # Ok::<(), Box<dyn std::error::Error>>(())
-    /// ```
-    pub fn file(&self) -> &[u8] {
-        &self.0.file
-    }
-
-    /// The sheet of the plain run with a budget, as [`sheet`].
-    ///
-    /// ```
-    /// let site = teaselauger::Site::new(&std::fs::read("../../models/case01.model")?)?;
-    /// assert_eq!(site.sheet(1_000_000), "t 0 0 ended 0 0\nn 1\n");
-    /// # Ok::<(), Box<dyn std::error::Error>>(())
-    /// ```
-    pub fn sheet(&self, budget: u64) -> String {
-        sheet(&self.0.file, budget)
-    }
-
-    /// The plain run with a budget, as numbers.
-    ///
-    /// ```
-    /// let site = teaselauger::Site::new(&std::fs::read("../../models/m.model")?)?;
-    /// assert_eq!((site.run(254).spent, site.run(253).spent), (false, true));
-    /// # Ok::<(), Box<dyn std::error::Error>>(())
-    /// ```
-    pub fn run(&self, budget: u64) -> Run {
-        info::run(&self.0.file, &self.0.counts, budget).expect("an accepted file has a plain run")
-    }
-
-    /// What the file counts.
-    ///
-    /// ```
-    /// let site = teaselauger::Site::new(&std::fs::read("../../models/loops.model")?)?;
-    /// assert_eq!((site.counts().horizon, site.counts().threads), (10, 2));
-    /// # Ok::<(), Box<dyn std::error::Error>>(())
-    /// ```
-    pub fn counts(&self) -> Counts {
-        self.0.counts
-    }
-
     /// The fresh state: every thread ready at (0, 0), every variable 0, nothing logged.
     ///
     /// ```
     /// let site = teaselauger::Site::new(&std::fs::read("../../models/m.model")?)?;
-    /// assert_eq!(site.fresh().to_string(), "v 0 0\nv 1 0\nv 2 0\nt 0 0 ready 0 0\nt 1 2 ready 0 0\n");
+    /// assert_eq!(site.fresh().variables(), &[0; 64]);
     /// # Ok::<(), Box<dyn std::error::Error>>(())
     /// ```
     pub fn fresh(&self) -> State {
@@ -350,128 +377,55 @@ impl Site {
         self.state(calls::fresh(&self.0.file, &mut kept), kept)
     }
 
-    /// A list of calls from the fresh state on, or of threads, each of which makes a request: each answer, and the state after the list.
+    /// One request by a thread, on a state of this site. If it is not granted the state is as it was.
     ///
     /// ```
-    /// use teaselauger::Call::{Both, Finish, Grant};
-    /// use teaselauger::{Answer, Error, Site};
-    /// let site = Site::new(&std::fs::read("../../models/m.model")?)?;
-    /// let (answers, state) = site.replay(&[0, 0]);
-    /// assert_eq!(answers[1], Answer::Refused(Error(14)));
-    /// assert_eq!(state.variables()[0], 1);
-    /// let (answers, state) = site.replay(&[Grant(1), Grant(0), Both(1), Finish(0), Finish(1)]);
-    /// assert_eq!(answers[2], Answer::Refused(Error(19)));
-    /// assert_eq!(state.variables()[0], 1);
-    /// # Ok::<(), Box<dyn std::error::Error>>(())
-    /// ```
-    pub fn replay<C: Copy + Into<Call>>(&self, list: &[C]) -> (Vec<Answer>, State) {
-        let words: Vec<u16> = list.iter().map(|&call| call.into().word()).collect();
-        let (file, mut kept) = (&self.0.file, Box::new(Kept::zero()));
-        let (number, answers) = match self.0.words {
-            Some(_) => calls::replay(file, &mut calls::no_words(), &words, kept.lent()),
-            None => calls::replay_by_rows(file, &mut [0; ROW], &words, kept.lent()),
-        };
-        (answered(list, &answers), self.state(number, kept))
-    }
-}
-
-// Five words for each call: its own, its number, segment, time and delta.
-fn answered<C: Copy + Into<Call>>(list: &[C], answers: &[u64]) -> Vec<Answer> {
-    list.iter().zip(answers.chunks(5)).map(|(&call, words)| call.into().answered(words[1] as u8, &words[2..])).collect()
-}
-
-/// The state of a site: its variables, its threads, the log, and the values that are held for running threads. It begins with
-/// [`Site::fresh`] or [`Site::replay`], and [`State::request`], [`State::grant`] and [`State::finish`] alone change it. To keep a run beyond
-/// the program, keep the list of the calls that were made, and replay it. It prints as the lines `v` and `t` of a sheet.
-///
-/// ```
-/// let site = teaselauger::Site::new(&std::fs::read("../../models/m.model")?)?;
-/// let (mut state, replayed) = (site.fresh(), site.replay(&[1]).1);
-/// state.request(1)?;
-/// assert_eq!(state, replayed);
-/// assert_eq!(state.to_string(), "v 0 0\nv 1 0\nv 2 0\nt 0 0 ready 0 0\nt 1 3 wait 0 0 0\n");
-/// # Ok::<(), Box<dyn std::error::Error>>(())
-/// ```
-///
-/// There is no other way to make one or to write to it, and none to ask it with another site:
-///
-/// ```compile_fail,E0594
-/// # let site = teaselauger::Site::new(&std::fs::read("../../models/m.model")?)?;
-/// site.fresh().variables()[0] = 1;
-/// # Ok::<(), Box<dyn std::error::Error>>(())
-/// ```
-///
-/// ```compile_fail,E0599
-/// # let open = |path| Ok::<_, Box<dyn std::error::Error>>(teaselauger::Site::new(&std::fs::read(path)?)?);
-/// # let (site, other) = (open("../../models/case06.model")?, open("../../models/case07.model")?);
-/// other.request(&mut site.fresh(), 1);
-/// # Ok::<(), Box<dyn std::error::Error>>(())
-/// ```
-#[derive(Clone, Debug, PartialEq, Eq)]
-pub struct State {
-    site: Site,
-    kept: Box<Kept>,
-}
-
-impl fmt::Display for State {
-    fn fmt(&self, f: &mut fmt::Formatter) -> fmt::Result {
-        for (i, value) in self.variables().iter().enumerate().take(self.site.0.counts.variables) {
-            writeln!(f, "v {i} {value}")?;
-        }
-        self.threads().enumerate().try_for_each(|(k, thread)| writeln!(f, "t {k} {thread}"))
-    }
-}
-
-impl State {
-    /// One request by a thread. If it is not granted the state is as it was.
-    ///
-    /// ```
-    /// use teaselauger::{Error, Site};
-    /// let site = Site::new(&std::fs::read("../../models/case06.model")?)?;
+    /// use teaselauger::{RequestError, Site};
+    /// let open = |path| Ok::<_, Box<dyn std::error::Error>>(Site::new(&std::fs::read(path)?)?);
+    /// let (site, other) = (open("../../models/case06.model")?, open("../../models/case07.model")?);
     /// let mut state = site.fresh();
-    /// assert!(state.request(1).is_ok());
-    /// // The other sounder could still write before.
-    /// assert_eq!(state.request(1), Err(Error(14)));
+    /// assert!(site.request(&mut state, 0).is_ok());
+    /// assert_eq!(other.request(&mut state, 1), Err(RequestError::OtherSite));
     /// # Ok::<(), Box<dyn std::error::Error>>(())
     /// ```
-    pub fn request(&mut self, thread: u8) -> Result<Grant, Error> {
-        self.call(Call::Both(thread)).result()
+    pub fn request(&self, state: &mut State, thread: u8) -> Result<Grant, RequestError> {
+        self.call(state, Call::Both(thread))
     }
 
-    /// A grant of a thread: the values that its segment reads are fixed, and until [`State::finish`] the thread is running. If it is not
-    /// granted the state is as it was.
+    /// A grant of a thread, on a state of this site: the values that its segment reads are fixed, and until [`Site::finish`] the thread is
+    /// running. If it is not granted the state is as it was.
     ///
     /// ```
-    /// use teaselauger::{Error, Site};
+    /// use teaselauger::{RequestError, Refused, Site};
     /// let site = Site::new(&std::fs::read("../../models/m.model")?)?;
     /// let mut state = site.fresh();
-    /// let grant = state.grant(0)?;
-    /// assert_eq!(state.grant(0), Err(Error(19)));
-    /// assert_eq!((state.variables()[0], state.finish(0)?), (0, grant));
+    /// let grant = site.grant(&mut state, 0)?;
+    /// assert_eq!(site.grant(&mut state, 0), Err(RequestError::Refused(Refused(19))));
+    /// assert_eq!((state.variables()[0], site.finish(&mut state, 0)?), (0, grant));
     /// assert_eq!(state.variables()[0], 1);
     /// # Ok::<(), Box<dyn std::error::Error>>(())
     /// ```
-    pub fn grant(&mut self, thread: u8) -> Result<Grant, Error> {
-        self.call(Call::Grant(thread)).result()
+    pub fn grant(&self, state: &mut State, thread: u8) -> Result<Grant, RequestError> {
+        self.call(state, Call::Grant(thread))
     }
 
-    /// The finish of a running thread: what its segment writes is stored, and what it notifies is heard. Threads may be finished in any
-    /// order. No other number than 10 and 19 refuses it, and then the state is as it was.
+    /// The finish of a running thread, on a state of this site: what its segment writes is stored, and what it notifies is heard. Threads may
+    /// be finished in any order. No other number than 10 and 19 refuses it, and then the state is as it was.
     ///
     /// ```
-    /// use teaselauger::{Error, Site};
+    /// use teaselauger::{RequestError, Refused, Site};
     /// let site = Site::new(&std::fs::read("../../models/loops.model")?)?;
     /// let mut state = site.fresh();
-    /// assert_eq!(state.finish(0), Err(Error(19)));
-    /// state.grant(0)?;
-    /// state.grant(1)?;
-    /// state.finish(1)?;
-    /// state.finish(0)?;
+    /// assert_eq!(site.finish(&mut state, 0), Err(RequestError::Refused(Refused(19))));
+    /// site.grant(&mut state, 0)?;
+    /// site.grant(&mut state, 1)?;
+    /// site.finish(&mut state, 1)?;
+    /// site.finish(&mut state, 0)?;
     /// assert_eq!(state, site.replay(&[0, 1]).1);
     /// # Ok::<(), Box<dyn std::error::Error>>(())
     /// ```
-    pub fn finish(&mut self, thread: u8) -> Result<Grant, Error> {
-        self.call(Call::Finish(thread)).result()
+    pub fn finish(&self, state: &mut State, thread: u8) -> Result<Grant, RequestError> {
+        self.call(state, Call::Finish(thread))
     }
 
     /// A request, a grant or a finish.
@@ -480,85 +434,77 @@ impl State {
     /// use teaselauger::{Call, Site};
     /// let site = Site::new(&std::fs::read("../../models/m.model")?)?;
     /// let (mut one, mut other) = (site.fresh(), site.fresh());
-    /// assert_eq!(one.call(Call::Grant(1)).result(), other.grant(1));
+    /// assert_eq!(site.call(&mut one, Call::Grant(1)), site.grant(&mut other, 1));
     /// assert_eq!(one, other);
     /// # Ok::<(), Box<dyn std::error::Error>>(())
     /// ```
-    pub fn call(&mut self, call: Call) -> Answer {
-        let Opened { file, words, .. } = &*self.site.0;
-        let (kept, answer, row) = (&mut self.kept, &mut [0; ANSWER], &mut [0; ROW]);
-        let number = match (call, words) {
+    pub fn call(&self, state: &mut State, call: Call) -> Result<Grant, RequestError> {
+        if state.site != *self {
+            return Err(RequestError::OtherSite);
+        }
+        let (file, kept, answer, row) = (&self.0.file, &mut state.kept, &mut [0; ANSWER], &mut [0; ROW]);
+        checked(match (call, &self.0.words) {
             (Call::Both(thread), Some(words)) => calls::request(file, words, kept, thread, answer),
             (Call::Both(thread), None) => calls::request_by_rows(file, row, kept.lent(), thread, answer),
             (Call::Grant(thread), Some(words)) => calls::grant(file, words, kept.lent(), thread, answer),
             (Call::Grant(thread), None) => calls::grant_by_rows(file, row, kept.lent(), thread, answer),
             (Call::Finish(thread), Some(words)) => calls::finish(file, words, kept.lent(), thread, answer),
             (Call::Finish(thread), None) => calls::finish_by_rows(file, row, kept.lent(), thread, answer),
-        };
-        call.answered(number, answer)
+        })?;
+        let [segment, time, delta] = *answer;
+        Ok(grant(segment, time, delta))
     }
 
-    /// A list of calls on this state, or of threads, each of which makes a request: each answer. It is as if they were made one by one.
+    /// A list of calls from the fresh state on, or of threads, each of which makes a request: each answer, and the state after the list.
     ///
     /// ```
+    /// use teaselauger::Call::{Both, Finish, Grant};
     /// let site = teaselauger::Site::new(&std::fs::read("../../models/m.model")?)?;
-    /// let (mut state, whole) = (site.replay(&[1, 0]).1, site.replay(&[1, 0, 0, 1]));
-    /// assert_eq!((state.calls(&[0, 1]), state), (whole.0[2..].to_vec(), whole.1));
+    /// let (answers, state) = site.replay(&[0, 0]);
+    /// assert_eq!(answers[1], Err(teaselauger::Refused(14)));
+    /// assert_eq!(state.variables()[0], 1);
+    /// let (answers, state) = site.replay(&[Grant(1), Grant(0), Both(1), Finish(0), Finish(1)]);
+    /// assert_eq!(answers[2], Err(teaselauger::Refused(19)));
+    /// assert_eq!(state.variables()[0], 1);
     /// # Ok::<(), Box<dyn std::error::Error>>(())
     /// ```
-    pub fn calls<C: Copy + Into<Call>>(&mut self, list: &[C]) -> Vec<Answer> {
-        let list_words: Vec<u16> = list.iter().map(|&call| call.into().word()).collect();
-        let Opened { file, words, .. } = &*self.site.0;
-        let (number, answers) = match words {
-            Some(words) => calls::requests(file, words, &list_words, self.kept.lent()),
-            None => calls::requests_by_rows(file, &mut [0; ROW], &list_words, self.kept.lent()),
+    pub fn replay<C: Copy + Into<Call>>(&self, list: &[C]) -> (Vec<Result<Grant, Refused>>, State) {
+        let words: Vec<u16> = list.iter().map(|&call| call.into().word()).collect();
+        let (file, mut kept) = (&self.0.file, Box::new(Kept::zero()));
+        let (number, answers) = match self.0.words {
+            Some(_) => calls::replay(file, &mut calls::no_words(), &words, kept.lent()),
+            None => calls::replay_by_rows(file, &mut [0; ROW], &words, kept.lent()),
         };
-        assert_eq!(number, 0, "a state of an accepted file takes a list");
-        answered(list, &answers)
+        (answers.chunks(5).map(answered).collect(), self.state(number, kept))
     }
+}
 
-    /// The threads that are ready up to the horizon, lowest number first. Of these alone a request or a grant can be granted; the one of the
-    /// least cycle, by number among equals, is, where nothing is running. Where nothing is running and none is left the run is over. A thread
-    /// that is ready later than the horizon is refused with 13, and is not among them: [`State::threads`] has it.
-    ///
-    /// ```
-    /// let site = teaselauger::Site::new(&std::fs::read("../../models/case02.model")?)?;
-    /// let mut state = site.fresh();
-    /// assert_eq!(state.ready().collect::<Vec<u8>>(), [0, 1]);
-    /// while state.ready().any(|thread| state.request(thread).is_ok()) {}
-    /// // The poller is ready still, past the horizon.
-    /// assert_eq!((state.ready().len(), state.threads().next().unwrap().to_string()), (0, "1 ready 1260 0".into()));
-    /// # Ok::<(), Box<dyn std::error::Error>>(())
-    /// ```
-    pub fn ready(&self) -> Ready {
-        Ready::of(self.threads(), self.site.0.counts.horizon)
-    }
+/// The state of a site, its thread records and the values that are held for running threads, as numbers. It begins with [`Site::fresh`] or
+/// [`Site::replay`], and [`Site::request`], [`Site::grant`] and [`Site::finish`] alone change it. To keep a run beyond the program, keep the
+/// list of the calls that were made, and replay it.
+///
+/// ```
+/// let site = teaselauger::Site::new(&std::fs::read("../../models/m.model")?)?;
+/// let (mut state, replayed) = (site.fresh(), site.replay(&[1]).1);
+/// site.request(&mut state, 1)?;
+/// assert_eq!(state, replayed);
+/// # Ok::<(), Box<dyn std::error::Error>>(())
+/// ```
+///
+/// There is no other way to make one or to write to it:
+///
+/// ```compile_fail,E0594
+/// # let site = teaselauger::Site::new(&std::fs::read("../../models/m.model")?)?;
+/// site.fresh().variables()[0] = 1;
+/// # Ok::<(), Box<dyn std::error::Error>>(())
+/// ```
+#[derive(Clone, Debug, PartialEq, Eq)]
+pub struct State {
+    site: Site,
+    kept: Box<Kept>,
+}
 
-    /// The threads, as many as the site has.
-    ///
-    /// ```
-    /// use teaselauger::{Call, Site, ThreadState};
-    /// let site = Site::new(&std::fs::read("../../models/m.model")?)?;
-    /// let state = site.replay(&[Call::Grant(1)]).1;
-    /// assert!(state.threads().map(|thread| thread.state).eq([ThreadState::Ready, ThreadState::Running]));
-    /// # Ok::<(), Box<dyn std::error::Error>>(())
-    /// ```
-    pub fn threads(&self) -> impl Iterator<Item = Thread> + '_ {
-        self.kept.records.chunks(5).take(self.site.0.counts.threads).map(Thread::of)
-    }
-
-    /// The logged notifications, in the order in which they were logged.
-    ///
-    /// ```
-    /// use teaselauger::{Notification, Site};
-    /// let site = Site::new(&std::fs::read("../../models/m.model")?)?;
-    /// assert!(site.replay(&[0]).1.notifications().eq([Notification { event: 0, time: 0, delta: 0 }]));
-    /// # Ok::<(), Box<dyn std::error::Error>>(())
-    /// ```
-    pub fn notifications(&self) -> impl Iterator<Item = Notification> + '_ {
-        self.kept.log[1..].chunks(3).take(self.kept.log[0] as usize).map(Notification::of)
-    }
-
+impl State {
     /// The site that the state belongs to.
     ///
     /// ```

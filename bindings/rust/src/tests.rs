@@ -19,18 +19,18 @@ fn both(name: &str) -> [Site; 2] {
     both_of(&file(name))
 }
 
-fn refused(number: u8) -> Result<Grant, Error> {
-    Err(Error(number))
+fn refused(number: u8) -> Result<Grant, RequestError> {
+    Err(RequestError::Refused(Refused(number)))
 }
 
-fn granted(segment: u8, time: u64, delta: u32) -> Result<Grant, Error> {
+fn granted(segment: u8, time: u64, delta: u32) -> Result<Grant, RequestError> {
     Ok(Grant { segment, time, delta })
 }
 
 /// Issues threads, lowest number first, until none is granted; the threads that were.
-fn issue(state: &mut State) -> Vec<u8> {
+fn issue(site: &Site, state: &mut State) -> Vec<u8> {
     let mut threads = Vec::new();
-    while let Some(k) = (0..32).find(|&k| state.request(k).is_ok()) {
+    while let Some(k) = (0..32).find(|&k| site.request(state, k).is_ok()) {
         threads.push(k);
     }
     threads
@@ -52,14 +52,14 @@ fn fresh_is_the_start() {
 fn request_grants_or_leaves_the_state() {
     for m in both("m") {
         let mut state = m.fresh();
-        assert_eq!(state.request(0), granted(0, 0, 0));
+        assert_eq!(m.request(&mut state, 0), granted(0, 0, 0));
         let before = state.clone();
-        assert_eq!(state.request(0), refused(14));
-        assert_eq!(state.request(2), refused(10));
-        assert_eq!(state.request(255), refused(10));
+        assert_eq!(m.request(&mut state, 0), refused(14));
+        assert_eq!(m.request(&mut state, 2), refused(10));
+        assert_eq!(m.request(&mut state, 255), refused(10));
         assert_eq!(state, before);
-        assert_eq!(state.request(1), granted(2, 0, 0));
-        assert_eq!(state.request(1), granted(3, 0, 1));
+        assert_eq!(m.request(&mut state, 1), granted(2, 0, 0));
+        assert_eq!(m.request(&mut state, 1), granted(3, 0, 1));
     }
 }
 
@@ -67,15 +67,15 @@ fn request_grants_or_leaves_the_state() {
 fn requests_end_as_the_plain_run() {
     for m in both("m") {
         let mut state = m.fresh();
-        assert_eq!(issue(&mut state).len(), 254);
+        assert_eq!(issue(&m, &mut state).len(), 254);
         assert_eq!(state.variables()[..3], [126; 3]);
         assert_eq!(state.records()[..10], [1, 0, 0, 1260, 0, 3, 3, 0, 1250, 1]);
-        assert_eq!([state.request(0), state.request(1)], [refused(12), refused(12)]);
+        assert_eq!([m.request(&mut state, 0), m.request(&mut state, 1)], [refused(12), refused(12)]);
     }
     for sooner in both("case02") {
         let mut state = sooner.fresh();
-        issue(&mut state);
-        assert_eq!(state.request(0), refused(13));
+        issue(&sooner, &mut state);
+        assert_eq!(sooner.request(&mut state, 0), refused(13));
     }
 }
 
@@ -85,25 +85,19 @@ fn replay_is_the_requests_in_turn() {
         let threads = [1, 0, 0, 3, 1, 0, 2, 1, 0, 0, 1, 40];
         let (answers, replayed) = site.replay(&threads);
         let mut state = site.fresh();
-        let asked: Vec<_> = threads.iter().map(|&k| state.request(k)).collect();
-        assert_eq!(answers.into_iter().map(Answer::result).collect::<Vec<_>>(), asked);
+        let asked: Vec<_> = threads.iter().map(|&k| site.request(&mut state, k)).collect();
+        assert_eq!(answers.into_iter().map(|a| a.map_err(RequestError::from)).collect::<Vec<_>>(), asked);
         assert_eq!(replayed, state);
         assert_eq!(site.replay::<Call>(&[]), (vec![], site.fresh()));
     }
-}
-
-/// What a state holds, on a site of equal bytes.
-fn on(site: &Site, state: State) -> State {
-    assert_eq!(state.site(), site);
-    State { site: site.clone(), kept: state.kept }
 }
 
 #[test]
 fn a_state_goes_on_after_a_replay() {
     let [full, rows] = &both("m");
     for (one, other) in [(full, full), (rows, rows), (full, rows), (rows, full)] {
-        let mut state = on(other, one.replay(&[0, 1]).1);
-        let rest = issue(&mut state);
+        let (_, mut state) = one.replay(&[0, 1]);
+        let rest = issue(other, &mut state);
         let whole: Vec<u8> = [0, 1].into_iter().chain(rest).collect();
         assert_eq!(one.replay(&whole).1, state);
     }
@@ -115,23 +109,30 @@ fn refused_files_have_no_site() {
     longer.push(0);
     let shorter = file("m")[..115].to_vec();
     for (bytes, number) in [(vec![], 1), (shorter, 1), (vec![4, 0, 4, 0], 2), (file("refused7"), 7), (longer, 9)] {
-        assert_eq!([Site::new(&bytes), Site::by_rows(&bytes)], [Err(Error(number)), Err(Error(number))]);
-        assert_eq!(read(&bytes), Err(Error(number)));
+        assert_eq!([Site::new(&bytes), Site::by_rows(&bytes)], [Err(Refused(number)), Err(Refused(number))]);
+        assert_eq!(read(&bytes), Err(Refused(number)));
         assert_eq!(sheet(&bytes, 1_000_000), format!("refused {number}\n"));
     }
     assert_eq!(read(&file("m")), Ok(()));
 }
 
 #[test]
-fn a_state_is_of_its_site() {
+fn a_state_of_another_site_is_an_error() {
     let (other, mut words) = (file("case07"), calls::no_words());
     assert_eq!(calls::load(&other, &mut words), 0);
     for one in both("case06") {
-        for state in [one.fresh(), one.replay(&[0]).1, one.replay(&[0, 0, 1, 1]).1] {
+        for mut state in [one.fresh(), one.replay(&[0]).1, one.replay(&[0, 0, 1, 1]).1] {
+            let before = state.clone();
             // Every number of the state is in range for the other model: the library itself answers for the mixture.
             assert_ne!(calls::request(&other, &words, &mut state.kept.clone(), 1, &mut [0; ANSWER]), 11);
             assert_ne!(calls::request_by_rows(&other, &mut [0; ROW], state.kept.clone().lent(), 1, &mut [0; ANSWER]), 11);
-            assert!(both("case07").iter().all(|site| site != state.site()));
+            for site in both("case07") {
+                assert_ne!(site, one);
+                for thread in 0..=255 {
+                    assert_eq!(site.request(&mut state, thread), Err(RequestError::OtherSite));
+                }
+            }
+            assert_eq!(state, before);
             assert_eq!(state.site(), &one);
         }
     }
@@ -147,13 +148,13 @@ fn sites_of_equal_bytes_are_the_same() {
         let mut state = one.fresh();
         assert_eq!(state, again.fresh());
         for k in [0, 1, 1, 0] {
-            let (mut a, mut b) = (on(&one, state.clone()), on(&again, state));
-            assert_eq!(a.request(k), b.request(k));
+            let (mut a, mut b) = (state.clone(), state.clone());
+            assert_eq!(one.request(&mut a, k), again.request(&mut b, k));
             assert_eq!(a, b);
             state = b;
         }
         assert_eq!(one.clone(), again);
-        assert_eq!(issue(&mut state), issue(&mut again.replay(&[0, 1, 1, 0]).1));
+        assert_eq!(issue(&one, &mut state), issue(&again, &mut again.replay(&[0, 1, 1, 0]).1));
     }
 }
 
@@ -175,7 +176,7 @@ fn a_drawing_has_the_ports_of_its_threads() {
         drawing.save()
     };
     for (p, variable, number) in [(0, 2, 17), (0, 128, 17), (7, 256, 17), (7, u32::MAX, 17), (0, UNUSED, 18)] {
-        assert_eq!(changed(p, variable), Err(Error(number)));
+        assert_eq!(changed(p, variable), Err(Refused(number)));
     }
     // Port 7, which nobody names, is written and read again.
     let again = changed(7, 1).expect("a variable of the model");
@@ -190,15 +191,12 @@ fn a_drawing_has_the_ports_of_its_threads() {
 #[test]
 fn threads_conflict_through_ports() {
     for own in both("loops") {
-        assert_eq!(
-            own.replay(&[1, 1, 1]).0,
-            [(0, 0), (0, 3), (1, 6)].map(|(segment, time)| Answer::Granted(Grant { segment, time, delta: 0 }))
-        );
+        assert_eq!(own.replay(&[1, 1, 1]).0, [(0, 0), (0, 3), (1, 6)].map(|(segment, time)| Ok(Grant { segment, time, delta: 0 })));
     }
     // With one counter for both, thread 1 has to wait for thread 0.
     for one in both_of(&one_counter()) {
         let (answers, state) = one.replay(&[1, 0, 1]);
-        assert_eq!(answers.into_iter().map(|a| a.result().err()).collect::<Vec<_>>(), [Some(Error(14)), None, None]);
+        assert_eq!(answers.into_iter().map(Result::err).collect::<Vec<_>>(), [Some(Refused(14)), None, None]);
         assert_eq!(state.variables()[..2], [2, 0]);
     }
 }
@@ -241,16 +239,16 @@ fn no_buffer_is_too_short() {
     for site in both_of(&bytes) {
         let mut state = site.fresh();
         for k in 0..32 {
-            assert_eq!(state.request(k), granted(2 * k + 1, 0, 0));
+            assert_eq!(site.request(&mut state, k), granted(2 * k + 1, 0, 0));
         }
         for k in 0..32 {
-            assert_eq!(state.request(k), granted((2 * k + 2) % 64, 1_000_000_000, 0));
-            assert_eq!(state.request(k), refused(13));
+            assert_eq!(site.request(&mut state, k), granted((2 * k + 2) % 64, 1_000_000_000, 0));
+            assert_eq!(site.request(&mut state, k), refused(13));
         }
         let threads: Vec<u8> = (0..10_000u32).map(|i| (i % 256) as u8).collect();
         let (answers, replayed) = site.replay(&threads);
         assert_eq!(answers.len(), threads.len());
-        assert!(answers.iter().all(|a| !matches!(a, Answer::Refused(Error(11 | 16)))));
+        assert!(answers.iter().all(|a| !matches!(a, Err(Refused(11 | 16)))));
         assert_eq!(replayed, state);
     }
     let text = sheet(&bytes, 1_000_000);
@@ -259,12 +257,12 @@ fn no_buffer_is_too_short() {
 
 #[test]
 fn any_thread_may_call_on_256_kb_of_stack() {
-    let work = |open: fn(&[u8]) -> Result<Site, Error>| {
+    let work = |open: fn(&[u8]) -> Result<Site, Refused>| {
         let site = open(&largest()).expect("an accepted file");
         let mut state = site.fresh();
         let mut apart = site.fresh();
-        let calls: Vec<_> = (0..32).map(Granting).chain((0..32).map(Finish)).map(|call| apart.call(call)).collect();
-        (issue(&mut state), calls, apart, site.replay(&[0; 100]).1, sheet(&largest(), 100), state)
+        let calls: Vec<_> = (0..32).map(Granting).chain((0..32).map(Finish)).map(|call| site.call(&mut apart, call)).collect();
+        (issue(&site, &mut state), calls, apart, site.replay(&[0; 100]).1, sheet(&largest(), 100), state)
     };
     let small = |open| std::thread::Builder::new().stack_size(256 * 1024).spawn(move || work(open)).expect("a thread");
     let [one, other, rows] = [Site::new, Site::new, Site::by_rows].map(small).map(|thread| thread.join().expect("enough stack"));
@@ -325,7 +323,7 @@ fn same_by_rows<C: Copy + Into<Call>>(bytes: &[u8], list: &[C]) {
         row = junk(turn, row);
         let mut kept = strewn(Box::new(Kept::zero()), turn);
         let (number, answers) = calls::replay_by_rows(bytes, &mut row, &words(&list), kept.lent());
-        assert_eq!((number, answered(&list, &answers)), (0, expected.clone()));
+        assert_eq!((number, answers.chunks(5).map(answered).collect()), (0, expected.clone()));
         assert!(answers.chunks(5).map(|a| a[0]).eq(words(&list).into_iter().map(u64::from)));
         assert_eq!(without_junk(kept), after.kept);
     }
@@ -337,8 +335,8 @@ fn same_by_rows<C: Copy + Into<Call>>(bytes: &[u8], list: &[C]) {
             kept = strewn(kept, first + i);
             let (before, mut answer) = (kept.held, [0; ANSWER]);
             let number = call_by_rows(bytes, &mut row, kept.lent(), call, &mut answer);
-            assert_eq!(call.answered(number, &answer), expected[i]);
-            assert_eq!(state.call(call), expected[i]);
+            assert_eq!(answered(&[0, number as u64, answer[0], answer[1], answer[2]]), expected[i]);
+            assert_eq!(site.call(&mut state, call), expected[i].map_err(RequestError::from));
             assert!(matches!(call, Granting(_) | Finish(_)) && number == 0 || kept.held == before);
             assert_eq!(without_junk(kept.clone()), state.kept);
         }
@@ -355,7 +353,7 @@ fn nothing_hangs_on_the_words_of_a_row() {
         }
         same_by_rows(&bytes, &[1, 0, 0, 3, 1, 0, 2, 1, 0, 0, 1, 40]);
         let site = site(name);
-        let whole = issue(&mut site.fresh());
+        let whole = issue(&site, &mut site.fresh());
         same_by_rows(&bytes, &whole);
         same_by_rows(&bytes, &whole.iter().flat_map(|&k| [k ^ 1, k]).collect::<Vec<u8>>());
     }
@@ -441,14 +439,14 @@ fn a_file_or_a_list_by_rows_takes_64_words() {
 fn a_grant_holds_and_a_finish_stores() {
     for m in both("m") {
         let mut state = m.fresh();
-        assert_eq!(state.grant(0), granted(0, 0, 0));
+        assert_eq!(m.grant(&mut state, 0), granted(0, 0, 0));
         assert_eq!((state.variables(), state.log()), (&[0; 64], &[0; 385]));
         assert_eq!(state.records()[..10], [0, 4, 0, 0, 0, 2, 2, 0, 0, 0]);
-        assert_eq!(state.grant(1), granted(2, 0, 0));
-        assert_eq!(state.finish(0), granted(0, 0, 0));
+        assert_eq!(m.grant(&mut state, 1), granted(2, 0, 0));
+        assert_eq!(m.finish(&mut state, 0), granted(0, 0, 0));
         // Kept in the log, since thread 1 runs at (0, 0).
         assert_eq!((state.variables()[0], &state.log()[..4]), (1, &[1, 0, 0, 0][..]));
-        assert_eq!(state.finish(1), granted(2, 0, 0));
+        assert_eq!(m.finish(&mut state, 1), granted(2, 0, 0));
         assert_eq!((state.log()[0], &state.records()[5..10]), (0, &[3, 2, 0, 0, 1][..]));
         assert_eq!(state.held(), &[0; 2048]);
     }
@@ -458,13 +456,13 @@ fn a_grant_holds_and_a_finish_stores() {
 fn out_of_turn_is_19() {
     for m in both("m") {
         let list = [Finish(0), Granting(0), Granting(0), Both(0), Finish(1), Finish(2), Granting(2), Finish(0), Finish(0)];
-        let numbers: Vec<u8> = m.replay(&list).0.into_iter().map(|a| a.result().err().map_or(0, Error::number)).collect();
+        let numbers: Vec<u8> = m.replay(&list).0.into_iter().map(|a| a.err().map_or(0, |refused| refused.0)).collect();
         assert_eq!(numbers, [19, 0, 19, 19, 19, 10, 10, 0, 19]);
         let mut state = m.fresh();
-        issue(&mut state);
+        issue(&m, &mut state);
         // Thread 0 has ended, and thread 1 waits.
         for k in [0, 1] {
-            assert_eq!([state.grant(k), state.finish(k)], [refused(12), refused(19)]);
+            assert_eq!([m.grant(&mut state, k), m.finish(&mut state, k)], [refused(12), refused(19)]);
         }
     }
 }
@@ -475,7 +473,7 @@ fn finishes_in_any_order_end_as_the_plain_run() {
     for name in ["m", "case02", "case06", "case07", "case08", "calls", "loops"] {
         for site in both(name) {
             let mut plain = site.fresh();
-            let count = issue(&mut plain).len();
+            let count = issue(&site, &mut plain).len();
             for seed in 0..20u32 {
                 let (mut state, mut list, mut draw) = (site.fresh(), Vec::new(), seed);
                 // Threads from a number on that the seed draws, and finishes or requests first.
@@ -487,7 +485,7 @@ fn finishes_in_any_order_end_as_the_plain_run() {
                     let next = kinds
                         .into_iter()
                         .flat_map(|kind| threads.clone().map(kind))
-                        .find(|&call| state.call(call).result().is_ok());
+                        .find(|&call| site.call(&mut state, call).is_ok());
                     let Some(call) = next else { break };
                     list.push(call);
                 }
@@ -507,10 +505,12 @@ fn a_request_is_a_grant_and_its_finish() {
             let mut asked = Vec::new();
             for k in 0..4 {
                 let (mut apart, mut at_once) = (state.clone(), state.clone());
-                let granted = apart.grant(k);
-                assert_eq!(granted, at_once.request(k));
-                let other = granted.map_err(|error| if error == Error(10) { error } else { Error(19) });
-                assert_eq!(apart.finish(k), other);
+                let granted = site.grant(&mut apart, k);
+                assert_eq!(granted, site.request(&mut at_once, k));
+                let other =
+                    granted
+                        .map_err(|e| if e == RequestError::Refused(Refused(10)) { e } else { RequestError::Refused(Refused(19)) });
+                assert_eq!(site.finish(&mut apart, k), other);
                 assert_eq!(apart, at_once);
                 asked.extend(granted.is_ok().then_some(at_once));
             }
@@ -536,16 +536,10 @@ fn lists_of_calls_by_rows() {
             same_by_rows(&bytes, &list);
             let site = site(name);
             let mut state = site.fresh();
-            let asked: Vec<_> = list.iter().map(|&call| state.call(call)).collect();
+            let asked: Vec<_> = list.iter().map(|&call| site.call(&mut state, call)).collect();
             let (answers, replayed) = site.replay(&list);
-            assert_eq!(answers, asked);
+            assert_eq!(answers.into_iter().map(|a| a.map_err(RequestError::from)).collect::<Vec<_>>(), asked);
             assert_eq!(replayed, state);
-            // In two parts too, with the table and by rows.
-            for site in both(name) {
-                let (first, mut state) = site.replay(&list[..17]);
-                assert_eq!([first, state.calls(&list[17..])].concat(), answers);
-                assert_eq!(replayed, state);
-            }
         }
     }
     let all: Vec<Call> = (0..32).map(Granting).chain((0..32).rev().map(Finish)).collect();
@@ -611,55 +605,7 @@ fn so_many_values_are_held() {
 
 #[test]
 fn errors_say_what_happened() {
-    let all: Vec<String> = (1..=19).map(|number| Error(number).words()).collect();
-    for (i, words) in all.iter().enumerate() {
-        assert!(words.ends_with('.') && words.matches(". ").count() == 0, "{words}");
-        assert!(!all[..i].contains(words), "{words}");
-        assert_eq!(Error(i as u8 + 1).to_string(), format!("refused {}: {words}", i + 1));
-    }
-    assert_eq!(Error(20).words(), Error(255).words());
-    let error: Box<dyn std::error::Error> = Error(14).into();
-    assert!(error.to_string().starts_with("refused 14: A hazard stands"));
+    assert_eq!(RequestError::from(Refused(15)).to_string(), "refused 15");
+    assert_eq!(RequestError::OtherSite.to_string(), "the state belongs to another site");
     assert_eq!(both("m").map(|site| format!("{site:?}")), ["Site(116 bytes)", "Site(116 bytes, by rows)"]);
-}
-
-/// Ready, up to the horizon and past it, ended, overrun, waiting and running threads, as the sheet and the transcript have them.
-#[test]
-fn threads_are_as_they_are_printed() {
-    for name in ["m", "case02", "case03", "case06", "case07", "case08", "case12", "horizon", "calls", "loops"] {
-        for site in both(name) {
-            let (mut state, mut n) = (site.fresh(), 0);
-            while state.ready().any(|k| state.request(k).is_ok()) {
-                n += 1;
-            }
-            assert_eq!(format!("{state}n {n}\n"), site.sheet(1_000_000));
-            let run = site.run(1_000_000);
-            assert_eq!((run.threads, run.segments, run.spent), (state.threads().collect(), n, false));
-            assert_eq!(run.variables, state.variables()[..site.counts().variables]);
-            assert_eq!(state.ready().next(), None);
-            assert!((0..32).all(|k| matches!(state.clone().request(k), Err(Error(10 | 12 | 13)))));
-        }
-    }
-    let running = site("m").replay(&[Both(0), Granting(1)]).1;
-    assert_eq!(running.to_string(), "v 0 1\nv 1 0\nv 2 0\nt 0 0 ready 10 0\nt 1 2 running 0 0\n");
-    assert!(running.notifications().map(|logged| logged.to_string()).eq(["0 0 0"]));
-}
-
-/// Those that are left out are refused with 10, 12, 13 or 19, the others with nothing or with 14 or 15.
-#[test]
-fn ready_threads_are_those_that_can_be_granted() {
-    for site in ["m", "case02", "case06", "case08", "calls", "horizon"].into_iter().flat_map(both) {
-        let (mut state, mut draw) = (site.fresh(), 5u32);
-        for _ in 0..60 {
-            let ready: Vec<u8> = state.ready().collect();
-            assert_eq!((ready.len(), ready.is_sorted()), (state.ready().len(), true));
-            for k in 0..=40 {
-                let can_be = !matches!(state.clone().grant(k), Err(Error(10 | 12 | 13 | 19)));
-                assert_eq!(can_be, ready.contains(&k), "{site:?}, thread {k} of {state}");
-            }
-            draw = draw.wrapping_mul(1_103_515_245).wrapping_add(12_345);
-            let k = (draw >> 16) as u8 % 3;
-            let _ = state.call([Granting(k), Finish(k), Both(k)][(draw >> 24) as usize % 3]);
-        }
-    }
 }

@@ -85,21 +85,10 @@ module _ (floor : Bound) (c : Cycle) (n : ℕ) where
   pub full-early : (b : Bool) → b ≡ is_bound_before floor (At c) → 96 < n → n ≤ 128 → b ≡ is_full_by floor n c
   full-early b e h k = rw (lt-ltb 96 n h, le-ltb 128 n k, ← e) (some b)
 
--- the events of a segment as its places hold them
-pub held_events-taken : (es : List ℕ) → take (held_events es).n (held_events es).at ≡ es
-unfolding held_events
-held_events-taken es = take-append_seam es _
-
 -- the places of a thread that is named twice
 pub places_same : (t : ℕ) (l : List Notification) (ts : List Thread) (es : List ℕ) (n j k : ℕ) → j ≡ k → (j < t → n ≡ places_with l (cycle_of (thread_at ts j).state) es) →
     k < t → n ≡ places_with l (cycle_of (thread_at ts k).state) es
 places_same t l ts es n j k e h = subst (λ (i : ℕ). i < t → n ≡ places_with l (cycle_of (thread_at ts i).state) es) e h
-
--- and of a segment whose list is held, at a thread that is named twice
-pub places-listed : (l : List Notification) (ts : List Thread) (es : List ℕ) (n j k : ℕ) (c : Cycle) (logged : List Notification) (held : Events) →
-    n ≡ places_with logged c (take held.n held.at) → logged ≡ l → c ≡ cycle_of (get_or ts j no_thread).state → j ≡ k → held ≡ held_events es → n ≡ places_with l (cycle_of (thread_at ts k).state) es
-unfolding thread_at
-places-listed l ts es n j k c logged held e p q r f = e ∙ rw (p, q, r, f, held_events-taken es) refl
 
 -- and of a segment that is
 pub room-same : (l : List Notification) (ts : List Thread) (g h : Segment) (j k : ℕ) → g ≡ h → j ≡ k → places_with l (cycle_of (thread_at ts k).state) (notified_by (body_of h)) ≤ 128 →
@@ -213,6 +202,11 @@ module _ (reach : List ℕ) (t : ℕ) (few : t ≤ 32) (site : Site) (ts : List 
         let e : us ≡ record { at = woken } = ap (λ (xs : List Thread). record { at = xs }) there in
         rw (e, left) refl
 
+-- the events of a segment as its places hold them
+pub held_events-taken : (es : List ℕ) → take (held_events es).n (held_events es).at ≡ es
+unfolding held_events
+held_events-taken es = take-append_seam es _
+
 -- the segment as thread k runs it
 pub own-segment : (starts : List Start) (k : ℕ) (g : Segment) (i : ℕ) (ps : List ℕ) (h : Segment) → i ≡ k → ps ≡ ports_in starts i → h ≡ segment_with ps g → h ≡ segment_with (ports_in starts k) g
 own-segment starts k g i ps h p q e = e ∙ ap (λ (xs : List ℕ). segment_with xs g) (q ∙ ap (ports_in starts) p)
@@ -270,45 +264,47 @@ module _ (end n t : ℕ) (es : List ℕ) (conflicts : ℕ → ℕ → ℕ → �
   unfolding call_number_on
   number-decided e = rw e refl
 
--- What a call leaves: g is the segment after mapping, h before it. Counts says which logs have what is counted, Known which distances it may go by.
-module _ (end n t : ℕ) (g h : Segment) (conflicts : ℕ → ℕ → ℕ → ℕ → Bool) (reach : List ℕ) (site : Site) (ts : List Thread) (held : List ℕ) (call : Call)
-    (number : ℕ) (mapped : notified_by (body_of g) ≡ notified_by (body_of h)) (Counts : List Notification → Type 0) (Known : List ℕ → Type 0)
-    (decided : (l : List Notification) → Counts l → (ws : List ℕ) → Known ws → number ≡ call_number_on end n t (notified_by (body_of h)) conflicts ws reach l (log_of site) ts call)
+-- What a call leaves: g is the segment after mapping, h before it. Known says which distances it may go by.
+module _ (end n t : ℕ) (g h : Segment) (conflicts : ℕ → ℕ → ℕ → ℕ → Bool) (reach : List ℕ) (counted site : Site) (ts : List Thread) (held : List ℕ) (call : Call)
+    (number : ℕ) (es : Events) (listed : es ≡ held_events (notified_by (body_of h))) (mapped : notified_by (body_of g) ≡ notified_by (body_of h)) (Known : List ℕ → Type 0)
+    (decided : (ws : List ℕ) → Known ws → number ≡ call_number_on end n t (take es.n es.at) conflicts ws reach (log_of counted) (log_of site) ts call)
   where
     -- what is held and returned is what the call leaves
     abbrev pub Leaves : List ℕ → After → Type 0
     Leaves after a =
-        ((l : List Notification) → Counts l → (ws : List ℕ) → Known ws → after ≡ (called_on end n t g conflicts ws reach l site ts held call).held)
-        × ((l : List Notification) → Counts l → (ws : List ℕ) → Known ws → a ≡ after_of (called_on end n t g conflicts ws reach l site ts held call).left)
+        ((ws : List ℕ) → Known ws → after ≡ (called_on end n t g conflicts ws reach counted site ts held call).held)
+        × ((ws : List ℕ) → Known ws → a ≡ after_of (called_on end n t g conflicts ws reach counted site ts held call).left)
 
-    same_number : (l : List Notification) → Counts l → (ws : List ℕ) → Known ws → number ≡ call_number_on end n t (notified_by (body_of g)) conflicts ws reach l (log_of site) ts call
-    same_number l counts ws known = decided l counts ws known ∙ ap (λ (xs : List ℕ). call_number_on end n t xs conflicts ws reach l (log_of site) ts call) (sym mapped)
+    same_number : (ws : List ℕ) → Known ws → number ≡ call_number_on end n t (notified_by (body_of g)) conflicts ws reach (log_of counted) (log_of site) ts call
+    same_number ws known =
+        decided ws known ∙ ap (λ (xs : List ℕ). call_number_on end n t xs conflicts ws reach (log_of counted) (log_of site) ts call)
+        (ap (λ (x : Events). take x.n x.at) listed ∙ (held_events-taken (notified_by (body_of h)) ∙ sym mapped))
 
     pub called-refused : (number ≡ 0 → ⊥) → (a : After) → a ≡ after_of (refused_with number site ts) → Leaves held a
     unfolding called_on answered_by
     called-refused other a e =
-        (λ l counts ws known. rw (← same_number l counts ws known, ne_eqb number 0 other) refl, λ l counts ws known. e ∙ rw (← same_number l counts ws known, ne_eqb number 0 other) refl)
+        (λ ws known. rw (← same_number ws known, ne_eqb number 0 other) refl, λ ws known. e ∙ rw (← same_number ws known, ne_eqb number 0 other) refl)
 
     module _ (zero : number ≡ 0) where
-      called-done : (l : List Notification) → Counts l → (ws : List ℕ) → Known ws → called_on end n t g conflicts ws reach l site ts held call ≡ done_on reach t g site ts held call
+      called-done : (ws : List ℕ) → Known ws → called_on end n t g conflicts ws reach counted site ts held call ≡ done_on reach t g site ts held call
       unfolding called_on answered_by
-      called-done l counts ws known = rw (sym (same_number l counts ws known) ∙ zero) refl
+      called-done ws known = rw (sym (same_number ws known) ∙ zero) refl
 
       module _ (k : ℕ) (same : k ≡ thread_of call) (after : List ℕ) (a : After) where
         pub called-begun : is_grant call ≡ true → after ≡ with_held held k site.variables.at → a ≡ after_of (running_from site ts k) → Leaves after a
         unfolding done_on
-        called-begun e p q = (λ l counts ws known. p ∙ rw (called-done l counts ws known, e, same) refl, λ l counts ws known. q ∙ rw (called-done l counts ws known, e, same) refl)
+        called-begun e p q = (λ ws known. p ∙ rw (called-done ws known, e, same) refl, λ ws known. q ∙ rw (called-done ws known, e, same) refl)
 
         pub called-run : (finishes : Bool) → finishes ≡ is_finish call → is_grant call ≡ false
             → after ≡ emptied_by finishes held k → a ≡ after_of (run_on finishes reach t g site ts held k) → Leaves after a
         unfolding done_on
-        called-run finishes f e p q = (λ l counts ws known. p ∙ rw (called-done l counts ws known, e, same, f) refl, λ l counts ws known. q ∙ rw (called-done l counts ws known, e, same, f) refl)
+        called-run finishes f e p q = (λ ws known. p ∙ rw (called-done ws known, e, same, f) refl, λ ws known. q ∙ rw (called-done ws known, e, same, f) refl)
 
       -- what stands where it is done: the thread, and the places
-      pub called-room : (l : List Notification) → Counts l → (ws : List ℕ) → Known ws → HasRoom t h l site ts call
+      pub called-room : (ws : List ℕ) → Known ws → HasRoom t h counted site ts call
           → (thread_of call < t) × (places_with (log_of site) (cycle_of (thread_at ts (thread_of call)).state) (notified_by (body_of g)) ≤ 128)
       unfolding call_number_on number_on
-      called-room l counts ws known room = rw mapped (go (is_finish call) refl)
+      called-room ws known room = rw mapped (go (is_finish call) refl)
         where
           k : ℕ
           k = thread_of call
@@ -316,15 +312,15 @@ module _ (end n t : ℕ) (g h : Segment) (conflicts : ℕ → ℕ → ℕ → �
           xs : List ℕ
           xs = notified_by (body_of h)
 
-          passed : number_on end n t (notified_by (body_of g)) conflicts ws reach l (log_of site) ts k ≡ 0 → (k < t) × (places_with (log_of site) (cycle_of (thread_at ts k).state) xs ≤ 128)
+          passed : number_on end n t (notified_by (body_of g)) conflicts ws reach (log_of counted) (log_of site) ts k ≡ 0 → (k < t) × (places_with (log_of site) (cycle_of (thread_at ts k).state) xs ≤ 128)
           passed e =
-              let (c, p) = number_for→passed t end (hazard_on n t conflicts ws reach (log_of site) ts k) (floor_below t ts) (notified_by (body_of g)) l ts k e in
+              let (c, p) = number_for→passed t end (hazard_on n t conflicts ws reach (log_of site) ts k) (floor_below t ts) (notified_by (body_of g)) (log_of counted) ts k e in
               let at : cycle_of (thread_at ts k).state ≡ c = ready_cycle→cycle (thread_at ts k).state c p.ready in
-              let few = is_full_by-none (floor_below t ts) (places_with l c (notified_by (body_of g))) c p.room in
-              (p.thread, rw at (omega (arith, room.counts c xs, ap (places_with l c) mapped, few)))
+              let few = is_full_by-none (floor_below t ts) (places_with (log_of counted) c (notified_by (body_of g))) c p.room in
+              (p.thread, rw at (omega (arith, room.counts c xs, ap (places_with (log_of counted) c) mapped, few)))
 
           go : (b : Bool) → is_finish call ≡ b → (k < t) × (places_with (log_of site) (cycle_of (thread_at ts k).state) xs ≤ 128)
           go true e =
-              let (below, runs) = finish_number→running t ts k (number-finish end n t (notified_by (body_of g)) conflicts ws reach l (log_of site) ts call e ∙ (sym (same_number l counts ws known) ∙ zero)) in
+              let (below, runs) = finish_number→running t ts k (number-finish end n t (notified_by (body_of g)) conflicts ws reach (log_of counted) (log_of site) ts call e ∙ (sym (same_number ws known) ∙ zero)) in
               (below, room.running e below runs)
-          go false e = passed (number-decided end n t (notified_by (body_of g)) conflicts ws reach l (log_of site) ts call e ∙ (sym (same_number l counts ws known) ∙ zero))
+          go false e = passed (number-decided end n t (notified_by (body_of g)) conflicts ws reach (log_of counted) (log_of site) ts call e ∙ (sym (same_number ws known) ∙ zero))

@@ -88,10 +88,9 @@ done_on reach t g site ts held call =
     (record { left = running_from site ts k; held = with_held held k site.variables.at })
     (record { left = run_on (is_finish call) reach t g site ts held k; held = emptied_by (is_finish call) held k })
 
--- a call, by the log with what is counted
-unfoldable pub called_on : ℕ → ℕ → ℕ → Segment → (ℕ → ℕ → ℕ → ℕ → Bool) → List ℕ → List ℕ → List Notification → Site → List Thread → List ℕ → Call → Called
+unfoldable pub called_on : ℕ → ℕ → ℕ → Segment → (ℕ → ℕ → ℕ → ℕ → Bool) → List ℕ → List ℕ → Site → Site → List Thread → List ℕ → Call → Called
 called_on end n t g conflicts ws reach counted site ts held call =
-    called_by (call_number_on end n t (notified_by (body_of g)) conflicts ws reach counted (log_of site) ts call) site ts held
+    called_by (call_number_on end n t (notified_by (body_of g)) conflicts ws reach (log_of counted) (log_of site) ts call) site ts held
     (done_on reach t g site ts held call)
 
 -- what a call needs of the values that are held: a set for each thread, where it holds or has held any
@@ -99,12 +98,8 @@ pub record EnoughHeld (t : ℕ) (held : List ℕ) (call : Call) : Type 0 where
   pub granted : is_grant call ≡ true → held_count * t ≤ length held
   pub finished : is_finish call ≡ true → held_count * t ≤ length held
 
--- the places that the pairs of what segment g lists take with a log, at the cycle of the thread's record
-abbrev pub Takes : ℕ → Segment → List Notification → List Thread → Call → ℕ → Type 0
-Takes t g l ts call n = thread_of call < t → n ≡ places_with l (cycle_of (thread_at ts (thread_of call)).state) (notified_by (body_of g))
-
 -- What it needs of the places: that the log takes no more than are counted, and that a running thread has the places of what its segment g lists.
-pub record HasRoom (t : ℕ) (g : Segment) (counted : List Notification) (site : Site) (ts : List Thread) (call : Call) : Type 0 where
-  pub counts : (c : Cycle) (es : List ℕ) → places_with (log_of site) c es ≤ places_with counted c es
+pub record HasRoom (t : ℕ) (g : Segment) (counted site : Site) (ts : List Thread) (call : Call) : Type 0 where
+  pub counts : (c : Cycle) (es : List ℕ) → places_with (log_of site) c es ≤ places_with (log_of counted) c es
   pub running : is_finish call ≡ true → thread_of call < t → is_running (thread_at ts (thread_of call)).state ≡ true
       → places_with (log_of site) (cycle_of (thread_at ts (thread_of call)).state) (notified_by (body_of g)) ≤ places

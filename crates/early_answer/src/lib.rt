@@ -6,17 +6,17 @@ ghost use Rattle.model.specs.Statement.{notified_by};
 ghost use Rattle.model.specs.Record.{thread_at, cycle_of, is_running};
 ghost use Rattle.plain.specs.Wake.{floor_below};
 ghost use Rattle.early.specs.declared.Notification.{Notification};
-ghost use Rattle.early.specs.Log.{log_of, places_with, counted_log};
+ghost use Rattle.early.specs.Log.{log_of, places_with};
 ghost use Rattle.early.specs.Request.{is_full_by, number_ready, refused_with};
 ghost use Rattle.early.specs.Call.{held_at, with_held, running_from, finish_number};
 ghost use Rattle.early_ports.specs.Cross.{ports_in, segment_with, conflicts_on};
-ghost use Rattle.early_answer.specs.Answered.{thread_of, is_grant, is_finish, hazard_on, number_on, call_number_on, effect_from, grant_on, stored_in, effect_on, run_on, emptied_by, called_on, EnoughHeld, Takes, HasRoom};
+ghost use Rattle.early_answer.specs.Answered.{thread_of, is_grant, is_finish, hazard_on, number_on, call_number_on, effect_from, grant_on, stored_in, effect_on, run_on, emptied_by, called_on, EnoughHeld, HasRoom};
 ghost use Rattle.early_answer.specs.After.{after_of};
 ghost use Rattle.early_answer.specs.Shown.{Shows};
 
 use clock::{Bound, Cycle, Stamp, ThreadNo, Time};
 use early::{After, Answer, Call, Site};
-use model::{Model, Ran, Segment, Start, State, Thread, Threads, Variables};
+use model::{Events, Ran, Segment, Start, State, Thread, Threads, Variables};
 
 pub fn refused(number: u8, site: Site, threads: Threads) -> After
     ensures { result ≡ after_of (refused_with number site threads.at) }
@@ -28,10 +28,10 @@ pub fn refused(number: u8, site: Site, threads: Threads) -> After
     }
 }
 
-// Document 01, 15: "log plus new pairs": the places of what segment g lists, at the cycle of thread k's record; 0 where there is no such thread.
-fn places_at(t: u8, g: Segment, site: Site, threads: Threads, k: u8) -> usize
+// Document 01, 15: "log plus new pairs", with what is counted, at the cycle of thread k's record; 0 where there is no such thread.
+fn places_of(t: u8, listed: Events, counted: Site, threads: Threads, k: u8) -> usize
     requires { t ≤ 32 }
-    ensures { k < t → result ≡ places_with (log_of site) (cycle_of (thread_at threads.at k).state) (notified_by (body_of g)) }
+    ensures { k < t → result ≡ places_with (log_of counted) (cycle_of (thread_at threads.at k).state) (take listed.n listed.at) }
 {
     if t <= k {
         return 0;
@@ -40,19 +40,7 @@ fn places_at(t: u8, g: Segment, site: Site, threads: Threads, k: u8) -> usize
     let x = threads.at[i];
     let s = x.state;
     let c = model_effect::cycle_of(s);
-    early_log::places_with(site, c, model_effect::listed(g))
-}
-
-// The same with what is counted for running threads. Where none is, no model is handed on.
-pub fn places_of(m: Model, g: Segment, site: Site, threads: Threads, k: u8) -> usize
-    requires { (m.t ≤ 32) × ((j : ℕ) → j < m.t → (thread_at threads.at j).segment < 64) × (length (counted_log m threads.at (log_of site)) ≤ 128) }
-    ensures { k < m.t → result ≡ places_with (counted_log m threads.at (log_of site)) (cycle_of (thread_at threads.at k).state) (notified_by (body_of g)) }
-{
-    if early_log::any_running(threads, m.t) {
-        let counted = early_log::counted(m, site, threads);
-        return places_at(m.t, g, counted.site, threads, k);
-    }
-    places_at(m.t, g, site, threads, k)
+    early_log::places_with(counted, c, listed)
 }
 
 // Document 01, 15: "cycle later than the floor and log plus new pairs above 96; or above 128 for any thread".
@@ -434,7 +422,8 @@ fn start(site: Site, threads: Threads, held: &mut [u32], k: u8) -> After
 }
 
 // A call on a fit state, by the counts of its model, its horizon, the segment that the thread is in and the threads' ports: decided, then
-// begun or run, after mapping. Distances are read in the words, or worked out from steps in the row; `places` are those of `places_of`.
+// begun or run, after mapping. Distances are read in the words, or worked out from steps in the row; `counted` has the log with what is
+// counted.
 pub fn called(
     horizon: Time,
     n: u8,
@@ -447,18 +436,19 @@ pub fn called(
     row: &mut [u64],
     stepwise: bool,
     reach: &[u64],
-    places: usize,
+    counted: Site,
     site: Site,
     threads: Threads,
     held: &mut [u32],
     call: Call,
 ) -> After
-    requires { (t ≤ 32) × ((ws : List ℕ) × Shows n t ws stepwise words.now (length row.old) threads.at) × EnoughHeld t held.old call × ((l : List Notification) × (Takes t g l threads.at call places × HasRoom t g l site threads.at call)) }
+    requires { (t ≤ 32) × ((ws : List ℕ) × Shows n t ws stepwise words.now (length row.old) threads.at) × EnoughHeld t held.old call × HasRoom t g counted site threads.at call }
     ensures kept { length row.new ≡ length row.old }
-    ensures held { (l : List Notification) → Takes t g l threads.at call places → (ws : List ℕ) → Shows n t ws stepwise words.now (length row.old) threads.at → held.new ≡ (called_on (horizon.0 + 1) n t (segment_with (ports_in starts (thread_of call)) g) (conflicts_on marks names.now starts) ws reach.now l site threads.at held.old call).held }
-    ensures left { (l : List Notification) → Takes t g l threads.at call places → (ws : List ℕ) → Shows n t ws stepwise words.now (length row.old) threads.at → result ≡ after_of (called_on (horizon.0 + 1) n t (segment_with (ports_in starts (thread_of call)) g) (conflicts_on marks names.now starts) ws reach.now l site threads.at held.old call).left }
+    ensures held { (ws : List ℕ) → Shows n t ws stepwise words.now (length row.old) threads.at → held.new ≡ (called_on (horizon.0 + 1) n t (segment_with (ports_in starts (thread_of call)) g) (conflicts_on marks names.now starts) ws reach.now counted site threads.at held.old call).held }
+    ensures left { (ws : List ℕ) → Shows n t ws stepwise words.now (length row.old) threads.at → result ≡ after_of (called_on (horizon.0 + 1) n t (segment_with (ports_in starts (thread_of call)) g) (conflicts_on marks names.now starts) ws reach.now counted site threads.at held.old call).left }
 {
     let k = thread_of(call);
+    let places = places_of(t, model_effect::listed(g), counted, threads, k);
     let number = decide_call(
         horizon, n, t, starts, marks, names, words, row, stepwise, reach, places, site, threads,
         call,

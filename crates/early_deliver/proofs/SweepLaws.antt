@@ -1,9 +1,8 @@
 -- Deliveries as the code makes them, exit by exit.
---     is_told-.., unsettled     whether the log holds anything for a state, and no delivery without
 --     heard_by-..     what a state hears
 --     outlook-..     what the code holds of records
 --     look-.., sweep-more, settle-..     one look, and the loops
-use Prim.Native.Nat.{ℕ, zero, suc, ◌+◌, ◌<◌, ◌≤◌, ◌-◌}
+use Prim.Native.Nat.{ℕ, ◌+◌, ◌<◌, ◌≤◌, ◌-◌}
 use mathlib.Core.Path.{◌≡◌, refl, ap, sym, ◌∙◌}
 use mathlib.Core.Bool.{Bool, true, false, cond}
 use mathlib.Core.List.{List}
@@ -11,9 +10,6 @@ use native.Mathlib.Omega.{arith}
 use lib.Dec.{ltb}
 use lib.ListN.{get_or}
 use borrow.Author.Tests.{lt-ltb, le-ltb}
-use Rattle.base.specs.Index.{any_below}
-use Rattle.base.proofs.BoolLaws.{T→false, false→T}
-use Rattle.base.proofs.IndexLaws.{any_below-none}
 use Rattle.clock.specs.declared.Cycle.{Cycle}
 use Rattle.clock.specs.declared.Bound.{Bound}
 use Rattle.clock.specs.declared.Bound.TheVariants.{Never, At}
@@ -21,10 +17,10 @@ use Rattle.model.specs.declared.State.{State}
 use Rattle.model.specs.declared.Thread.{Thread}
 use Rattle.model.specs.declared.Threads.{Threads}
 use Rattle.model.specs.Record as view
-use Rattle.model.specs.Record.{no_thread, thread_at, Awaited, nothing, awaits, awaited_by, view_of}
+use Rattle.model.specs.Record.{no_thread, thread_at, nothing, awaited_by, view_of}
 use Rattle.early.specs.declared.Notification.{Notification}
 use Rattle.early.specs.Log.{least_heard}
-use Rattle.early.specs.Deliver.{Sooner, heard_by, looked_by, swept_by, sweeps_by, settled_by}
+use Rattle.early.specs.Deliver.{heard_by, looked_by, swept_by, sweeps_by}
 use Rattle.early_laws.proofs.LookLaws.{looked_by-none, looked_by-heard}
 use Rattle.early_laws.proofs.SettleLaws.{swept_by-more, sweeps_by-next, sweeps_by-still}
 use Rattle.early_limits.specs.declared.Crew.{Crew}
@@ -32,48 +28,10 @@ use Rattle.early_limits.specs.declared.Limits.{Limits}
 use Rattle.early_limits.specs.Limit.{limit_of_cycle}
 use Rattle.early_limits.specs.Ahead.{forecast_at, earliest_limits, segments_of, crew_of}
 use Rattle.early_deliver.specs.declared.Outlook.{Outlook}
-use Rattle.early_deliver.specs.Awake.{first_limits, ahead_of, sooner_at, sooner_on, is_told, outlook_of, with_woken}
+use Rattle.early_deliver.specs.Awake.{first_limits, ahead_of, sooner_at, sooner_on, outlook_of, with_woken}
 
 true-not-false : true ≡ false → ⊥
 true-not-false e = let z : ◌≡◌ {A = ℕ} 0 1 = cc in omega arith
-
--- whether the log holds anything for a state
-module _ (l : List Notification) (s : State) where
-  pub is_told-other : awaited_by s ≡ nothing → false ≡ is_told l (awaited_by s)
-  is_told-other h = rw h refl
-
-  module _ (e : ℕ) (since : Cycle) (waits : view_of s ≡ view.waits e since) where
-    pub is_told-none : least_heard l e since ≡ Never → false ≡ is_told l (awaited_by s)
-    is_told-none h = rw (waits, h) refl
-
-    pub is_told-some : (c : Cycle) → least_heard l e since ≡ At c → true ≡ is_told l (awaited_by s)
-    is_told-some c h = rw (waits, h) refl
-
--- without anything there is no delivery, whatever is looked ahead
-module _ (sooner : Sooner) (l : List Notification) where
-  untold : (is_sooner : ℕ → Bound → Bool) (a : Awaited) → is_told l a ≡ false → heard_by is_sooner l a ≡ Never
-  unfolding heard_by
-  untold is_sooner nothing e = refl
-  untold is_sooner (awaits n since) e = go (least_heard l n since) refl e
-    where
-      go : (x : Bound) → least_heard l n since ≡ x → is_told l (awaits n since) ≡ false → cond (is_sooner n (least_heard l n since)) Never (least_heard l n since) ≡ Never
-      go Never h f = rw h (same (is_sooner n Never))
-        where
-          same : (b : Bool) → cond b Never Never ≡ Never
-          same true = refl
-          same false = refl
-      go (At c) h f = absurd (true-not-false (sym (rw h refl) ∙ f))
-
-  module _ (ts : List Thread) (t : ℕ) (none : any_below t (λ k. is_told l (awaited_by (thread_at ts k).state)) ≡ false) where
-    unswept : (n : ℕ) → n ≤ t → swept_by sooner l ts n ≡ ts
-    unfolding swept_by
-    unswept zero h = refl
-    unswept (suc n) h =
-        let here = T→false _ (any_below-none t (λ k. is_told l (awaited_by (thread_at ts k).state)) (false→T _ none) n (omega arith)) in
-        ap (λ (us : List Thread). looked_by sooner l us n) (unswept n (omega arith)) ∙ looked_by-none sooner l ts n (untold (sooner ts) (awaited_by (thread_at ts n).state) here)
-
-    pub unsettled : ts ≡ settled_by sooner l t ts
-    unsettled = sym (sweeps_by-still sooner l ts t t (unswept t (omega arith)))
 
 module _ (reach : List ℕ) (t : ℕ) (l : List Notification) where
   module _ (segments xs : List ℕ) (s : State) where

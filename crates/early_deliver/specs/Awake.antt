@@ -1,5 +1,5 @@
 -- Document 01, "Early issue": what deliveries ask of the look ahead, on limits; the laws of this crate say that on a fit state it is what the forecast says.
-use Rattle.std.specs.Prelude.{ℕ, Bool, true, false, cond, List, ltb, set}
+use Rattle.std.specs.Prelude.{ℕ, Bool, cond, List, ltb, set}
 use Rattle.base.specs.Index.{tabulate}
 use Rattle.clock.specs.declared.Cycle.{Cycle}
 use Rattle.clock.specs.declared.Wait.TheVariants as wait
@@ -9,7 +9,7 @@ use Rattle.clock.specs.Wait.{wait_ends}
 use Rattle.model.specs.declared.State.{State}
 use Rattle.model.specs.declared.Thread.{Thread}
 use Rattle.model.specs.Record as view
-use Rattle.model.specs.Record.{thread_at, View, view_of, Awaited, nothing, awaits, state_after}
+use Rattle.model.specs.Record.{thread_at, View, view_of, state_after}
 use Rattle.tables.specs.Word.{all_ones}
 use Rattle.early.specs.declared.Notification.{Notification}
 use Rattle.early.specs.Log.{least_heard}
@@ -46,15 +46,6 @@ sooner_at reach t segments xs e x = ltb (forecast_at reach segments xs t e) (bou
 -- the same on records: what the deliveries of `early` ask of the look ahead
 unfoldable pub sooner_on : List ℕ → ℕ → List Notification → Sooner
 sooner_on reach t l ts = sooner_at reach t (segments_of t ts) (ahead_of reach t l ts)
-
--- whether the log holds anything for a thread that waits so: without it there is no delivery to look for
-abbrev is_there : Bound → Bool
-is_there Never = false
-is_there (At c) = true
-
-abbrev pub is_told : List Notification → Awaited → Bool
-is_told l nothing = false
-is_told l (awaits e since) = is_there (least_heard l e since)
 
 -- what the code holds of the records ts
 unfoldable pub outlook_of : List ℕ → ℕ → List Notification → List Thread → Bool → Outlook

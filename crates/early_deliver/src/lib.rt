@@ -1,15 +1,14 @@
 // Document 01, "Early issue": the floor, and deliveries on limits.
 ghost use Rattle.std.specs.Prelude.{◌<◌, ◌≤◌, ◌≡◌, true, false};
-ghost use Rattle.base.specs.Index.{any_below};
 ghost use Rattle.clock.specs.Wait.{wait_ends};
-ghost use Rattle.model.specs.Record.{thread_at, awaited_by, state_after};
+ghost use Rattle.model.specs.Record.{awaited_by, state_after};
 ghost use Rattle.plain.specs.Wake.{floor_below};
 ghost use Rattle.early.specs.Log.{log_of};
 ghost use Rattle.early.specs.Deliver.{heard_by, swept_by, settled_by};
 ghost use Rattle.early_limits.specs.Limit.{sum_of, at_most};
 ghost use Rattle.early_limits.specs.Ahead.{event_awaited, since_awaited, crew_of};
-ghost use Rattle.early_spread.specs.Spread.{log_in};
-ghost use Rattle.early_deliver.specs.Awake.{bound_limit, first_limit, first_limits, sooner_at, sooner_on, is_told, outlook_of, with_woken};
+ghost use Rattle.early_log.specs.Spread.{log_in};
+ghost use Rattle.early_deliver.specs.Awake.{bound_limit, first_limit, first_limits, sooner_at, sooner_on, outlook_of, with_woken};
 
 use clock::{Bound, Cycle, Step, Wait};
 use early::Site;
@@ -117,7 +116,7 @@ fn first_limit(
         State::Ended(_) => NEVER,
         State::Overrun(_) => NEVER,
         State::Ready(c) => early_ahead::limit_of(c),
-        State::Waiting(e, since) => one_later(bound_limit(early_spread::least_in(
+        State::Waiting(e, since) => one_later(bound_limit(early_log::least_in(
             events, times, deltas, logged, e, since,
         ))),
         State::Running(c) => early_ahead::limit_of(c),
@@ -189,7 +188,7 @@ fn heard_by(
     let State::Waiting(e, since) = s else {
         return Bound::Never;
     };
-    let Bound::At(c) = early_spread::least_in(events, times, deltas, logged, e, since) else {
+    let Bound::At(c) = early_log::least_in(events, times, deltas, logged, e, since) else {
         return Bound::Never;
     };
     if early_ahead::forecast(reach, segments, xs, t, e) < early_ahead::limit_of(c) {
@@ -278,51 +277,7 @@ fn sweep(
     }
 }
 
-// Whether the log holds anything for a thread in this state.
-fn is_told(
-    events: &[u8; 128],
-    times: &[u64; 128],
-    deltas: &[u32; 128],
-    logged: usize,
-    s: State,
-) -> bool
-    ensures { result ≡ is_told (log_in events.now times.now deltas.now logged) (awaited_by s) }
-{
-    let State::Waiting(e, since) = s else {
-        return false;
-    };
-    let Bound::At(_) = early_spread::least_in(events, times, deltas, logged, e, since) else {
-        return false;
-    };
-    true
-}
-
-// Whether it holds anything for one of the first t threads.
-fn any_told(
-    events: &[u8; 128],
-    times: &[u64; 128],
-    deltas: &[u32; 128],
-    logged: usize,
-    threads: Threads,
-    t: u8,
-) -> bool
-    requires { t ≤ 32 }
-    ensures { result ≡ any_below t (λ k. is_told (log_in events.now times.now deltas.now logged) (awaited_by (thread_at threads.at k).state)) }
-{
-    let n = buffers::wide(t);
-    let mut k = 0;
-    while k < n {
-        let x = threads.at[k];
-        let s = x.state;
-        k += 1;
-        if is_told(events, times, deltas, logged, s) {
-            return true;
-        }
-    }
-    false
-}
-
-// Document 01: "again and again until none hears anything". Where nothing is logged for any thread, none does, and nothing is looked ahead.
+// Document 01: "again and again until none hears anything".
 fn settle_below(
     reach: &[u64],
     events: &[u8; 128],
@@ -335,9 +290,6 @@ fn settle_below(
     requires { t ≤ 32 }
     ensures { result.at ≡ settled_by (sooner_on reach.now t (log_in events.now times.now deltas.now logged)) (log_in events.now times.now deltas.now logged) t threads.at }
 {
-    if !any_told(events, times, deltas, logged, threads, t) {
-        return threads;
-    }
     let n = buffers::wide(t);
     let mut o = outlook_with(reach, events, times, deltas, logged, threads, t, false);
     let mut i = 0;
@@ -374,7 +326,7 @@ pub fn outlook_of(reach: &[u64], site: Site, threads: Threads, t: u8) -> Outlook
     let mut events = [0u8; 128];
     let mut times = [0u64; 128];
     let mut deltas = [0u32; 128];
-    let logged = early_spread::spread(site, &mut events, &mut times, &mut deltas);
+    let logged = early_log::spread(site, &mut events, &mut times, &mut deltas);
     outlook_with(
         reach,
         &events,
@@ -394,6 +346,6 @@ pub fn settle(reach: &[u64], site: Site, threads: Threads, t: u8) -> Threads
     let mut events = [0u8; 128];
     let mut times = [0u64; 128];
     let mut deltas = [0u32; 128];
-    let logged = early_spread::spread(site, &mut events, &mut times, &mut deltas);
+    let logged = early_log::spread(site, &mut events, &mut times, &mut deltas);
     settle_below(reach, &events, &times, &deltas, logged, threads, few(t))
 }

@@ -4,6 +4,7 @@
 --     Moves     what is used of a call: it reads and writes the threads' records alone, and 11 comes first
 --     moved_asked, moved_back, moved-held     the answer and the state, the records that the slice is left with, and the values that are held
 --     request_of-moves, call_of-moves     by the whole table; a request is a call that holds nothing
+--     lent-short, lent-enough, held-short, held-enough     the exits of `request_of`, `request_of_rows`, `call_of` and `call_of_rows`
 use Prim.Native.Nat.{ℕ, zero, suc, ◌<◌, ◌≤◌}
 use mathlib.Core.Path.{◌≡◌, refl, ap, sym, ◌∙◌}
 use mathlib.Core.Bool.{Bool}
@@ -21,14 +22,18 @@ use Rattle.model.specs.Refusal.{accepted, unfit}
 use Rattle.model.specs.Rules.{model_fault}
 use Rattle.model_rules.proofs.RuleLaws.{model_fault-counts}
 use Rattle.early.specs.declared.Site.{Site}
+use Rattle.early.specs.declared.After.{After}
+use Rattle.early.specs.declared.Answer.TheVariants.{Refused}
 use Rattle.early.specs.declared.Call.{Call}
 use Rattle.early.specs.Request.{Requested, request_of}
 use Rattle.early.specs.Call.{Called, called_with, call_of}
 use Rattle.early_laws.proofs.AgreeLaws.{Agree}
 use Rattle.early_laws.proofs.AlikeLaws.{request_of-unread, request_of-unwritten, request_of-length, request_of-short, request_of-faulty}
 use Rattle.early_laws.proofs.CallLaws.{AlikeCalls, call_of-unread, call_of-unwritten, call_of-length, call_of-short, call_of-faulty}
-use Rattle.early_records.specs.Short.{asked_of, unless_short, called_unless_short, done_of}
-use Rattle.early_lent.specs.Moved.{taken_at, loaded, stored, no_threads, moved_of}
+use Rattle.early_answer.specs.After.{after_of}
+use Rattle.early_lent.specs.declared.Done.{Done}
+use Rattle.early_lent.specs.Answered.{asked_of}
+use Rattle.early_lent.specs.Moved.{taken_at, loaded, stored, no_threads, moved_of, unless_short, called_unless_short, done_of}
 
 pub moved_of-le : (lent t : ℕ) → (moved_of lent t ≤ lent) × (moved_of lent t ≤ 32)
 moved_of-le lent t = (omega arith, omega arith)
@@ -191,3 +196,22 @@ call_of-moves m marks ws site held call =
       short = λ ts. call_of-short m marks ws site ts held call;
       faulty = λ ts. call_of-faulty m marks ws site ts held call;
     }
+
+-- the exits of a core on a slice of so many records, of which r is asked
+module _ (m : Model) (site : Site) (before : Threads) (lent : ℕ) (r : Requested) where
+  pub lent-short : lent < m.t → ◌≡◌ {A = Done} (record { asked = record { answer = Refused unfit; site = site }; threads = before }) (done_of (unless_short m site before lent r))
+  unfolding unless_short done_of
+  lent-short h = rw (lt-ltb lent m.t h) refl
+
+  pub lent-enough : (a : After) → m.t ≤ lent → a ≡ after_of r
+      → ◌≡◌ {A = Done} (record { asked = record { answer = a.answer; site = a.site }; threads = a.threads }) (done_of (unless_short m site before lent r))
+  unfolding unless_short done_of after_of
+  lent-enough a h e = rw (le-ltb lent m.t h, e) refl
+
+-- and the values that are held after a call c
+module _ (m : Model) (site : Site) (before : Threads) (lent : ℕ) (held : List ℕ) (c : Called) where
+  pub held-short : lent < m.t → held ≡ (called_unless_short m site before lent held c).held
+  held-short h = rw (lt-ltb lent m.t h) refl
+
+  pub held-enough : (v : List ℕ) → m.t ≤ lent → v ≡ c.held → v ≡ (called_unless_short m site before lent held c).held
+  held-enough v h e = rw (le-ltb lent m.t h) e

@@ -51,16 +51,16 @@ use Rattle.model.specs.contracts.Thread as T
 use Rattle.model.proofs.Thread.TheLaws as T'
 use Rattle.model.specs.contracts.Threads as U
 use Rattle.model.proofs.Threads.TheLaws as U'
-use Rattle.early_records.specs.declared.Asked.{Asked}
-use Rattle.early_records.specs.declared.Done.{Done}
+use Rattle.early_lent.specs.declared.Asked.{Asked}
+use Rattle.early_lent.specs.declared.Done.{Done}
 use Rattle.early_lent.specs.Moved.{loaded, stored, no_threads, moved_of}
 use Rattle.early_lent.proofs.MovedLaws.{moved_of-le}
 use Rattle.early_lent.proofs.LendLaws.{Waiting, lent_out, given_back}
 use Rattle.early_lent.proofs.WalkLaws.{threads_val, carry, threads-carry, clause}
-use Rattle.early_records.specs.contracts.Asked as Ans
-use Rattle.early_records.proofs.Asked.TheLaws as Ans'
-use Rattle.early_records.specs.contracts.Done as Don
-use Rattle.early_records.proofs.Done.TheLaws as Don'
+use Rattle.early_lent.specs.contracts.Asked as Ans
+use Rattle.early_lent.proofs.Asked.TheLaws as Ans'
+use Rattle.early_lent.specs.contracts.Done as Don
+use Rattle.early_lent.proofs.Done.TheLaws as Don'
 use Rattle.early_lent.specs.contracts.moved as moved'
 use Rattle.early_lent.proofs.moved.Symbol as moved-def
 use Rattle.early_lent.proofs.moved.Symbol.{name as #early-lent·moved}

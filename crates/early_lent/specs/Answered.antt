@@ -4,8 +4,11 @@ use Rattle.model.specs.declared.Model.{Model}
 use Rattle.model.specs.declared.Thread.{Thread}
 use Rattle.early.specs.declared.Site.{Site}
 use Rattle.early.specs.Request.{Requested, request_of}
-use Rattle.early_records.specs.Short.{asked_of}
+use Rattle.early_lent.specs.declared.Asked.{Asked}
 use Rattle.early_lent.specs.declared.Lent.{Lent}
+
+abbrev pub asked_of : Requested → Asked
+asked_of r = record { answer = r.answer; site = r.site }
 
 -- beside the records that were lent stand the others
 abbrev pub lent_of : Requested → List Thread → Lent

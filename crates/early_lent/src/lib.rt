@@ -4,14 +4,25 @@ ghost use Rattle.std.specs.Prelude.{◌≡◌, ◌<◌, ◌≤◌, length, take,
 ghost use Rattle.early.specs.Request.{request_of, Answers};
 ghost use Rattle.early.specs.ByRows.{request_by_rows, LeftFree};
 ghost use Rattle.early.specs.Call.{call_of, call_by_rows};
-ghost use Rattle.early_records.specs.Short.{asked_of};
-ghost use Rattle.early_lent.specs.Answered.{lent_of, request_first};
-ghost use Rattle.early_lent.specs.Moved.{placed_at, taken_at, loaded, stored, moved_of};
+ghost use Rattle.early_lent.specs.Answered.{asked_of, lent_of, request_first};
+ghost use Rattle.early_lent.specs.Moved.{placed_at, taken_at, loaded, stored, moved_of, request_lent, rows_lent, call_lent, call_rows_lent, done_of};
 
 use clock::ThreadNo;
-use early::{Call, Site};
-use early_records::Asked;
+use early::{Answer, Call, Site};
 use model::{Model, Thread, Threads};
+
+// The answer of a request, and the state beside it; the records stand in the slice.
+#[derive(Drop)]
+pub struct Asked {
+    pub answer: Answer,
+    pub site: Site,
+}
+
+#[derive(Drop)]
+struct Done {
+    asked: Asked,
+    threads: Threads,
+}
 
 fn placed(to: Threads, i: usize, t: Thread) -> Threads
     requires { i < 32 }
@@ -62,6 +73,36 @@ fn store(ts: &mut [Thread], n: usize, from: Threads)
     }
 }
 
+// The core, on the records of a slice of so many: 11 where they are fewer than the threads.
+fn request_of(
+    m: Model,
+    marks: [[bool; 64]; 64],
+    words: &[u64],
+    site: Site,
+    before: Threads,
+    lent: usize,
+    k: ThreadNo,
+) -> Done
+    ensures { result ≡ done_of (request_lent m marks words.now site before lent k.0) }
+{
+    let t = m.t;
+    if lent < t as usize {
+        let answer = Answer::Refused(11);
+        return Done {
+            asked: Asked { answer, site },
+            threads: before,
+        };
+    }
+    let after = early_request::request(m, marks, words, site, before, k);
+    let answer = after.answer;
+    let site = after.site;
+    let threads = after.threads;
+    Done {
+        asked: Asked { answer, site },
+        threads,
+    }
+}
+
 // Document 01: "A request answers either the segment run with its cycle, or one refusal number."
 // What document 01 leaves free is as in `early_request::request`, with the laws that say so. Demand 3 speaks of a list of these calls
 // (`order-independence` of order).
@@ -80,9 +121,40 @@ pub fn request(
     let lent = threads.len();
     let n = moved(lent, m.t);
     let before = load(threads, n, model_effect::no_threads());
-    let done = early_records::request_of(m, marks, words, site, before, lent, k);
+    let done = request_of(m, marks, words, site, before, lent, k);
     store(threads, n, done.threads);
     done.asked
+}
+
+// The core by rows, on the records of a slice of so many: 11 where they are fewer than the threads.
+fn request_of_rows(
+    m: Model,
+    marks: [[bool; 64]; 64],
+    row: &mut [u64],
+    site: Site,
+    before: Threads,
+    lent: usize,
+    k: ThreadNo,
+) -> Done
+    ensures free { LeftFree row.old row.new }
+    ensures left { result ≡ done_of (rows_lent m marks (length row.old) site before lent k.0) }
+{
+    let t = m.t;
+    if t as usize > lent {
+        let answer = Answer::Refused(11);
+        return Done {
+            asked: Asked { answer, site },
+            threads: before,
+        };
+    }
+    let left = early_request::request_by_rows(m, marks, row, site, before, k);
+    let answer = left.answer;
+    let site = left.site;
+    let back = left.threads;
+    Done {
+        asked: Asked { answer, site },
+        threads: back,
+    }
 }
 
 // Document 02, slip 6: "a second entry, for reading and for requests, that takes 64 words and works out one segment's row when it is needed".
@@ -103,9 +175,42 @@ pub fn request_by_rows(
     let records = threads.len();
     let count = moved(records, m.t);
     let before = load(threads, count, model_effect::no_threads());
-    let done = early_records::request_of_rows(m, marks, row, site, before, records, k);
+    let done = request_of_rows(m, marks, row, site, before, records, k);
     store(threads, count, done.threads);
     done.asked
+}
+
+// The core of a call, on the records of a slice of so many: 11 where they are fewer than the threads.
+fn call_of(
+    m: Model,
+    marks: [[bool; 64]; 64],
+    words: &[u64],
+    site: Site,
+    before: Threads,
+    lent: usize,
+    held: &mut [u32],
+    call: Call,
+) -> Done
+    ensures left { result ≡ done_of (call_lent m marks words.now site before lent held.old call).left }
+    ensures held { held.new ≡ (call_lent m marks words.now site before lent held.old call).held }
+{
+    let t = m.t;
+    let needed = t as usize;
+    if lent < needed {
+        let answer = Answer::Refused(11);
+        return Done {
+            asked: Asked { answer, site },
+            threads: before,
+        };
+    }
+    let after = early_request::call(m, marks, words, site, before, held, call);
+    let answer = after.answer;
+    let site = after.site;
+    let ran = after.threads;
+    Done {
+        asked: Asked { answer, site },
+        threads: ran,
+    }
 }
 
 // Document 02, slip 7: "Split the request into two that answer as it does", or "as a grant and its finish at once". What a grant fixes is "kept with
@@ -126,9 +231,43 @@ pub fn call(
     let lent = threads.len();
     let n = moved(lent, m.t);
     let before = load(threads, n, model_effect::no_threads());
-    let done = early_records::call_of(m, marks, words, site, before, lent, held, call);
+    let done = call_of(m, marks, words, site, before, lent, held, call);
     store(threads, n, done.threads);
     done.asked
+}
+
+// The core of a call by rows, on the records of a slice of so many: 11 where they are fewer than the threads.
+fn call_of_rows(
+    m: Model,
+    marks: [[bool; 64]; 64],
+    row: &mut [u64],
+    site: Site,
+    before: Threads,
+    lent: usize,
+    held: &mut [u32],
+    call: Call,
+) -> Done
+    ensures free { LeftFree row.old row.new }
+    ensures left { result ≡ done_of (call_rows_lent m marks (length row.old) site before lent held.old call).left }
+    ensures held { held.new ≡ (call_rows_lent m marks (length row.old) site before lent held.old call).held }
+{
+    let t = m.t;
+    let needed = t as usize;
+    if needed > lent {
+        let answer = Answer::Refused(11);
+        return Done {
+            asked: Asked { answer, site },
+            threads: before,
+        };
+    }
+    let left = early_request::call_by_rows(m, marks, row, site, before, held, call);
+    let answer = left.answer;
+    let site = left.site;
+    let records = left.threads;
+    Done {
+        asked: Asked { answer, site },
+        threads: records,
+    }
 }
 
 // The same in 64 words, which are left free as in `request_by_rows`: 11, 16, 10, 19, then the rest.
@@ -149,7 +288,7 @@ pub fn call_by_rows(
     let lent = threads.len();
     let n = moved(lent, m.t);
     let before = load(threads, n, model_effect::no_threads());
-    let done = early_records::call_of_rows(m, marks, row, site, before, lent, held, call);
+    let done = call_of_rows(m, marks, row, site, before, lent, held, call);
     store(threads, n, done.threads);
     done.asked
 }

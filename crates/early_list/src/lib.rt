@@ -135,12 +135,11 @@ fn answer_all(
     while i < calls.len() {
         let w = calls[i];
         let call = call_at(w);
-        let k = early_answer::thread_of(call);
-        let j = early_answer::segment_of(ts, t, k);
+        let j = early_answer::segment_of(ts, t, early_answer::thread_of(call));
         let g = m.segments[j];
-        let places = early_answer::places_of(m, g, s, ts, k);
+        let counted = early_log::counted_site(m, s, ts);
         let a = early_answer::called(
-            horizon, n, t, g, starts, marks, names, words, row, stepwise, reach, places, s, ts,
+            horizon, n, t, g, starts, marks, names, words, row, stepwise, reach, counted, s, ts,
             held, call,
         );
         let answer = a.answer;

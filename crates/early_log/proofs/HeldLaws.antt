@@ -1,21 +1,23 @@
 -- One place of a log after the other: whether a pair is held, the least that is heard, what a drop leaves, what new pairs add.
-use Prim.Native.Nat.{ℕ, ◌≤◌, ◌<◌, ◌+◌, ◌-◌, min}
+use Prim.Native.Nat.{ℕ, suc, ◌≤◌, ◌<◌, ◌+◌, ◌-◌, min}
 use mathlib.Core.Path.{◌≡◌, refl, ap, sym, subst, ◌∙◌}
-use mathlib.Core.Bool.{Bool, true, false, cond, ◌||◌}
+use mathlib.Core.Bool.{Bool, true, false, cond, not, ◌||◌}
 use mathlib.Core.List.{List, [], ◌∷◌, ◌++◌}
 use native.Mathlib.Omega.{arith}
 use native.Mathlib.Numerals.{add-one}
-use lib.ListN.{length, take, get_or, set, length-take, length-append}
-use lib.Seq.{take-suc, get_or-take}
+use lib.ListN.{length, take, drop, get_or, set, length-take, length-append}
+use lib.Seq.{take-suc, drop-cons, drop-length, get_or-take}
 use borrow.Author.Tests.{eq-eqb, ne_eqb}
 use Rattle.base.proofs.BoolLaws.{T→true, true→T}
 use Rattle.clock.specs.declared.Cycle.{Cycle}
 use Rattle.clock.specs.declared.Bound.{Bound}
-use Rattle.clock.specs.declared.Bound.TheVariants.{At}
+use Rattle.clock.specs.declared.Bound.TheVariants.{Never, At}
 use Rattle.clock.specs.Cycle.{is_before, is_same}
+use Rattle.clock.specs.Advance.{least}
+use Rattle.clock.proofs.LeastLaws.{least-Never-left}
 use Rattle.early.specs.declared.Notification.{Notification}
 use Rattle.early.specs.declared.Site.{Site}
-use Rattle.early.specs.Log.{places, pair_of, log_of, is_same_pair, holds, with_pair, with_pairs, is_dropped, drop_before}
+use Rattle.early.specs.Log.{places, pair_of, log_of, is_same_pair, holds, with_pair, with_pairs, is_heard, least_heard, is_dropped, drop_before}
 use Rattle.early_laws.proofs.LogLaws.{In, is_same_pair→≡, In→holds}
 use Rattle.early_laws.proofs.OnceLaws.{with_pairs-append, get_d-In, drop_before-length}
 use Rattle.early_laws.proofs.FitLaws.{place_of}
@@ -71,6 +73,47 @@ module _ (site : Site) (size : length site.log ≡ places) where
   log_of-at i h = get_or-take site.count site.log i no_pair (omega (arith, length-take site.count site.log))
 
 -- "the least logged notification not before its wait": one notification
+module _ (e : ℕ) (since : Cycle) (x : Notification) where
+  pub is_heard-same : x.event ≡ e → not (is_before x.cycle since) ≡ is_heard e since x
+  unfolding is_heard
+  is_heard-same p = rw (eq-eqb x.event e p) refl
+
+  pub is_heard-other : (x.event ≡ e → ⊥) → false ≡ is_heard e since x
+  unfolding is_heard
+  is_heard-other p = rw (ne_eqb x.event e p) refl
+
+-- the least of all, the last place first
+pub least_heard-none : (l : List Notification) (e : ℕ) (since : Cycle) (n : ℕ) → n ≡ length l → Never ≡ least_heard (drop n l) e since
+unfolding least_heard
+least_heard-none l e since n h = rw (h, drop-length l) refl
+
+least_heard-more : (l : List Notification) (e : ℕ) (since : Cycle) (j : ℕ) (x : Notification) (b : Bound) → j < length l → get_or l j no_pair ≡ x → b ≡ least_heard (drop (suc j) l) e since → least_heard (drop j l) e since ≡ least (cond (is_heard e since x) (At x.cycle) Never) b
+unfolding least_heard
+least_heard-more l e since j x b h p r = rw (drop-cons l j no_pair h, p, r) refl
+
+module _
+    (l : List Notification)
+    (e : ℕ)
+    (since : Cycle)
+    (i : ℕ)
+    (b : Bound)
+    (x : Notification)
+    (above : 0 < i)
+    (within : i ≤ length l)
+    (here : get_or l (i - 1) no_pair ≡ x)
+    (known : b ≡ least_heard (drop i l) e since)
+  where
+    step : least_heard (drop (i - 1) l) e since ≡ least (cond (is_heard e since x) (At x.cycle) Never) b
+    step =
+        let next : i ≡ suc (i - 1) = omega arith in
+        least_heard-more l e since (i - 1) x b (omega arith) here (subst (λ (n : ℕ). b ≡ least_heard (drop n l) e since) next known)
+
+    pub least_heard-heard : (a : Bound) → is_heard e since x ≡ true → a ≡ least (At x.cycle) b → a ≡ least_heard (drop (i - 1) l) e since
+    least_heard-heard a p r = rw (step, p) r
+
+    pub least_heard-passed : is_heard e since x ≡ false → b ≡ least_heard (drop (i - 1) l) e since
+    least_heard-passed p = rw (step, p) (sym (least-Never-left b))
+
 -- a floor at a cycle
 pub is_dropped-At : {g : Bound} {f : Cycle} (x : Notification) → g ≡ At f → is_before x.cycle f ≡ is_dropped g x
 unfolding is_dropped

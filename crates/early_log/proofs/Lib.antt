@@ -1,6 +1,7 @@
 pub mod LengthLaws
 pub mod PlaceLaws
 pub mod HeldLaws
+pub mod SpreadLaws
 pub mod NotedLaws
 pub mod RunningLaws
 pub mod Edges

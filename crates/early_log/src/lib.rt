@@ -1,10 +1,11 @@
-// Document 01, "Early issue": the log, its new pairs and what is dropped.
+// Document 01, "Early issue": the log, its new pairs, what is heard of it and what is dropped.
 ghost use Rattle.std.specs.Prelude.{◌≡◌, false, ℕ, ◌<◌, ◌≤◌, min, ltb, length, take};
 ghost use Rattle.base.specs.Index.{any_below};
 ghost use Rattle.model.specs.Footprint.{has};
 ghost use Rattle.model.specs.Record.{thread_at, is_running};
-ghost use Rattle.early.specs.Log.{places, pair_of, log_of, site_of, holds, places_with, counted_log, is_dropped, drop_before};
+ghost use Rattle.early.specs.Log.{places, pair_of, log_of, site_of, holds, places_with, counted_log, least_heard, is_dropped, drop_before};
 ghost use Rattle.early_log.specs.Noted.{no_pair, noted_of};
+ghost use Rattle.early_log.specs.Spread.{log_in};
 
 use clock::{Bound, Cycle, Delta, Time};
 use early::{Notification, Site};
@@ -211,6 +212,70 @@ pub fn counted(m: Model, site: Site, threads: Threads) -> CountedLog
         full: false,
         site: s,
     }
+}
+
+// The state whose log has what is counted, where there are places for it: itself where nothing runs.
+pub fn counted_site(m: Model, site: Site, threads: Threads) -> Site
+    requires { (m.t ≤ 32) × ((j : ℕ) → j < m.t → (thread_at threads.at j).segment < 64) × (length (counted_log m threads.at (log_of site)) ≤ places) }
+    ensures { log_of result ≡ counted_log m threads.at (log_of site) }
+{
+    if any_running(threads, m.t) {
+        let c = counted(m, site, threads);
+        return c.site;
+    }
+    site
+}
+
+// The log as three rows of numbers, for those that read it often: event, time and delta of each place below the count, and how many these are.
+pub fn spread(
+    site: Site,
+    events: &mut [u8; 128],
+    times: &mut [u64; 128],
+    deltas: &mut [u32; 128],
+) -> usize
+    requires { (length events.old ≡ places) × (length times.old ≡ places) × (length deltas.old ≡ places) }
+    ensures { log_in events.new times.new deltas.new result ≡ log_of site }
+{
+    let logged = within(site.count, 128);
+    let mut i = 0;
+    while i < logged {
+        let x = site.log[i];
+        let c = x.cycle;
+        events[i] = x.event;
+        times[i] = c.time.0;
+        deltas[i] = c.delta.0;
+        i += 1;
+    }
+    logged
+}
+
+// Document 01: "the least logged notification not before its wait", of a log that is spread out.
+pub fn least_in(
+    events: &[u8; 128],
+    times: &[u64; 128],
+    deltas: &[u32; 128],
+    n: usize,
+    e: u8,
+    since: Cycle,
+) -> Bound
+    ensures { result ≡ least_heard (log_in events.now times.now deltas.now n) e since }
+{
+    let mut best = Bound::Never;
+    let mut i = buffers::least(n, 128);
+    while 0 < i {
+        i -= 1;
+        let event = events[i];
+        if event == e {
+            let c = Cycle {
+                time: Time(times[i]),
+                delta: Delta(deltas[i]),
+            };
+            if !clock::is_before(c, since) {
+                best = clock::least_of(Bound::At(c), best);
+            }
+        }
+    }
+    best
 }
 
 // Whether it is before the floor, or there is none.

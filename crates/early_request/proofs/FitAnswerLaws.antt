@@ -133,8 +133,9 @@ module _ (m : Model) (ws : List ℕ) (site : Site) (ts : List Thread) (fit : Fit
         ap (λ (z : Effect). after_of (grant_on (reach_of m ws) m.t site ts k c z)) e
         ∙ granted-is c x (λ j. settled_items m ws (log_by site c x) (closed_by ts k x) j) (closed-fit g same c thread ready before u)
 
--- a call on a fit state, by conflicts that are those of its thread, and by the log with what is counted
-module _ (m : Model) (marks : List (List Bool)) (ws : List ℕ) (site : Site) (ts : List Thread) (fit : FitState m ws (log_of site) ts) (k : ℕ) (conflicts : ℕ → ℕ → ℕ → ℕ → Bool)
+-- a call on a fit state, by conflicts that are those of its thread, and by a state whose log has what is counted
+module _ (m : Model) (marks : List (List Bool)) (ws : List ℕ) (counted site : Site) (ts : List Thread) (fit : FitState m ws (log_of site) ts) (k : ℕ)
+    (counts : log_of counted ≡ counted_log m ts (log_of site)) (conflicts : ℕ → ℕ → ℕ → ℕ → Bool)
     (agree : (r j s : ℕ) → k < m.t → r < m.n → j < m.t → s < m.n → conflicts k r j s ≡ threads_conflict m marks k r j s) where
   hazard-is : (c : Cycle) → k < m.t → ready_cycle (thread_at ts k).state ≡ At c
       → hazard_on m.n m.t conflicts ws (reach_of m ws) (log_of site) ts k c ≡ hazard m marks ws (log_of site) ts k c
@@ -142,10 +143,11 @@ module _ (m : Model) (marks : List (List Bool)) (ws : List ℕ) (site : Site) (t
   hazard-is c thread ready = rw (ahead_of-is m ws (log_of site) ts fit) (hazard-limit m ws (log_of site) ts fit marks k c thread (ready-fit fit k c thread ready) conflicts (λ r j s p q u. agree r j s thread p q u))
 
   module _ (g : Segment) (same : k < m.t → RunsAs g (segment_for m k (thread_at ts k).segment)) (held : List ℕ) where
-    number_is : number_on (end_time m) m.n m.t (notified_by (body_of g)) conflicts ws (reach_of m ws) (counted_log m ts (log_of site)) (log_of site) ts k ≡ number_in m marks ws site ts k
+    number_is : number_on (end_time m) m.n m.t (notified_by (body_of g)) conflicts ws (reach_of m ws) (log_of counted) (log_of site) ts k ≡ number_in m marks ws site ts k
     unfolding number_on number_in listed_in
     number_is =
-        number_for-same m.t (end_time m) (hazard_on m.n m.t conflicts ws (reach_of m ws) (log_of site) ts k) (floor_below m.t ts) (notified_by (body_of g)) (counted_log m ts (log_of site)) ts k
+        rw counts
+        (number_for-same m.t (end_time m) (hazard_on m.n m.t conflicts ws (reach_of m ws) (log_of site) ts k) (floor_below m.t ts) (notified_by (body_of g)) (counted_log m ts (log_of site)) ts k
         (hazard m marks ws (log_of site) ts k) (floor_of m ts) (listed_in m k (thread_at ts k).segment) ts
         (λ h. record {
           running = refl;
@@ -153,13 +155,13 @@ module _ (m : Model) (marks : List (List Bool)) (ws : List ℕ) (site : Site) (t
           hazards = λ c ready _. hazard-is c h ready;
           floors = refl;
           listed = ap notified_by (same h).0;
-        })
+        }))
 
     -- what a call leaves, as the code holds it
     abbrev Same : Called → Called → Type 0
     Same a b = (a.held ≡ b.held) × (after_of a.left ≡ after_of b.left)
 
-    both_is : Same (called_on (end_time m) m.n m.t g conflicts ws (reach_of m ws) (counted_log m ts (log_of site)) site ts held (Both k)) (call_fit m marks ws site ts held (Both k))
+    both_is : Same (called_on (end_time m) m.n m.t g conflicts ws (reach_of m ws) counted site ts held (Both k)) (call_fit m marks ws site ts held (Both k))
     unfolding called_on call_number_on done_on emptied_by call_fit request_fit answered_by number_in is_up_to_horizon
     both_is = rw number_is (go (ℕ_discrete (number_in m marks ws site ts k) 0))
       where
@@ -174,11 +176,11 @@ module _ (m : Model) (marks : List (List Bool)) (ws : List ℕ) (site : Site) (t
             let (c, p) = number_for→passed m.t (end_time m) (hazard m marks ws (log_of site) ts k) (floor_of m ts) (listed_in m k (thread_at ts k).segment) (counted_log m ts (log_of site)) ts k e in
             (rw (eq-eqb n 0 e) refl, rw (eq-eqb n 0 e) (run_is m ws site ts fit k g (same p.thread) held c p.thread p.ready p.in-time))
 
-    grant-is : Same (called_on (end_time m) m.n m.t g conflicts ws (reach_of m ws) (counted_log m ts (log_of site)) site ts held (Grant k)) (call_fit m marks ws site ts held (Grant k))
+    grant-is : Same (called_on (end_time m) m.n m.t g conflicts ws (reach_of m ws) counted site ts held (Grant k)) (call_fit m marks ws site ts held (Grant k))
     unfolding called_on call_number_on done_on call_fit
     grant-is = rw number_is (refl, refl)
 
-    finished-is : Same (called_on (end_time m) m.n m.t g conflicts ws (reach_of m ws) (counted_log m ts (log_of site)) site ts held (Finish k)) (call_fit m marks ws site ts held (Finish k))
+    finished-is : Same (called_on (end_time m) m.n m.t g conflicts ws (reach_of m ws) counted site ts held (Finish k)) (call_fit m marks ws site ts held (Finish k))
     unfolding called_on call_number_on done_on emptied_by call_fit answered_by
     finished-is = (refl, go (ℕ_discrete (finish_number m.t ts k) 0))
       where
@@ -190,14 +192,15 @@ module _ (m : Model) (marks : List (List Bool)) (ws : List ℕ) (site : Site) (t
         go (yes e) = let (below, runs) = finish_number→running m.t ts k e in rw (eq-eqb n 0 e) (finish-is m ws site ts fit k g (same below) held below runs)
 
 -- the whole call, by its thread
-called_is : (m : Model) (marks : List (List Bool)) (ws : List ℕ) (site : Site) (ts : List Thread) (fit : FitState m ws (log_of site) ts) (call : Call) (conflicts : ℕ → ℕ → ℕ → ℕ → Bool)
+called_is : (m : Model) (marks : List (List Bool)) (ws : List ℕ) (counted site : Site) (ts : List Thread) (fit : FitState m ws (log_of site) ts) (call : Call)
+    → log_of counted ≡ counted_log m ts (log_of site) → (conflicts : ℕ → ℕ → ℕ → ℕ → Bool)
     → ((r j s : ℕ) → thread_of call < m.t → r < m.n → j < m.t → s < m.n → conflicts (thread_of call) r j s ≡ threads_conflict m marks (thread_of call) r j s)
     → (g : Segment) → (thread_of call < m.t → RunsAs g (segment_for m (thread_of call) (thread_at ts (thread_of call)).segment)) → (held : List ℕ)
-    → ((called_on (end_time m) m.n m.t g conflicts ws (reach_of m ws) (counted_log m ts (log_of site)) site ts held call).held ≡ (call_fit m marks ws site ts held call).held)
-    × (after_of (called_on (end_time m) m.n m.t g conflicts ws (reach_of m ws) (counted_log m ts (log_of site)) site ts held call).left ≡ after_of (call_fit m marks ws site ts held call).left)
-called_is m marks ws site ts fit (Both k) conflicts agree g same held = both_is m marks ws site ts fit k conflicts agree g same held
-called_is m marks ws site ts fit (Grant k) conflicts agree g same held = grant-is m marks ws site ts fit k conflicts agree g same held
-called_is m marks ws site ts fit (Finish k) conflicts agree g same held = finished-is m marks ws site ts fit k conflicts agree g same held
+    → ((called_on (end_time m) m.n m.t g conflicts ws (reach_of m ws) counted site ts held call).held ≡ (call_fit m marks ws site ts held call).held)
+    × (after_of (called_on (end_time m) m.n m.t g conflicts ws (reach_of m ws) counted site ts held call).left ≡ after_of (call_fit m marks ws site ts held call).left)
+called_is m marks ws counted site ts fit (Both k) counts conflicts agree g same held = both_is m marks ws counted site ts fit k counts conflicts agree g same held
+called_is m marks ws counted site ts fit (Grant k) counts conflicts agree g same held = grant-is m marks ws counted site ts fit k counts conflicts agree g same held
+called_is m marks ws counted site ts fit (Finish k) counts conflicts agree g same held = finished-is m marks ws counted site ts fit k counts conflicts agree g same held
 
 -- a call on a state to which 11 does not apply; s is the segment that the thread is in, g what stands there
 module _ (m : Model) (marks : List (List Bool)) (ws : List ℕ) (site : Site) (ts : List Thread) (call : Call) (e : is_unfit m ws site ts ≡ false) where
@@ -224,7 +227,7 @@ module _ (m : Model) (marks : List (List Bool)) (ws : List ℕ) (site : Site) (t
       go (no h) = rw (le-ltb k m.t (omega arith)) (omega arith)
 
   module _ (s : ℕ) (g : Segment) (p : s ≡ cond (ltb k m.t) (thread_at ts k).segment 0) (count : length m.segments ≡ 64)
-      (there : g ≡ get_or m.segments s (record { closer = End; n = 0; statements = [] }))
+      (there : g ≡ get_or m.segments s (record { closer = End; n = 0; statements = [] })) (counted : Site) (counts : log_of counted ≡ counted_log m ts (log_of site))
     where
       here : k < m.t → g ≡ segment_at m (thread_at ts k).segment
       unfolding segment_at
@@ -237,11 +240,11 @@ module _ (m : Model) (marks : List (List Bool)) (ws : List ℕ) (site : Site) (t
       runs h = rw (here h) (segment_with-runs m k (thread_at ts k).segment (lacks_from-self m k (thread_at ts k).segment (fit-segment fit k h) (fit-lacks fit k h)))
 
       -- what is counted takes no fewer places than the log, and what a running thread lists is counted
-      pub room-fit : HasRoom m.t g (counted_log m ts (log_of site)) site ts call
+      pub room-fit : HasRoom m.t g counted site ts call
       unfolding listed_in
       room-fit =
           record {
-            counts = λ c es. places_with-counted m ts (log_of site) c es es (λ w t. t);
+            counts = λ c es. rw counts (places_with-counted m ts (log_of site) c es es (λ w t. t));
             running = λ f below r.
                 let lists : notified_by (body_of g) ≡ listed_in m k (thread_at ts k).segment = sym (segment_with-listed (ports_in m.starts k) g) ∙ ap notified_by (runs below).0 in
                 let n = running-counted m ts (log_of site) k (notified_by (body_of g)) below r (λ w t. subst (λ (es : List ℕ). T (has es w)) lists t) in
@@ -249,13 +252,13 @@ module _ (m : Model) (marks : List (List Bool)) (ws : List ℕ) (site : Site) (t
           }
 
       pub call-fit : (names reach : List ℕ) → names ≡ names_for m (replicate 256 0) → reach ≡ reach_of m ws → (held : List ℕ)
-          → ((called_on (end_time m) m.n m.t (segment_with (ports_in m.starts k) g) (conflicts_on marks names m.starts) ws reach (counted_log m ts (log_of site)) site ts held call).held
+          → ((called_on (end_time m) m.n m.t (segment_with (ports_in m.starts k) g) (conflicts_on marks names m.starts) ws reach counted site ts held call).held
           ≡ (call_fit m marks ws site ts held call).held)
-          × (after_of (called_on (end_time m) m.n m.t (segment_with (ports_in m.starts k) g) (conflicts_on marks names m.starts) ws reach (counted_log m ts (log_of site)) site ts held call).left
+          × (after_of (called_on (end_time m) m.n m.t (segment_with (ports_in m.starts k) g) (conflicts_on marks names m.starts) ws reach counted site ts held call).left
           ≡ after_of (call_fit m marks ws site ts held call).left)
       call-fit names reach f r held =
           rw (r, f)
-          (called_is m marks ws site ts fit call (conflicts_on marks (names_for m (replicate 256 0)) m.starts)
+          (called_is m marks ws counted site ts fit call counts (conflicts_on marks (names_for m (replicate 256 0)) m.starts)
           (λ r j s kt rn jt sn. conflicts_on-is m fit.model marks k r j s kt rn jt sn)
           (segment_with (ports_in m.starts k) g) runs held)
 

@@ -110,12 +110,11 @@ fn call_fit(
     let n = m.n;
     let horizon = m.horizon;
     let starts = m.starts;
-    let k = early_answer::thread_of(call);
-    let s = early_answer::segment_of(threads, t, k);
+    let s = early_answer::segment_of(threads, t, early_answer::thread_of(call));
     let g = m.segments[s];
-    let places = early_answer::places_of(m, g, site, threads, k);
+    let counted = early_log::counted_site(m, site, threads);
     early_answer::called(
-        horizon, n, t, g, starts, marks, &names, words, row, stepwise, &reach, places, site,
+        horizon, n, t, g, starts, marks, &names, words, row, stepwise, &reach, counted, site,
         threads, held, call,
     )
 }

@@ -216,7 +216,7 @@ fn put_words(out: &mut [u64], at: usize, words: &[u64])
     }
 }
 
-pub fn variables_into(values: Variables, out: &mut [u32])
+fn variables_into(values: Variables, out: &mut [u32])
     ensures { out.new ≡ placed_in values.at out.old }
 {
     if out.len() < 64 {

@@ -5,16 +5,15 @@
 --     statements_fault-here, statements_fault-none     the loop over statements
 --     fault_at-read, first_rest, segments_fault-asked, targets_fault-asked     what is asked of a segment
 --     both_below, not-both-below, any_start_leaves-here, any_start_leaves-end     the loop over threads
-use Prim.Native.Nat.{ℕ, zero, suc, ◌+◌, ◌<◌, ◌≤◌}
+use Prim.Native.Nat.{ℕ, zero, suc, ◌<◌, ◌≤◌}
 use mathlib.Core.Path.{◌≡◌, refl, ap, sym, ◌∙◌}
 use mathlib.Core.Bool.{Bool, true, false, not, ◌&&◌, ◌||◌}
-use native.Mathlib.Numerals.{add-one}
 use native.Mathlib.Omega.{arith}
 use native.Mathlib.Decide.{dec_lt, dec_le}
 use mathlib.Core.List.{List}
 use lib.Dec.{ltb, leb, eqb, ltb→lt}
 use lib.ListN.{length, get_or, get_or-eq_default}
-use borrow.Author.Tests.{lt-ltb, le-ltb, le-leb, lt-leb, ltb-false, leb-true}
+use borrow.Author.Tests.{lt-ltb, le-ltb, le-leb, lt-leb, ltb-false}
 use Rattle.base.specs.Index.{any_below, or_else, first_below}
 use Rattle.base.proofs.BoolLaws.{true→T, and→both}
 use Rattle.base.proofs.IndexLaws.{any_below-empty, any_below-here, or_else-none, or_else-some, first_below-zero, first_below-all, first_below-here}
@@ -130,17 +129,6 @@ module _ (m : Model) (size : length m.segments ≡ 64) where
       go true (no l) e = many true (omega arith) (rw (full l) at e)
       go false (yes l) e = rw (le-leb m.n 64 l) (rw (few l) at (sym e))
       go false (no l) e = rw (lt-leb m.n 64 (omega arith)) (many false (omega arith) (rw (full l) at e))
-
--- the first fault of the targets, one segment more, and of all where there are not too many
-pub targets-more : (m : Model) (i x y z : ℕ) → x ≡ first_below i (fault_at m true) → y ≡ fault_at m true i → z ≡ or_else x y → z ≡ first_below (i + 1) (fault_at m true)
-unfolding first_below
-targets-more m i x y z p q r = rw (add-one, ← p, ← q) r
-
-pub targets-all : (m : Model) (i x y : ℕ) → i ≡ places_used m.n → x ≡ first_below i (fault_at m true) → y ≡ unless (leb m.n 64) 4 → y ≡ 0 → x ≡ first_below m.n (fault_at m true)
-targets-all m i x y p q r z =
-    let few : m.n ≤ 64 = leb-true m.n 64 (unless-zero (leb m.n 64) 4 (λ e. omega arith) (sym r ∙ z)) in
-    let e : i ≡ m.n = omega arith in
-    rw e at q
 
 pub segments_fault-asked : (m : Model) → first_below m.n (fault_at m false) ≡ segments_fault m
 unfolding segments_fault fault_at fault_of

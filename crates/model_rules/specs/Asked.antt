@@ -1,13 +1,12 @@
 -- What the loop over the segments asks of each: its own faults or, once all are held, whether its next segments are below N.
-use Rattle.std.specs.Prelude.{ℕ, ◌≤◌, ◌<◌, min, List, Bool, true, false, not, ltb, ◌≡◌}
-use Rattle.base.specs.Index.{or_else, first_below}
+use Rattle.std.specs.Prelude.{ℕ, ◌≤◌, ◌<◌, min, List, Bool, true, false, not, ltb}
+use Rattle.base.specs.Index.{or_else}
 use Rattle.model.specs.declared.Model.{Model}
 use Rattle.model.specs.declared.Segment.{Segment}
 use Rattle.model.specs.Refusal.{wrong_count, wrong_target}
 use Rattle.model.specs.Values.{segment_at, start_at}
 use Rattle.model.specs.Rules.{unless, head_fault, segment_fault, segments_fault, counts_fault, leaves_model, targets_fault}
 use Rattle.model_reach.specs.Lacks.{HoldsLacks}
-use Rattle.model_rules.specs.declared.Faults.{Faults}
 
 unfoldable pub fault_of : ℕ → ℕ → ℕ → Bool → Segment → ℕ
 fault_of n v e false g = segment_fault v e g
@@ -17,11 +16,6 @@ fault_of n v e true g = unless (not (leaves_model n g.closer)) wrong_target
 unfoldable pub fault_at : Model → Bool → ℕ → ℕ
 fault_at m false i = or_else (unless (ltb i 64) wrong_count) (fault_of m.n m.v m.e false (segment_at m i))
 fault_at m true i = fault_of m.n m.v m.e true (segment_at m i)
-
--- the first faults of the segments of a model; that of their targets once all are held
-pub record FirstFaults (m : Model) (x : Faults) : Type 0 where
-  pub own : x.own ≡ first_below m.n (fault_at m false)
-  pub target : x.own ≡ 0 → x.target ≡ first_below m.n (fault_at m true)
 
 -- how many of the 64 places are in use
 abbrev pub places_used : ℕ → ℕ

@@ -1,20 +1,13 @@
 // Document 01, "Model file": the file rules over values, as the number of the first fault.
 ghost use Rattle.std.specs.Prelude.{◌≡◌, ℕ, ◌≤◌, ◌<◌};
-ghost use Rattle.base.specs.Index.{or_else};
+ghost use Rattle.base.specs.Index.{or_else, first_below};
 ghost use Rattle.model.specs.Refusal.{wrong_closer, wrong_name};
 ghost use Rattle.model.specs.Values.{start_at};
 ghost use Rattle.model.specs.Rules.{unless, head_fault, choice_fault, is_name, test_fault, closer_fault, op_fault, statements_fault, segment_fault, ports_fault, starts_fault, counts_fault, leaves_model, any_start_leaves, targets_fault, lack_fault, links_fault, model_fault};
-ghost use Rattle.model_rules.specs.Asked.{places_used, FirstFaults, parts_fault, Linked};
+ghost use Rattle.model_rules.specs.Asked.{fault_of, places_used, fault_at, parts_fault, Linked};
 
 use clock::Time;
 use model::{Closer, LARGEST_TIME, Model, Next, Op, Segment, Start};
-
-// The first fault of the segments' own, and the 8 of their targets, which is asked only where there is none.
-#[derive(Drop)]
-struct Faults {
-    own: u8,
-    target: u8,
-}
 
 // Number x where a rule is not kept.
 pub fn unless(kept: bool, x: u8) -> u8
@@ -138,6 +131,17 @@ fn leaves_model(n: u8, closer: Closer) -> bool
     }
 }
 
+// Of a segment, its targets' 8 or its own faults.
+fn fault_of(n: u8, v: u8, e: u8, targets: bool, g: Segment) -> u8
+    ensures { result ≡ fault_of n v e targets g }
+{
+    if targets {
+        let closer = g.closer;
+        return unless(!leaves_model(n, closer), 8);
+    }
+    segment_fault(v, e, g)
+}
+
 // How many places for segments are in use.
 fn places_used(n: u8) -> usize
     ensures { result ≡ places_used n }
@@ -148,27 +152,21 @@ fn places_used(n: u8) -> usize
     64
 }
 
-// Segment by segment, in one pass; the 65th is 4.
-fn first_faults(m: Model) -> Faults
-    ensures { FirstFaults m result }
+// Segment by segment; the 65th is 4.
+fn first_fault(m: Model, targets: bool) -> u8
+    ensures { result ≡ first_below m.n (fault_at m targets) }
 {
     let n = places_used(m.n);
-    let mut target = 0;
     let mut i = 0;
     while i < n {
         let g = m.segments[i];
-        let own = segment_fault(m.v, m.e, g);
-        if own != 0 {
-            return Faults { own, target };
+        let fault = fault_of(m.n, m.v, m.e, targets, g);
+        if fault != 0 {
+            return fault;
         }
-        let closer = g.closer;
-        target = or_else(target, unless(!leaves_model(m.n, closer), 8));
         i += 1;
     }
-    Faults {
-        own: unless(m.n <= 64, 4),
-        target,
-    }
+    unless(targets | (m.n <= 64), 4)
 }
 
 // 17 where a port is neither unused nor a variable of the model.
@@ -260,9 +258,9 @@ pub fn parts_fault(m: Model) -> u8
     if head != 0 {
         return head;
     }
-    let segments = first_faults(m);
-    if segments.own != 0 {
-        return segments.own;
+    let segments = first_fault(m, false);
+    if segments != 0 {
+        return segments;
     }
     let starts = m.starts;
     let counts = counts_fault(starts, m.n, m.t, m.v);
@@ -270,7 +268,7 @@ pub fn parts_fault(m: Model) -> u8
         return counts;
     }
     or_else(
-        segments.target,
+        first_fault(m, true),
         unless(!any_start_leaves(starts, m.n, m.t), 8),
     )
 }

@@ -199,20 +199,12 @@ module _ (bytes : List ℕ) (at last : ℕ) (c : Counts) (j : Judged bytes at la
         ∙ (end_fault-is left (rest_of (rest_of bytes at) s) c j.model j.counted (l ∙ sym (rest_of-length (rest_of bytes at) s))
         ∙ ap (λ (r : Read). r.number) (sym (judged_rest-end j.model o none e) ∙ j.reading.on))
 
-    -- the model so far is the file's
-    whole : k ≡ 4 → (judged_file bytes).number ≡ 0 → j.model ≡ (judged_file bytes).model
-    whole e z =
-        let same = sym (judged_rest-end j.model o none e) ∙ j.reading.on in
-        let is = judged_end-accepted (rest_of (rest_of bytes at) s) j.model (ap (λ (r : Read). r.number) same ∙ z) in
-        sym is ∙ ap (λ (r : Read). r.model) same
-
     -- no port was seen: 18 does not apply
     pub judged-unnamed : k ≡ 4 → (judged_file bytes).number ≡ 0 → c.named ≡ false → lack_fault (judged_file bytes).model ≡ 0
-    judged-unnamed e z u = ap lack_fault (sym (whole e z)) ∙ unnamed-lack j.model (j.counted.unnamed u)
-
-    -- its segments were counted
-    pub judged-segments : k ≡ 4 → (judged_file bytes).number ≡ 0 → c.n ≡ (judged_file bytes).model.n
-    judged-segments e z = j.counted.n ∙ ap (λ (m : Model). m.n) (whole e z)
+    judged-unnamed e z u =
+        let same = sym (judged_rest-end j.model o none e) ∙ j.reading.on in
+        let is = judged_end-accepted (rest_of (rest_of bytes at) s) j.model (ap (λ (r : Read). r.number) same ∙ z) in
+        ap lack_fault (sym (ap (λ (r : Read). r.model) same) ∙ is) ∙ unnamed-lack j.model (j.counted.unnamed u)
 
     pub judged-more : (k ≡ 4 → ⊥) → Judged bytes (at + s) k (counts_after k c (take s (rest_of bytes at)))
     judged-more n =

@@ -1,12 +1,11 @@
 -- 18 after all other numbers: a file is what it is but for 18, and then 18 where it applies.
 --     file-judged     the two together
---     number-..     the exits of `number_of`
+--     number-..     the exits of `file_number`
 --     lack-asked     18 of a model that was built
---     model-accepted, model-read     the model, and the model beside the number
---     extent-..     the exits of `extent_of`
+--     model-read     the model beside the number
 use Prim.Native.Nat.{ℕ, zero, suc, ◌<◌, ◌≤◌}
 use mathlib.Core.Path.{◌≡◌, refl, sym, ap, ◌∙◌}
-use mathlib.Core.Bool.{Bool, true, false, cond}
+use mathlib.Core.Bool.{false, cond}
 use mathlib.Core.List.{List}
 use native.Mathlib.Omega.{arith}
 use native.Mathlib.Decide.{ℕ_discrete}
@@ -100,7 +99,7 @@ accepted-judged b z = go (ℕ_discrete (judged_file b).number 0)
     go (yes e) = e
     go (no n) = sym (ap (λ (r : Read). r.number) (file-judged b ∙ lacked-refused (judged_file b) n)) ∙ z
 
--- the exits of `number_of`
+-- the exits of `file_number`
 module _ (b : List ℕ) (x : Verdict) (g : Judges b x) where
   pub number-refused : (x.number ≡ 0 → ⊥) → x.number ≡ (read_file b).number
   number-refused n = g.number ∙ ap (λ (r : Read). r.number) (sym (file-judged b ∙ lacked-refused (judged_file b) (λ z. n (g.number ∙ z))))
@@ -116,28 +115,13 @@ pub lack-asked : (b : List ℕ) (m : Model) → Builds b m → (y : ℕ) → (m.
     → y ≡ lack_fault (judged_file b).model
 lack-asked b m built y asked = asked built.segments built.threads built.firsts ∙ ap lack_fault built.model
 
--- the model of an accepted file
-pub model-accepted : (b : List ℕ) (accepted : Bool) (m : Model) → (accepted ≡ true → (read_file b).number ≡ 0) → BuildsIf accepted b m → m ≡ cond accepted (read_file b).model no_model
-model-accepted b true m ok built =
-    let judged = accepted-judged b (ok refl) in
-    (built.model refl).model ∙ model-lack b judged (number-lack b judged ∙ ok refl)
-model-accepted b false m ok built = built.none refl
-
 -- the model beside a file's number
-pub model-read : (b : List ℕ) (x : ℕ) (m : Model) → x ≡ (read_file b).number → m ≡ cond (eqb x 0) (read_file b).model no_model → m ≡ (read_file b).model
+pub model-read : (b : List ℕ) (x : ℕ) (m : Model) → x ≡ (read_file b).number → BuildsIf (eqb x 0) b m → m ≡ (read_file b).model
 model-read b x m is built = go (ℕ_discrete x 0)
   where
     go : Dec (x ≡ 0) → m ≡ (read_file b).model
-    go (yes e) = built ∙ rw (eq-eqb x 0 e) refl
-    go (no n) = built ∙ (rw (ne_eqb x 0 n) (sym (refused-zero b (λ z. n (is ∙ z)))))
-
--- the segments beside a file's number
-module _ (b : List ℕ) (x : ℕ) (is : x ≡ (read_file b).number) where
-  pub extent-refused : (x ≡ 0 → ⊥) → 0 ≡ (read_file b).model.n
-  extent-refused n = ap (λ (m : Model). m.n) (sym (refused-zero b (λ z. n (is ∙ z))))
-
-  pub extent-accepted : (v : Verdict) → Judges b v → x ≡ 0 → v.n ≡ (read_file b).model.n
-  extent-accepted v g e =
-      let z : (read_file b).number ≡ 0 = sym is ∙ e in
-      let judged = accepted-judged b z in
-      g.segments (g.number ∙ judged) ∙ ap (λ (m : Model). m.n) (model-lack b judged (number-lack b judged ∙ z))
+    go (yes e) =
+        let z : (read_file b).number ≡ 0 = sym is ∙ e in
+        let ok = accepted-judged b z in
+        (built.model (eq-eqb x 0 e)).model ∙ model-lack b ok (number-lack b ok ∙ z)
+    go (no n) = built.none (ne_eqb x 0 n) ∙ sym (refused-zero b (λ z. n (is ∙ z)))

@@ -73,11 +73,10 @@ head_of b = record { horizon = record { 0 = long_at (take 10 b) 4 }; v = byte_at
 abbrev pub no_head : List ℕ → Head
 no_head b = record { horizon = record { 0 = 0 }; v = 0; e = 0; at = length b }
 
--- a file's number but for 18; where no port is named, 18 is not to be asked; the segments of its model
+-- a file's number but for 18; where no port is named, 18 is not to be asked
 pub record Judges (b : List ℕ) (x : Verdict) : Type 0 where
   pub number : x.number ≡ (judged_file b).number
   pub unnamed : x.number ≡ 0 → x.named ≡ false → lack_fault (judged_file b).model ≡ 0
-  pub segments : x.number ≡ 0 → x.n ≡ (judged_file b).model.n
 
 -- the model of a file whose number, but for 18, is 0: few enough segments and threads, and first segments that are there
 pub record Builds (b : List ℕ) (m : Model) : Type 0 where

@@ -1,9 +1,8 @@
 // Document 01, "Model file": bytes to a model, or the first number that applies.
 ghost use Rattle.std.specs.Prelude.{◌≡◌, ◌≤◌, max, length, true, cond};
 ghost use Rattle.model.specs.Rules.{lack_fault};
-ghost use Rattle.model.specs.Values.{no_model};
 ghost use Rattle.reader.specs.File.{read_file};
-ghost use Rattle.reader_file.specs.Parts.{Room, no_counts, counts_after, end_fault, thread_from, ports_into, judged_file, head_of, no_head, Judges, BuildsIf};
+ghost use Rattle.reader_file.specs.Parts.{Room, no_counts, counts_after, end_fault, refused_with, thread_from, ports_into, judged_file, head_of, no_head, Judges, BuildsIf};
 
 use clock::Time;
 use model::{Model, Start};
@@ -19,19 +18,11 @@ struct Head {
     at: usize,
 }
 
-// A file's number but for 18, whether a segment can name a port, and how many segments there are.
+// A file's number but for 18, and whether a segment can name a port.
 #[derive(Drop)]
 struct Verdict {
     number: u8,
     named: bool,
-    n: u8,
-}
-
-// A file's number, and how many segments its model has: none beside a number.
-#[derive(Drop)]
-pub struct Extent {
-    pub number: u8,
-    pub n: u8,
 }
 
 // The greater of two numbers.
@@ -118,7 +109,6 @@ fn judge(bytes: &[u8]) -> Verdict
             return Verdict {
                 number,
                 named: false,
-                n: 0,
             };
         }
         let size = reader_record::size_of(reader_segment::word_at(b, 0));
@@ -128,7 +118,6 @@ fn judge(bytes: &[u8]) -> Verdict
             return Verdict {
                 number,
                 named: c.named,
-                n: c.n,
             };
         }
         c = counts_after(kind, c, &b[..size]);
@@ -138,7 +127,16 @@ fn judge(bytes: &[u8]) -> Verdict
     Verdict {
         number: 1,
         named: false,
-        n: 0,
+    }
+}
+
+// Document 01: "a model or marks returned by value beside the number are zero and unset".
+pub fn refused(number: u8) -> Read
+    ensures { result ≡ refused_with number }
+{
+    Read {
+        number,
+        model: model_effect::no_model(),
     }
 }
 
@@ -237,11 +235,11 @@ fn lack_number(bytes: &[u8]) -> u8
     model_rules::lack_fault(model_from(bytes, true))
 }
 
-// The number of a file that was judged but for 18. A model is built only where a port is named, for 18.
-fn number_of(bytes: &[u8], x: Verdict) -> u8
-    requires { Judges bytes.now x }
+// Document 01, "Numbers of refusal": a file's number, 0 where it is accepted. A model is built only where a port is named, for 18.
+pub fn file_number(bytes: &[u8]) -> u8
     ensures { result ≡ (read_file bytes.now).number }
 {
+    let x = judge(bytes);
     if x.number != 0 {
         return x.number;
     }
@@ -251,39 +249,11 @@ fn number_of(bytes: &[u8], x: Verdict) -> u8
     lack_number(bytes)
 }
 
-// The number and, where it is 0, how many segments there are. No model is laid down for that.
-pub fn extent_of(bytes: &[u8]) -> Extent
-    ensures { (result.number ≡ (read_file bytes.now).number) × (result.n ≡ (read_file bytes.now).model.n) }
-{
-    let x = judge(bytes);
-    let number = number_of(bytes, x);
-    if number != 0 {
-        return Extent { number, n: 0 };
-    }
-    Extent { number, n: x.n }
-}
-
-// Document 01, "Numbers of refusal": a file's number, 0 where it is accepted.
-pub fn file_number(bytes: &[u8]) -> u8
-    ensures { result ≡ (read_file bytes.now).number }
-{
-    let x = extent_of(bytes);
-    x.number
-}
-
-// The model of a file that is accepted. Document 01: "a model .. returned by value beside the number" is zero.
-pub fn model_if(bytes: &[u8], accepted: bool) -> Model
-    requires { accepted ≡ true → (read_file bytes.now).number ≡ 0 }
-    ensures { result ≡ cond accepted (read_file bytes.now).model no_model }
-{
-    model_from(bytes, accepted)
-}
-
 // Document 01, "Model file": the number, then the model where it is 0.
 pub fn read_file(bytes: &[u8]) -> Read
     ensures { result ≡ read_file bytes.now }
 {
     let number = file_number(bytes);
-    let model = model_if(bytes, number == 0);
+    let model = model_from(bytes, number == 0);
     Read { number, model }
 }

@@ -1,3 +1,2 @@
-pub mod StandLaws
 pub mod LoadLaws
 pub mod Edges

@@ -225,7 +225,7 @@ fn count_in(r: &[u8]) -> usize
 }
 
 // A record's closer, an end where its length does not fit.
-pub fn closer_in(r: &[u8]) -> Closer
+fn closer_in(r: &[u8]) -> Closer
     ensures { result ≡ closer_in r.now }
 {
     if !segment_length_fits(r.len()) {

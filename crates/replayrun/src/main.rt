@@ -3,7 +3,7 @@
 ghost use Rattle.std.specs.Prelude.{◌≤◌, length};
 ghost use Rattle.io.specs.Counts.{IsPrefixLen};
 ghost use Rattle.buffers.specs.Write.{Writes};
-ghost use Rattle.transcript_text.specs.Text.{replay_text};
+ghost use Rattle.transcript_print.specs.Text.{replay_text};
 
 use libc::{STDIN_FILENO, STDOUT_FILENO};
 
@@ -12,7 +12,7 @@ fn answer(file: &[u8], kinds: &[u8], labels: &[u64], out: &mut [u8]) -> usize
     ensures writes { Writes out.old out.new result (replay_text file.now kinds.now labels.now) }
     ensures prefix_len { IsPrefixLen result out.new }
 {
-    transcript_text::replay_text(file, kinds, labels, out)
+    transcript_print::replay_text(file, kinds, labels, out)
 }
 
 // The kinds and labels of the arguments, as far as there is room; how many. A letter, 19 digits and one byte more tell any argument.
@@ -29,8 +29,8 @@ fn read_calls(kinds: &mut [u8], labels: &mut [u64]) -> usize
             return n;
         }
         let k = os::arg(n + 1, &mut text);
-        kinds[n] = transcript_label::kind_of(&text[..k]);
-        labels[n] = transcript_label::label_of(&text[..k]);
+        kinds[n] = transcript_print::kind_of(&text[..k]);
+        labels[n] = transcript_print::label_of(&text[..k]);
         n += 1;
     }
     n

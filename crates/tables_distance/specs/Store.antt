@@ -1,4 +1,4 @@
--- How the code makes the words, one store after the other. Only the contracts of this crate and private ones of `tables_row` and `reader_load` cite this; `proofs/StoreLaws.antt` says that the words are those of `stored`.
+-- How the code makes the words, one store after the other. Only the contracts of this crate and private ones of `tables_row` cite this; `proofs/StoreLaws.antt` says that the words are those of `stored`.
 -- While the rounds run, a word at `far` or above stands for never: its time is at the cut or past it.
 use Rattle.std.specs.Prelude.{ℕ, zero, suc, ◌+◌, ◌*◌, ◌/◌, min, cond, ◌||◌, List, ltb, eqb, get_or}
 use Rattle.base.specs.Index.{store_to}

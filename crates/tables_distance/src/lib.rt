@@ -75,7 +75,7 @@ fn direct_word(g: Steps, r: usize, s: usize) -> u64
 }
 
 // Row r, which begins at place p: ways of at most one step.
-pub fn direct_row(words: &mut [u64], n: usize, r: usize, p: usize, g: Steps)
+fn direct_row(words: &mut [u64], n: usize, r: usize, p: usize, g: Steps)
     requires { p + n ≤ length words.old }
     ensures { words.new ≡ direct_to g r p words.old n }
 {
@@ -134,7 +134,7 @@ fn round(words: &mut [u64], n: usize, k: usize)
 }
 
 // A round for each place: N × N × N relaxations.
-pub fn all_rounds(words: &mut [u64], n: usize)
+fn all_rounds(words: &mut [u64], n: usize)
     requires { n * n ≤ length words.old }
     ensures { words.new ≡ rounds_to n words.old n }
 {

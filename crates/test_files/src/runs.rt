@@ -9,7 +9,7 @@ use libc::STDOUT_FILENO;
 fn answer(file: &[u8], kinds: &[u8], labels: &[u64], out: &mut [u8]) -> usize
     ensures { IsPrefixLen result out.new }
 {
-    transcript_text::replay_text(file, kinds, labels, out)
+    transcript_print::replay_text(file, kinds, labels, out)
 }
 
 // The kinds and labels of the next arguments, as far as there is room; how many.
@@ -26,8 +26,8 @@ fn read_calls(fd: i32, kinds: &mut [u8], labels: &mut [u64]) -> usize
             return n;
         }
         let k = parts::next_part(fd, &mut text);
-        kinds[n] = transcript_label::kind_of(&text[..k]);
-        labels[n] = transcript_label::label_of(&text[..k]);
+        kinds[n] = transcript_print::kind_of(&text[..k]);
+        labels[n] = transcript_print::label_of(&text[..k]);
         n += 1;
     }
     n

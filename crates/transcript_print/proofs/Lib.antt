@@ -1,1 +1,4 @@
+pub mod LabelLaws
 pub mod TranscriptLaws
+pub mod TextLaws
+pub mod Edges

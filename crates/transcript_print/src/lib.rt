@@ -1,14 +1,108 @@
-// What `replayrun` prints, as bytes in a lent buffer: the transcript of a list of calls.
+// What `replayrun` prints, as bytes in a lent buffer: the transcript of a list of calls, and that of a list on a model file.
 ghost use Rattle.std.specs.Prelude.{◌+◌, ◌*◌, ◌<◌, ◌≤◌, min, ◌≡◌, ◌∷◌, length};
 ghost use Rattle.buffers.specs.Line.{rest_of};
 ghost use Rattle.buffers.specs.Put.{Puts};
-ghost use Rattle.buffers.specs.Write.{Writes};
+ghost use Rattle.buffers.specs.Write.{placed_in, Writes};
 ghost use Rattle.early.specs.Log.{places};
+ghost use Rattle.transcript.specs.Label.{value_of, kind_of, label_of, thread_of, word_of};
 ghost use Rattle.transcript.specs.Transcript.{label_word, letter_of, done_word, printed_answer, call_line_at, call_lines, l_line, l_lines, closing_of, transcript_of, longest_transcript};
+ghost use Rattle.transcript_print.specs.Text.{call_words, replay_text};
 
 use early::{Notification, Site};
 use model::Threads;
-use transcript_label::NO_NUMBER;
+
+// Stands for an argument that is no number.
+const NO_NUMBER: u64 = 18446744073709551615;
+
+// The number that digits say.
+fn value_of(arg: &[u8]) -> u64
+    ensures { result ≡ value_of arg.now }
+{
+    if arg.len() == 0 {
+        return NO_NUMBER;
+    }
+    if 19 < arg.len() {
+        return NO_NUMBER;
+    }
+    let mut x: u64 = 0;
+    let mut i = 0;
+    while i < arg.len() {
+        let b = arg[i];
+        if b < 48 {
+            return NO_NUMBER;
+        }
+        if 57 < b {
+            return NO_NUMBER;
+        }
+        x = x * 10 + buffers::long_byte(b - 48);
+        i += 1;
+    }
+    x
+}
+
+// An argument's kind: `g` for a grant, `f` for a finish, or else `r`.
+pub fn kind_of(arg: &[u8]) -> u8
+    ensures { result ≡ kind_of arg.now }
+{
+    if arg.len() == 0 {
+        return b'r';
+    }
+    let b = arg[0];
+    if b == b'g' {
+        return b;
+    }
+    if b == b'f' {
+        return b;
+    }
+    b'r'
+}
+
+// The number in an argument, after the letter of its kind.
+pub fn label_of(arg: &[u8]) -> u64
+    ensures { result ≡ label_of arg.now }
+{
+    if kind_of(arg) == b'r' {
+        return value_of(arg);
+    }
+    value_of(&arg[1..])
+}
+
+// The thread that a label asks for.
+pub fn thread_of(label: u64) -> u8
+    ensures { result ≡ thread_of label }
+{
+    if label < 255 {
+        return label as u8;
+    }
+    255
+}
+
+// The call that a kind and a label ask for, as a word.
+fn word_of(kind: u8, label: u64) -> u16
+    ensures { result ≡ word_of kind label }
+{
+    let k = thread_of(label) as u16;
+    if kind == b'g' {
+        return 256 + k;
+    }
+    if kind == b'f' {
+        return 512 + k;
+    }
+    k
+}
+
+// The words of all calls, at the front of a buffer.
+fn fill_words(kinds: &[u8], labels: &[u64], calls: &mut [u16])
+    requires labels_in_bounds { length labels.now ≤ length kinds.now }
+    requires labels_in_bounds_2 { length labels.now ≤ length calls.old }
+    ensures { calls.new ≡ placed_in (call_words kinds.now labels.now) calls.old }
+{
+    let mut i = 0;
+    while i < labels.len() {
+        calls[i] = word_of(kinds[i], labels[i]);
+        i += 1;
+    }
+}
 
 // A space, and the label or `?`.
 fn put_label(out: &mut [u8], at: usize, label: u64) -> usize
@@ -161,4 +255,32 @@ pub fn transcript(
     let a = put_call_lines(&mut text, labels, answers);
     let n = put_closing(&mut text, a, v, t, site, threads);
     buffers::copy_in(&text[..n], out)
+}
+
+// What is printed of a file and of calls, each a kind and a label, at the front of out; how many bytes. More than 1,024 labels, or fewer
+// kinds: `refused 11`. A buffer that is too short stays, and the answer is 0; none is too short that has 112,000 bytes.
+pub fn replay_text(file: &[u8], kinds: &[u8], labels: &[u64], out: &mut [u8]) -> usize
+    ensures writes { Writes out.old out.new result (replay_text file.now kinds.now labels.now) }
+    ensures labels_len_bound { length (replay_text file.now kinds.now labels.now) ≤ longest_transcript }
+{
+    if 1024 < labels.len() {
+        return sheet_print::refusal(11, out);
+    }
+    if kinds.len() < labels.len() {
+        return sheet_print::refusal(11, out);
+    }
+    let n = labels.len();
+    let mut calls = [0u16; 1024];
+    fill_words(kinds, labels, &mut calls);
+    let mut words = [0u64; 4096];
+    let mut held = [0u32; 2048];
+    let mut answers = [0u64; 5120];
+    let r = replay::replay(file, &mut words, &mut held, &calls[..n], &mut answers);
+    if r.number != 0 {
+        return sheet_print::refusal(r.number, out);
+    }
+    let site = r.site;
+    let threads = r.threads;
+    let w = 5 * n;
+    transcript(labels, &answers[..w], r.v, r.t, site, threads, out)
 }

@@ -4,12 +4,13 @@ use crate::arguments::{Arguments, Known};
 use crate::failure::{Failure, Status};
 use crate::files;
 use crate::language::{self, Close, Text};
+use crate::meaning::meaning;
 use crate::model::Model;
 use crate::names::Names;
 use crate::resolve::resolve;
 use crate::words::{At, TextError};
 use std::io::Write;
-use teaselauger::Error;
+use teaselauger::Refused;
 
 pub const HELP: &str = "\
 teaselauger build TEXT [-o OUT]
@@ -57,16 +58,6 @@ pub fn build(path: &str) -> Result<Built, Failure> {
     of_text(source).map_err(failed)
 }
 
-/// The names of the text that a file was built of; without a text each thing is called by a letter and its number.
-pub fn names_of(text: Option<&str>, file: &[u8], model: &Model) -> Result<Names, Failure> {
-    let Some(path) = text else { return Ok(Names::canonical(model)) };
-    let built = build(path)?;
-    if built.file != file {
-        return Err(Failure::Refused(format!("{path}: the text builds another file")));
-    }
-    Ok(built.names)
-}
-
 fn not_utf8(bytes: &[u8], at: usize) -> TextError {
     let before = String::from_utf8_lossy(&bytes[..at]);
     let line = before.matches('\n').count() + 1;
@@ -79,13 +70,13 @@ pub fn of_text(source: &str) -> Result<Built, TextError> {
     let (model, names) = resolve(&text)?;
     match model.drawing().save() {
         Ok(file) => Ok(Built { file, names }),
-        Err(error) => Err(TextError { at: place(&text, &model, error), what: error.to_string() }),
+        Err(refused) => Err(TextError { at: place(&text, &model, refused), what: format!("{refused}: {}", meaning(refused.0)) }),
     }
 }
 
 // Where in the text the number of refusal belongs; its end, if nowhere else.
-fn place(text: &Text, model: &Model, error: Error) -> At {
-    let found = match error.number() {
+fn place(text: &Text, model: &Model, refused: Refused) -> At {
+    let found = match refused.0 {
         3 => text.segments.iter().find_map(|segment| segment.actions.get(32)).map(|action| action.0),
         4 => Some(out_of_range(text)),
         5 => text.segments.iter().find_map(|segment| match segment.close {
@@ -116,7 +107,7 @@ fn out_of_range(text: &Text) -> At {
 // The first thread without which the model would be accepted up to it: the library is asked for the threads up to each.
 fn lacking_port(text: &Text, model: &Model) -> Option<At> {
     let upto = |k: usize| Model { threads: model.threads[..=k].to_vec(), ..model.clone() };
-    let k = (0..model.threads.len()).find(|&k| upto(k).drawing().save() == Err(Error(18)))?;
+    let k = (0..model.threads.len()).find(|&k| upto(k).drawing().save() == Err(Refused(18)))?;
     Some(text.threads[k].name.at)
 }
 

@@ -2,10 +2,11 @@
 use crate::arguments::Arguments;
 use crate::failure::{Failure, Status};
 use crate::files::{read_model, ModelFile};
+use crate::meaning::meaning;
 use crate::model::Model;
 use crate::place::place;
 use std::io::Write;
-use teaselauger::{Drawing, Error};
+use teaselauger::{Drawing, Refused};
 
 pub const HELP: &str = "\
 teaselauger check FILE
@@ -23,18 +24,17 @@ pub fn command(arguments: &Arguments, out: &mut dyn Write) -> Result<Status, Fai
             writeln!(out, "accepted: H {horizon}, V {variables}, E {events}, N {}, T {}", segments.len(), threads.len())?;
             Ok(Status::Done)
         }
-        Err(error) => {
-            writeln!(out, "{}", report(&file, error))?;
+        Err(refused) => {
+            writeln!(out, "{}", report(&file, refused))?;
             Ok(Status::Refused)
         }
     }
 }
 
 /// The number of a refused file, its meaning and its place, in three lines; a fourth for a file of which the end was not read.
-pub fn report(file: &ModelFile, error: Error) -> String {
-    let number = error.number();
-    let found = place(&file.bytes, number).map_or("place not found".into(), |place| place.to_string());
-    let mut text = format!("refused {number}\n{}\n{found}", error.words());
+pub fn report(file: &ModelFile, refused: Refused) -> String {
+    let found = place(&file.bytes, refused.0).map_or("place not found".into(), |place| place.to_string());
+    let mut text = format!("{refused}\n{}\n{found}", meaning(refused.0));
     if file.is_longer {
         text += &format!("\nthe first {} bytes were read, as the programs do, and the file has more", file.bytes.len());
     }
@@ -45,6 +45,6 @@ pub fn report(file: &ModelFile, error: Error) -> String {
 pub fn open(path: &str, file: &ModelFile) -> Result<Model, Failure> {
     match Drawing::open(&file.bytes) {
         Ok(drawing) => Ok(Model::of(&drawing)),
-        Err(error) => Err(Failure::Refused(format!("{path}: {}", report(file, error)))),
+        Err(refused) => Err(Failure::Refused(format!("{path}: {}", report(file, refused)))),
     }
 }

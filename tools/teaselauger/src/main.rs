@@ -9,6 +9,7 @@ mod files;
 mod frames;
 mod language;
 mod layout;
+mod meaning;
 mod model;
 mod names;
 mod order;
@@ -24,7 +25,6 @@ mod steps;
 mod svg;
 mod trace;
 mod vcd;
-mod why;
 mod words;
 
 use arguments::{Arguments, Known};
@@ -40,10 +40,9 @@ teaselauger COMMAND ..
     build TEXT [-o OUT]        a text to a model file
     run FILE                   the plain run's sheet
     replay FILE CALL..         requests, grants and finishes, or by an order until nothing is ready
-    why FILE CALL.. THREAD     why a request is refused, and what stands against it
     trace FILE                 each segment with what it did: as text, for GTKWave (--vcd), as a picture (--svg)
 
-teaselauger COMMAND --help says more of each. Exit status: 0; 1 for a refused file, text or request; 2 for wrong usage; 3 for input
+teaselauger COMMAND --help says more of each. Exit status: 0; 1 for a refused file or text; 2 for wrong usage; 3 for input
 or output that failed. docs/TUTORIAL.md leads through all of them.
 ";
 
@@ -54,13 +53,12 @@ struct Command {
     run: fn(&Arguments, &mut dyn Write) -> Result<Status, Failure>,
 }
 
-const COMMANDS: [Command; 7] = [
+const COMMANDS: [Command; 6] = [
     Command { name: "check", help: check::HELP, options: &[], run: check::command },
     Command { name: "show", help: show::HELP, options: &[], run: show::command },
     Command { name: "build", help: build::HELP, options: &build::OPTIONS, run: build::command },
     Command { name: "run", help: run::HELP, options: &run::OPTIONS, run: run::command },
     Command { name: "replay", help: replay::HELP, options: &replay::OPTIONS, run: replay::command },
-    Command { name: "why", help: why::HELP, options: &why::OPTIONS, run: why::command },
     Command { name: "trace", help: trace::HELP, options: &trace::OPTIONS, run: trace::command },
 ];
 

@@ -1,8 +1,7 @@
 //! The order in which ready threads are asked.
 use crate::arguments::Arguments;
 use crate::failure::Failure;
-use crate::records::cycle;
-use teaselauger::Thread;
+use crate::records::Record;
 
 enum Way {
     Least,
@@ -46,8 +45,8 @@ impl Order {
     }
 
     /// A round of requests by the ready threads.
-    pub fn begin(&mut self, mut ready: Vec<u8>, threads: &[Thread]) {
-        let stamp = |&k: &u8| (cycle(&threads[usize::from(k)]), k);
+    pub fn begin(&mut self, mut ready: Vec<u8>, records: &[Record]) {
+        let stamp = |&k: &u8| (records[usize::from(k)].cycle, k);
         match &mut self.way {
             Way::Least => ready.sort_by_key(|k| std::cmp::Reverse(stamp(k))),
             Way::MostAhead => ready.sort_by_key(stamp),
@@ -87,12 +86,12 @@ impl Random {
 #[cfg(test)]
 mod tests {
     use super::*;
-    use teaselauger::ThreadState::Ready;
+    use crate::records::Standing;
 
     fn asked(mut order: Order) -> Vec<u8> {
         let cycles = [(5, 0), (5, 1), (0, 9), (5, 0)];
-        let threads = cycles.map(|(time, delta)| Thread { segment: 0, state: Ready, time, delta });
-        order.begin(vec![0, 1, 2, 3], &threads);
+        let records = cycles.map(|cycle| Record { segment: 0, standing: Standing::Ready, cycle });
+        order.begin(vec![0, 1, 2, 3], &records);
         std::iter::from_fn(|| order.next()).collect()
     }
 

@@ -2,11 +2,12 @@
 use crate::arguments::{Arguments, Known};
 use crate::failure::{Failure, Status};
 use crate::files::read_model;
+use crate::model::Model;
 use crate::order::Order;
-use crate::player::Player;
+use crate::player::{Granted, Player};
 use crate::records::log_lines;
 use std::io::Write;
-use teaselauger::{Call, Site};
+use teaselauger::{Call, Drawing};
 
 pub const HELP: &str = "\
 teaselauger replay FILE CALL.. [--stats] [--most N]
@@ -42,14 +43,15 @@ pub fn command(arguments: &Arguments, out: &mut dyn Write) -> Result<Status, Fai
         _ => {}
     }
     let file = read_model(path)?;
-    let site = match Site::new(&file.bytes) {
-        Ok(site) => site,
-        Err(error) => {
-            writeln!(out, "refused {}", error.number())?;
+    let drawing = match Drawing::open(&file.bytes) {
+        Ok(drawing) => drawing,
+        Err(refused) => {
+            writeln!(out, "{refused}")?;
             return Ok(Status::Refused);
         }
     };
-    let mut player = Player::new(&site);
+    let model = Model::of(&drawing);
+    let mut player = Player::new(&file.bytes, &model)?;
     let (ending, right) = match order {
         None => list(&mut player, &calls, most, out)?,
         Some(order) => by_order(&mut player, order, most, arguments.has("--quiet"), out)?,
@@ -62,14 +64,14 @@ pub fn command(arguments: &Arguments, out: &mut dyn Write) -> Result<Status, Fai
 }
 
 /// A call as it was given: its letter, its thread's number, which may be any, and the call.
-pub struct Asked {
+struct Asked {
     letter: char,
     label: u64,
-    pub call: Call,
+    call: Call,
 }
 
 // A thread that no model has stands for every number above 255.
-pub fn asked(text: &str) -> Result<Asked, Failure> {
+fn asked(text: &str) -> Result<Asked, Failure> {
     let (letter, digits) = match text.as_bytes().first() {
         Some(b'g') => ('g', &text[1..]),
         Some(b'f') => ('f', &text[1..]),
@@ -88,23 +90,33 @@ pub fn asked(text: &str) -> Result<Asked, Failure> {
     Ok(Asked { letter, label, call })
 }
 
+fn answer_line(letter: char, label: u64, answer: &Result<Granted, u8>) -> String {
+    match answer {
+        Ok(Granted { grant, .. }) => {
+            let word = if letter == 'f' { "finished" } else { "granted" };
+            format!("{letter} {label} {word} {} {} {}", grant.segment, grant.time, grant.delta)
+        }
+        Err(number) => format!("{letter} {label} refused {number}"),
+    }
+}
+
 fn list(player: &mut Player, calls: &[Asked], most: u64, out: &mut dyn Write) -> Result<(String, bool), Failure> {
     for Asked { letter, label, call } in calls.iter().take(usize::try_from(most).unwrap_or(usize::MAX)) {
-        let (answer, _) = player.call(*call);
-        writeln!(out, "{letter} {label} {answer}")?;
+        let answer = player.call(*call);
+        writeln!(out, "{}", answer_line(*letter, *label, &answer))?;
     }
-    write!(out, "{}{}", player.state, log_lines(&player.state))?;
+    write!(out, "{}{}", player.site_lines(), log_lines(&player.state))?;
     let left = calls.len() as u64 - player.counts.calls;
     Ok((if left == 0 { String::new() } else { format!("stopped after {most} calls (--most); calls not made: {left}\n") }, true))
 }
 
 fn by_order(player: &mut Player, mut order: Order, most: u64, quiet: bool, out: &mut dyn Write) -> Result<(String, bool), Failure> {
-    let end = player.play(&mut order, most, |_, thread, answer, _| {
+    let end = player.play(&mut order, most, |_, thread, answer| {
         if !quiet {
-            writeln!(out, "r {thread} {answer}")?;
+            writeln!(out, "{}", answer_line('r', thread.into(), &answer))?;
         }
         Ok(())
     })?;
-    write!(out, "{}{}", player.state, log_lines(&player.state))?;
+    write!(out, "{}{}", player.site_lines(), log_lines(&player.state))?;
     Ok(player.ending(end))
 }

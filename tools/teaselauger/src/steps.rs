@@ -4,8 +4,7 @@ use crate::failure::Failure;
 use crate::model::{Closer, Model};
 use crate::order::Order;
 use crate::player::{Granted, Player};
-use crate::records::{cycle, Cycle};
-use teaselauger::{Site, Thread, ThreadState};
+use crate::records::{logged, Cycle, Record, Standing};
 
 /// A thread that hears an event, and the cycle in which that was notified.
 #[derive(Clone, Copy, Debug, PartialEq, Eq)]
@@ -31,7 +30,7 @@ pub struct Step {
     /// What threads hear by this grant, this thread perhaps among them.
     pub heard: Vec<Heard>,
     /// The thread's record after it.
-    pub after: Thread,
+    pub after: Record,
     /// Places of the log in use after it.
     pub log: usize,
 }
@@ -46,17 +45,16 @@ pub struct Run {
 
 /// The run of a site by an order, at most so many requests.
 pub fn run(file: &[u8], model: &Model, mut order: Order, most: u64) -> Result<Run, Failure> {
-    let site = Site::new(file).map_err(|error| Failure::Refused(error.to_string()))?;
-    let mut player = Player::new(&site);
+    let mut player = Player::new(file, model)?;
     let mut steps = Vec::new();
-    let (mut variables, mut threads) = (*player.state.variables(), player.threads.clone());
-    let end = player.play(&mut order, most, |player, _, _, granted| {
-        if let Some(granted) = granted {
+    let (mut variables, mut records) = (*player.state.variables(), player.records.clone());
+    let end = player.play(&mut order, most, |player, _, answer| {
+        if let Ok(granted) = answer {
             let now = *player.state.variables();
             let changed = (0..now.len()).filter(|&i| now[i] != variables[i]).map(|i| (i, now[i])).collect();
-            let heard = heard(model, &granted, &threads, &player.threads);
+            let heard = heard(model, &granted, &records, &player.records);
             steps.push(step(steps.len() + 1, &granted, changed, heard, player));
-            (variables, threads) = (now, player.threads.clone());
+            (variables, records) = (now, player.records.clone());
         }
         Ok(())
     })?;
@@ -70,30 +68,30 @@ fn step(number: usize, granted: &Granted, changed: Vec<(usize, u32)>, heard: Vec
         number,
         thread: usize::from(*thread),
         segment: usize::from(grant.segment),
-        cycle: (grant.time, grant.delta),
+        cycle: (grant.time, u64::from(grant.delta)),
         early: *early,
         changed,
         heard,
-        after: player.threads[usize::from(*thread)],
-        log: player.state.notifications().count(),
+        after: player.records[usize::from(*thread)],
+        log: logged(&player.state),
     }
 }
 
 // Who waited and does not wait any more. The granted thread waits first, if its closer says so.
-fn heard(model: &Model, granted: &Granted, before: &[Thread], after: &[Thread]) -> Vec<Heard> {
-    let waited = |k: usize| match (k == usize::from(granted.thread), before[k].state) {
+fn heard(model: &Model, granted: &Granted, before: &[Record], after: &[Record]) -> Vec<Heard> {
+    let waited = |k: usize| match (k == usize::from(granted.thread), before[k].standing) {
         (true, _) => match model.segments[usize::from(granted.grant.segment)].closer {
             Closer::Event { event, .. } => Some(event),
             _ => None,
         },
-        (false, ThreadState::Waiting(event)) => Some(event.into()),
+        (false, Standing::Waiting(event)) => Some(event),
         (false, _) => None,
     };
     let hears = |k: usize| {
-        let (event, (time, delta)) = (waited(k)?, cycle(&after[k]));
-        match after[k].state {
-            ThreadState::Ready => Some(Heard { thread: k, event, of: (time, delta.saturating_sub(1)), overrun: false }),
-            ThreadState::Overrun => Some(Heard { thread: k, event, of: (time, delta), overrun: true }),
+        let (event, (time, delta)) = (waited(k)?, after[k].cycle);
+        match after[k].standing {
+            Standing::Ready => Some(Heard { thread: k, event, of: (time, delta.saturating_sub(1)), overrun: false }),
+            Standing::Overrun => Some(Heard { thread: k, event, of: (time, delta), overrun: true }),
             _ => None,
         }
     };

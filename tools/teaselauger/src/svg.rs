@@ -4,11 +4,10 @@ use crate::layout::{Layout, BOX, LANE, MARGIN, SMALL, TEXT};
 use crate::model::{Closer, Model};
 use crate::names::Names;
 use crate::picture::{text_width, Picture};
-use crate::records::Cycle;
+use crate::records::{Cycle, Standing};
 use crate::steps::{Run, Step};
 use crate::trace::{cycle_text, pieces};
 use std::collections::BTreeMap;
-use teaselauger::ThreadState;
 
 /// The colours of lanes, segments and lines.
 const STYLE: &str = "\
@@ -145,8 +144,8 @@ impl View<'_> {
     fn after(&self, picture: &mut Picture, step: &Step, x: f64) -> Option<(f64, &'static str)> {
         let y = self.layout.middle(step.thread);
         let class = self.class(step);
-        match (class, step.after.state) {
-            (None, ThreadState::Ended) => picture.rect("stop", (x + 2.0, y - 4.0), (4.0, 8.0)),
+        match (class, step.after.standing) {
+            (None, Standing::Ended) => picture.rect("stop", (x + 2.0, y - 4.0), (4.0, 8.0)),
             (None, _) => picture.cross("overrun", (x + 5.0, y)),
             _ => {}
         }
@@ -157,7 +156,7 @@ impl View<'_> {
     fn class(&self, step: &Step) -> Option<&'static str> {
         match self.model.segments[step.segment].closer {
             Closer::End => None,
-            Closer::Time { .. } if step.after.state == ThreadState::Overrun => None,
+            Closer::Time { .. } if step.after.standing == Standing::Overrun => None,
             Closer::Time { .. } => Some("wait"),
             Closer::Event { .. } => Some("event"),
         }

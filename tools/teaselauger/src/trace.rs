@@ -1,18 +1,17 @@
 //! `trace`: each granted segment with what it did, as lines, as a VCD file or as a picture.
 use crate::arguments::{Arguments, Known};
-use crate::build::names_of;
+use crate::build::build;
 use crate::check::open;
 use crate::failure::{Failure, Status};
 use crate::files::{read_model, write};
 use crate::model::Model;
 use crate::names::Names;
 use crate::order::Order;
-use crate::records::{cycle, Cycle};
+use crate::records::{Cycle, Record, Standing};
 use crate::replay::MOST;
 use crate::steps::{run, Run, Step};
 use crate::{svg, vcd};
 use std::io::Write;
-use teaselauger::{Thread, ThreadState};
 
 pub const HELP: &str = "\
 teaselauger trace FILE [--order least|most-ahead|random] [--seed S] [--most N] [--names TEXT]
@@ -57,7 +56,7 @@ pub fn command(arguments: &Arguments, out: &mut dyn Write) -> Result<Status, Fai
     one_at_a_time(path, arguments)?;
     let file = read_model(path)?;
     let model = open(path, &file)?;
-    let names = names_of(arguments.value("--names"), &file.bytes, &model)?;
+    let names = names(arguments.value("--names"), &file.bytes, &model)?;
     let run = run(&file.bytes, &model, order, most)?;
     let title = title(path, arguments);
     if let Some(to) = arguments.value("--vcd") {
@@ -95,6 +94,15 @@ fn title(path: &str, arguments: &Arguments) -> String {
     format!("{name}, order {}{seed}", arguments.value("--order").unwrap_or("least"))
 }
 
+fn names(text: Option<&str>, file: &[u8], model: &Model) -> Result<Names, Failure> {
+    let Some(path) = text else { return Ok(Names::canonical(model)) };
+    let built = build(path)?;
+    if built.file != file {
+        return Err(Failure::Refused(format!("{path}: the text builds another file")));
+    }
+    Ok(built.names)
+}
+
 fn lines(model: &Model, names: &Names, run: &Run, out: &mut dyn Write) -> Result<(), Failure> {
     for step in &run.steps {
         writeln!(out, "{}", line(model, names, step))?;
@@ -125,13 +133,13 @@ fn line(model: &Model, names: &Names, step: &Step) -> String {
     format!("{} {cycle} {thread} {segment}{early}: {}", step.number, all.join("; "))
 }
 
-fn then(names: &Names, after: &Thread) -> String {
-    match after.state {
-        ThreadState::Ended => "ended".into(),
-        ThreadState::Overrun => "overrun".into(),
-        ThreadState::Waiting(event) => format!("waits for {}", names.events[usize::from(event)]),
-        ThreadState::Ready | ThreadState::Running => {
-            format!("then {} at {}", names.segments[usize::from(after.segment)], cycle_text(cycle(after)))
+fn then(names: &Names, after: &Record) -> String {
+    match after.standing {
+        Standing::Ended => "ended".into(),
+        Standing::Overrun => "overrun".into(),
+        Standing::Waiting(event) => format!("waits for {}", names.events[event as usize]),
+        Standing::Ready | Standing::Running => {
+            format!("then {} at {}", names.segments[after.segment as usize], cycle_text(after.cycle))
         }
     }
 }

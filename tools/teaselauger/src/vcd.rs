@@ -1,9 +1,8 @@
 //! A run as a value change dump (IEEE 1364), in the order of the site's own time: by stamps, whatever the order of the grants.
 use crate::model::{Closer, Model};
 use crate::names::Names;
-use crate::records::Cycle;
+use crate::records::{Cycle, Standing};
 use crate::steps::{Run, Step};
-use teaselauger::ThreadState;
 
 const UNIT: u64 = 1_000_000;
 const DELTA: u64 = 100;
@@ -27,7 +26,7 @@ struct Change {
 }
 
 fn tick((time, delta): Cycle, place: u64) -> u64 {
-    time * UNIT + u64::from(delta) * DELTA + place
+    time * UNIT + delta * DELTA + place
 }
 
 /// The code of a signal, by its number.
@@ -136,10 +135,10 @@ fn changes(model: &Model, names: &Names, signals: &Signals, steps: &[Step]) -> V
 
 // What the thread does when its segment has ended. Where it waits for an event that is told later, at the end of a cycle.
 fn state(model: &Model, names: &Names, step: &Step) -> String {
-    match (&model.segments[step.segment].closer, step.after.state) {
+    match (&model.segments[step.segment].closer, step.after.standing) {
         (Closer::Event { event, .. }, _) => format!("waits_{}", names.events[*event as usize]),
         (Closer::End, _) => "ended".into(),
-        (Closer::Time { .. }, ThreadState::Overrun) => "overrun".into(),
+        (Closer::Time { .. }, Standing::Overrun) => "overrun".into(),
         (Closer::Time { .. }, _) => "ready".into(),
     }
 }

@@ -3,7 +3,7 @@ use Prim.Native.Nat.{◌≤◌, ◌-◌}
 use mathlib.Core.Path.{◌≡◌}
 use native.Mathlib.Omega.{arith}
 use borrow.Author.Rules.{rules}
-use Rattle.early_spread.specs.Spread.{log_in}
+use Rattle.early_log.specs.Spread.{log_in}
 use Rattle.early_deliver.specs.Awake.{first_limits}
 use Rattle.early_deliver.proofs.CrewLaws.{limits-none, limits-more}
 use Rattle.early_deliver.proofs.first_limits.Statement.{statement}

@@ -3,7 +3,7 @@ use mathlib.Core.Path.{ap, sym, ◌∙◌}
 use native.Mathlib.Omega.{arith}
 use borrow.Author.Rules.{rules}
 use Rattle.model.specs.Record.{view_of}
-use Rattle.early_spread.specs.Spread.{log_in}
+use Rattle.early_log.specs.Spread.{log_in}
 use Rattle.early_deliver.proofs.VariantLaws.{awaited_by-other}
 use Rattle.early_deliver.proofs.SweepLaws.{heard_by-other, heard_by-none, heard_by-sooner, heard_by-now}
 use Rattle.early_deliver.proofs.heard_by.Statement.{statement}

@@ -1,6 +1,6 @@
 -- `early_deliver::outlook_with` meets its contract.
 use borrow.Author.Rules.{rules}
-use Rattle.early_spread.specs.Spread.{log_in}
+use Rattle.early_log.specs.Spread.{log_in}
 use Rattle.early_deliver.proofs.SweepLaws.{outlook-made}
 use Rattle.early_deliver.proofs.outlook_with.Statement.{statement}
 use Rattle.early_deliver.proofs.outlook_with.Tie as tie

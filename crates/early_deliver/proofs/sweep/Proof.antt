@@ -9,7 +9,7 @@ use Rattle.model.specs.declared.Threads.{Threads}
 use Rattle.early.specs.Deliver.{swept_by}
 use Rattle.early_laws.proofs.SettleLaws.{swept_by-none}
 use Rattle.early_limits.specs.declared.Limits.{Limits}
-use Rattle.early_spread.specs.Spread.{log_in}
+use Rattle.early_log.specs.Spread.{log_in}
 use Rattle.early_deliver.specs.declared.Outlook.{Outlook}
 use Rattle.early_deliver.specs.Awake.{sooner_on, outlook_of}
 use Rattle.early_deliver.proofs.SweepLaws.{outlook-own, outlook-begun, look_none, look-woken, look-heard, sweep-more}

@@ -4,7 +4,7 @@ use mathlib.Core.Bool.{true}
 use lib.ListN.{set}
 use borrow.Author.Rules.{rules}
 use Rattle.model.specs.Record.{thread_at}
-use Rattle.early_spread.specs.Spread.{log_in}
+use Rattle.early_log.specs.Spread.{log_in}
 use Rattle.early_deliver.specs.Awake.{outlook_of}
 use Rattle.early_deliver.proofs.wake.Statement.{statement}
 use Rattle.early_deliver.proofs.wake.Tie as tie

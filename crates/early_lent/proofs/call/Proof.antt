@@ -57,19 +57,18 @@ use Rattle.early.specs.contracts.Site as Sit
 use Rattle.early.proofs.Site.TheLaws as Sit'
 use Rattle.early.specs.contracts.Call as Cal
 use Rattle.early.proofs.Call.TheLaws as Cal'
-use Rattle.early_records.specs.declared.Done.{Done}
-use Rattle.early_records.specs.Short.{call_lent, done_of}
-use Rattle.early_lent.specs.Moved.{loaded, stored, no_threads, moved_of}
+use Rattle.early_lent.specs.declared.Done.{Done}
+use Rattle.early_lent.specs.Moved.{loaded, stored, no_threads, moved_of, call_lent, done_of}
 use Rattle.early_lent.proofs.MovedLaws.{Moves, moved_asked, moved_back, moved-held, call_of-moves}
 use Rattle.early_lent.proofs.WalkLaws.{threads_val}
 use Rattle.early_lent.proofs.RequestWalk.{asked_val, model_ty, model_val, past_counts, done_ty, Stands, stands, records_ty, Again, Known, knows, gives_up, loads, stores}
-use Rattle.early_records.specs.contracts.Asked as Ans
-use Rattle.early_records.proofs.Asked.TheLaws as Ans'
-use Rattle.early_records.specs.contracts.Done as Don
-use Rattle.early_records.specs.contracts.call_of as ask'
-use Rattle.early_records.proofs.call_of.Symbol as ask-def
-use Rattle.early_records.proofs.call_of.Symbol.{name as #early-records·call-of}
-use Rattle.early_records.proofs.call_of.Met as ask-thm
+use Rattle.early_lent.specs.contracts.Asked as Ans
+use Rattle.early_lent.proofs.Asked.TheLaws as Ans'
+use Rattle.early_lent.specs.contracts.Done as Don
+use Rattle.early_lent.specs.contracts.call_of as ask'
+use Rattle.early_lent.proofs.call_of.Symbol as ask-def
+use Rattle.early_lent.proofs.call_of.Symbol.{name as #early-lent·call-of}
+use Rattle.early_lent.proofs.call_of.Met as ask-thm
 use Rattle.early_lent.specs.contracts.call.Key.{name as #early-lent·call}
 use Rattle.early_lent.specs.contracts.call as called
 use Rattle.early_lent.proofs.call.Statement as stated
@@ -100,7 +99,7 @@ module _ {M : Type 1} {𝓤 : Ura M} (𝓛 : Logic 𝓤) (mem : Memory → SProp
   -- that the callees Meet their contracts
   record Callees (C : Calls 𝓤 H) : Type 2 where
     moves : Known 𝓛 mem run C
-    ask : Triple 𝓤 (C #early-records·call-of) Ask
+    ask : Triple 𝓤 (C #early-lent·call-of) Ask
 
 module _ {M : Type 1} {𝓤 : Ura M} (𝓛 : Logic 𝓤) (mem : Memory → SProp 𝓤) (run : Routine → Fun 𝓤)
     (κ κ' κ'' : Lft) (q q' q'' : Share) (m : Model) (marks : List (List Bool)) (ds : MutBor (List ℕ)) (site : Site) (b o : ℕ) (γ : GName) (ts : List Thread) (hs : MutBor (List ℕ)) (call : Call)
@@ -311,5 +310,5 @@ call_spec 𝓤 𝓛 𝓜 𝓡 =
     (called-meets 𝓛 𝓜.mem 𝓡.run (tables_of 𝓤 𝓛.H 𝓜 (tables 𝓤 𝓛.H 𝓜 𝓡 code.env))
     (record {
       moves = knows 𝓛 𝓜 𝓡 code.env code.calls-early-lent::moved code.calls-model-effect::no-threads code.calls-early-lent::load code.calls-early-lent::store;
-      ask = cited 𝓤 𝓛.H (Ask 𝓛 𝓜.mem 𝓡.run) 𝓜 𝓡 code.env #early-records·call-of ask-def.routine code.calls-early-records::call-of (ask-thm.met 𝓤 𝓛 𝓜 𝓡);
+      ask = cited 𝓤 𝓛.H (Ask 𝓛 𝓜.mem 𝓡.run) 𝓜 𝓡 code.env #early-lent·call-of ask-def.routine code.calls-early-lent::call-of (ask-thm.met 𝓤 𝓛 𝓜 𝓡);
     }))

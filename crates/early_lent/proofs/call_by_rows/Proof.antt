@@ -58,20 +58,19 @@ use Rattle.early.specs.contracts.Site as Sit
 use Rattle.early.proofs.Site.TheLaws as Sit'
 use Rattle.early.specs.contracts.Call as Cal
 use Rattle.early.proofs.Call.TheLaws as Cal'
-use Rattle.early_records.specs.declared.Done.{Done}
-use Rattle.early_records.specs.Short.{call_rows_lent, done_of}
-use Rattle.early_lent.specs.Moved.{loaded, stored, no_threads, moved_of}
+use Rattle.early_lent.specs.declared.Done.{Done}
+use Rattle.early_lent.specs.Moved.{loaded, stored, no_threads, moved_of, call_rows_lent, done_of}
 use Rattle.early_lent.proofs.MovedLaws.{Moves, moved_asked, moved_back, moved-held}
 use Rattle.early_lent.proofs.RowsLaws.{call_by_rows-moves}
 use Rattle.early_lent.proofs.WalkLaws.{threads_val}
 use Rattle.early_lent.proofs.RequestWalk.{asked_val, model_ty, model_val, past_counts, done_ty, Stands, stands, records_ty, Again, Known, knows, gives_up, loads, stores}
-use Rattle.early_records.specs.contracts.Asked as Ans
-use Rattle.early_records.proofs.Asked.TheLaws as Ans'
-use Rattle.early_records.specs.contracts.Done as Don
-use Rattle.early_records.specs.contracts.call_of_rows as ask'
-use Rattle.early_records.proofs.call_of_rows.Symbol as ask-def
-use Rattle.early_records.proofs.call_of_rows.Symbol.{name as #early-records·call-of-rows}
-use Rattle.early_records.proofs.call_of_rows.Met as ask-thm
+use Rattle.early_lent.specs.contracts.Asked as Ans
+use Rattle.early_lent.proofs.Asked.TheLaws as Ans'
+use Rattle.early_lent.specs.contracts.Done as Don
+use Rattle.early_lent.specs.contracts.call_of_rows as ask'
+use Rattle.early_lent.proofs.call_of_rows.Symbol as ask-def
+use Rattle.early_lent.proofs.call_of_rows.Symbol.{name as #early-lent·call-of-rows}
+use Rattle.early_lent.proofs.call_of_rows.Met as ask-thm
 use Rattle.early_lent.specs.contracts.call_by_rows.Key.{name as #early-lent·call-by-rows}
 use Rattle.early_lent.specs.contracts.call_by_rows as rows
 use Rattle.early_lent.proofs.call_by_rows.Statement as stated
@@ -102,7 +101,7 @@ module _ {M : Type 1} {𝓤 : Ura M} (𝓛 : Logic 𝓤) (mem : Memory → SProp
   -- that the callees Meet their contracts
   record Callees (C : Calls 𝓤 H) : Type 2 where
     moves : Known 𝓛 mem run C
-    ask : Triple 𝓤 (C #early-records·call-of-rows) Ask
+    ask : Triple 𝓤 (C #early-lent·call-of-rows) Ask
 
 module _ {M : Type 1} {𝓤 : Ura M} (𝓛 : Logic 𝓤) (mem : Memory → SProp 𝓤) (run : Routine → Fun 𝓤)
     (κ κ' κ'' : Lft) (q q' q'' : Share) (m : Model) (marks : List (List Bool)) (rs : MutBor (List ℕ)) (site : Site) (b o : ℕ) (γ : GName) (ts : List Thread) (hs : MutBor (List ℕ)) (call : Call)
@@ -318,5 +317,5 @@ call_by_rows_spec 𝓤 𝓛 𝓜 𝓡 =
     (rows-meets 𝓛 𝓜.mem 𝓡.run (tables_of 𝓤 𝓛.H 𝓜 (tables 𝓤 𝓛.H 𝓜 𝓡 code.env))
     (record {
       moves = knows 𝓛 𝓜 𝓡 code.env code.calls-early-lent::moved code.calls-model-effect::no-threads code.calls-early-lent::load code.calls-early-lent::store;
-      ask = cited 𝓤 𝓛.H (Ask 𝓛 𝓜.mem 𝓡.run) 𝓜 𝓡 code.env #early-records·call-of-rows ask-def.routine code.calls-early-records::call-of-rows (ask-thm.met 𝓤 𝓛 𝓜 𝓡);
+      ask = cited 𝓤 𝓛.H (Ask 𝓛 𝓜.mem 𝓡.run) 𝓜 𝓡 code.env #early-lent·call-of-rows ask-def.routine code.calls-early-lent::call-of-rows (ask-thm.met 𝓤 𝓛 𝓜 𝓡);
     }))

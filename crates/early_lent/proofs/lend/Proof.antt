@@ -60,13 +60,12 @@ use Rattle.early.specs.declared.Site.{Site}
 use Rattle.early.specs.Request.{Requested, request_of, Answers}
 use Rattle.early.specs.contracts.Site as Sit
 use Rattle.early.proofs.Site.TheLaws as Sit'
-use Rattle.early_records.specs.declared.Asked.{Asked}
+use Rattle.early_lent.specs.declared.Asked.{Asked}
 use Rattle.early_lent.specs.declared.Lent.{Lent}
-use Rattle.early_records.specs.Short.{asked_of}
-use Rattle.early_lent.specs.Answered.{lent_of}
+use Rattle.early_lent.specs.Answered.{asked_of, lent_of}
 use Rattle.early_lent.proofs.FrontLaws.{Front, fronted, front-lent, front-back, array-in, array-out}
-use Rattle.early_records.specs.contracts.Asked as Ans
-use Rattle.early_records.proofs.Asked.TheLaws as Ans'
+use Rattle.early_lent.specs.contracts.Asked as Ans
+use Rattle.early_lent.proofs.Asked.TheLaws as Ans'
 use Rattle.early_lent.specs.contracts.Lent as Len
 use Rattle.early_lent.proofs.Lent.TheLaws as Len'
 use Rattle.early_lent.specs.contracts.request as request

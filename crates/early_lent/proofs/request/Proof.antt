@@ -60,20 +60,19 @@ use Rattle.early.specs.Call.{Called}
 use Rattle.early_laws.proofs.RequestLaws.{request_of-answers}
 use Rattle.early.specs.contracts.Site as Sit
 use Rattle.early.proofs.Site.TheLaws as Sit'
-use Rattle.early_records.specs.declared.Done.{Done}
-use Rattle.early_records.specs.Short.{asked_of}
-use Rattle.early_records.specs.Short.{request_lent, done_of}
-use Rattle.early_lent.specs.Moved.{loaded, stored, no_threads, moved_of}
+use Rattle.early_lent.specs.declared.Done.{Done}
+use Rattle.early_lent.specs.Answered.{asked_of}
+use Rattle.early_lent.specs.Moved.{loaded, stored, no_threads, moved_of, request_lent, done_of}
 use Rattle.early_lent.proofs.MovedLaws.{moved_asked, moved_back, holding_none, request_of-moves}
 use Rattle.early_lent.proofs.WalkLaws.{threads_val, clause}
 use Rattle.early_lent.proofs.RequestWalk.{asked_val, model_ty, model_val, past_counts, done_ty, Stands, stands, records_ty, Again, Known, knows, loads, stores}
-use Rattle.early_records.specs.contracts.Asked as Ans
-use Rattle.early_records.proofs.Asked.TheLaws as Ans'
-use Rattle.early_records.specs.contracts.Done as Don
-use Rattle.early_records.specs.contracts.request_of as ask'
-use Rattle.early_records.proofs.request_of.Symbol as ask-def
-use Rattle.early_records.proofs.request_of.Symbol.{name as #early-records·request-of}
-use Rattle.early_records.proofs.request_of.Met as ask-thm
+use Rattle.early_lent.specs.contracts.Asked as Ans
+use Rattle.early_lent.proofs.Asked.TheLaws as Ans'
+use Rattle.early_lent.specs.contracts.Done as Don
+use Rattle.early_lent.specs.contracts.request_of as ask'
+use Rattle.early_lent.proofs.request_of.Symbol as ask-def
+use Rattle.early_lent.proofs.request_of.Symbol.{name as #early-lent·request-of}
+use Rattle.early_lent.proofs.request_of.Met as ask-thm
 use Rattle.early_lent.specs.contracts.request.Key.{name as #early-lent·request}
 use Rattle.early_lent.specs.contracts.request as request
 use Rattle.early_lent.proofs.request.Statement as stated
@@ -104,7 +103,7 @@ module _ {M : Type 1} {𝓤 : Ura M} (𝓛 : Logic 𝓤) (mem : Memory → SProp
   -- that the callees Meet their contracts
   record Callees (C : Calls 𝓤 H) : Type 2 where
     moves : Known 𝓛 mem run C
-    ask : Triple 𝓤 (C #early-records·request-of) Ask
+    ask : Triple 𝓤 (C #early-lent·request-of) Ask
 
 module _ {M : Type 1} {𝓤 : Ura M} (𝓛 : Logic 𝓤) (mem : Memory → SProp 𝓤) (run : Routine → Fun 𝓤)
     (κ κ' : Lft) (q q' : Share) (m : Model) (marks : List (List Bool)) (ds : MutBor (List ℕ)) (site : Site) (b o : ℕ) (γ : GName) (ts : List Thread) (k : ThreadNo)
@@ -287,5 +286,5 @@ request_spec 𝓤 𝓛 𝓜 𝓡 =
     (request-meets 𝓛 𝓜.mem 𝓡.run (tables_of 𝓤 𝓛.H 𝓜 (tables 𝓤 𝓛.H 𝓜 𝓡 code.env))
     (record {
       moves = knows 𝓛 𝓜 𝓡 code.env code.calls-early-lent::moved code.calls-model-effect::no-threads code.calls-early-lent::load code.calls-early-lent::store;
-      ask = cited 𝓤 𝓛.H (Ask 𝓛 𝓜.mem 𝓡.run) 𝓜 𝓡 code.env #early-records·request-of ask-def.routine code.calls-early-records::request-of (ask-thm.met 𝓤 𝓛 𝓜 𝓡);
+      ask = cited 𝓤 𝓛.H (Ask 𝓛 𝓜.mem 𝓡.run) 𝓜 𝓡 code.env #early-lent·request-of ask-def.routine code.calls-early-lent::request-of (ask-thm.met 𝓤 𝓛 𝓜 𝓡);
     }))

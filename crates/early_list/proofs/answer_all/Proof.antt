@@ -5,9 +5,7 @@ use native.Mathlib.Omega.{arith}
 use lib.ListN.{length, get_or}
 use borrow.Author.Rules.{rules}
 use Rattle.model_effect.proofs.LengthLaws.{segments-length}
-use Rattle.early.specs.Log.{log_of, counted_log}
 use Rattle.early_answer.specs.Shown.{table_by}
-use Rattle.early_answer.proofs.AnsweredLaws.{places_same}
 use Rattle.early_answer.proofs.ShownLaws.{shows-fit}
 use Rattle.early_request.proofs.FitAnswerLaws.{fit-threads-few, fit-segments-few, fit-segment-few, fit-places, room-fit, call-fit, enough-fit}
 use Rattle.early_list.proofs.GoingLaws.{grants_in-≤, segment-at, Going, going_start, going_more, going_done}
@@ -55,8 +53,8 @@ element-copy-out-g c =
     let call = c.before.before.call_at.result in
     omega (arith, segment-at x.t1.t here.ts.at _ _ _ c.before.thread-of.ensures c.segment-of.ensures, fit-segment-few x.t1 x.marks ws here.s here.ts.at call here.invariant.1.fit.state)
 
-places-of-requires : tie.Need-places-of-requires invariant-loop decreases-loop
-places-of-requires c κs =
+counted-site-requires : tie.Need-counted-site-requires invariant-loop decreases-loop
+counted-site-requires c κs =
     let start = c.before.before.before.before.before.before.before.before.before.before.before.before.before.before.before.before in
     let x = start.args in
     let ws = table_by x.stepwise x.t1 x.words.now in
@@ -76,13 +74,7 @@ called-requires c κs =
       fit-threads-few x.t1 x.marks ws here.s here.ts.at call here.invariant.1.fit.state,
       (ws, shows-fit x.t1 ws here.s here.ts.at x.stepwise x.words.now (length here.row) here.invariant.1.fit.state (rw here.invariant.0 start.requires.2.2)),
       enough-fit x.t1 here.held call here.invariant.1.fit.enough,
-      (
-        counted_log x.t1 here.ts.at (log_of here.s),
-        (
-          places_same x.t1.t _ here.ts.at _ _ _ _ c.before.before.before.before.before.thread-of.ensures c.before.before.places_of.ensures,
-          room-fit x.t1 x.marks ws here.s here.ts.at call here.invariant.1.fit.state j.result _ there (segments-length x.t1 _ start.well-formed.0) refl,
-        ),
-      ),
+      room-fit x.t1 x.marks ws here.s here.ts.at call here.invariant.1.fit.state j.result _ there (segments-length x.t1 _ start.well-formed.0) refl c.before.before.counted-site.result c.before.before.counted-site.ensures,
     )
 
 mul-put-answer : tie.Need-overflow-mul-put-answer invariant-loop decreases-loop
@@ -105,15 +97,14 @@ loop-again c =
     let here = c.before.before.before.before.before.before.before.before.before.before.before.before.before.before.before.before.before.before.before.before.before.loop in
     let call = c.before.before.before.before.before.before.before.before.before.before.before.before.before.before.before.before.before.before.call_at.result in
     let j = c.before.before.before.before.before.before.before.before.before.before.before.before.before.before.before.before.segment-of in
-    let named = c.before.before.before.before.before.before.before.before.before.before.before.before.before.before.before.before.before.thread-of in
-    let takes = places_same x.t1.t _ here.ts.at _ _ _ _ named.ensures c.before.before.before.before.before.before.before.before.before.before.before.before.before.before.places_of.ensures in
+    let counted = c.before.before.before.before.before.before.before.before.before.before.before.before.before.before.counted-site in
     let a = c.before.before.before.before.before.before.before.before.before.before.before.called in
     let known = shows-fit x.t1 ws here.s here.ts.at x.stepwise x.words.now (length here.row) here.invariant.1.fit.state (rw here.invariant.0 start.requires.2.2) in
-    let there = segment-at x.t1.t here.ts.at _ _ _ named.ensures j.ensures in
-    let fits = call-fit x.t1 x.marks ws here.s here.ts.at call here.invariant.1.fit.state j.result _ there (segments-length x.t1 _ start.well-formed.0) refl _ _ start.requires.2.0 start.requires.2.1 here.held in (
+    let there = segment-at x.t1.t here.ts.at _ _ _ c.before.before.before.before.before.before.before.before.before.before.before.before.before.before.before.before.before.thread-of.ensures j.ensures in
+    let fits = call-fit x.t1 x.marks ws here.s here.ts.at call here.invariant.1.fit.state j.result _ there (segments-length x.t1 _ start.well-formed.0) refl counted.result counted.ensures _ _ start.requires.2.0 start.requires.2.1 here.held in (
       a.ensures.0 ∙ here.invariant.0,
       going_more x.t1 x.marks ws x.site x.threads.at x.held.now x.calls.now x.answers.now here.answers here.s here.ts.at here.held here.granted here.i here.invariant.1 call a.result _ _ _
-          c.before.before.before.before.before.before.before.before.before.before.before.before.before.before.before.before.before.before.before.before.loop-test.true c.before.before.before.before.before.before.before.before.before.before.before.before.before.before.before.before.before.before.call_at.ensures (a.ensures.1.1 _ takes ws known ∙ fits.1) (a.ensures.1.0 _ takes ws known ∙ fits.0)
+          c.before.before.before.before.before.before.before.before.before.before.before.before.before.before.before.before.before.before.before.before.loop-test.true c.before.before.before.before.before.before.before.before.before.before.before.before.before.before.before.before.before.before.call_at.ensures (a.ensures.1.1 ws known ∙ fits.1) (a.ensures.1.0 ws known ∙ fits.0)
           c.before.before.before.before.before.put-answer.ensures c.before.before.grants-in.ensures,
     )
 
@@ -139,5 +130,5 @@ pub answer_all_spec : {M : Type 1} → statement M
 answer_all_spec =
     tie.close
     (tie.spec invariant-loop decreases-loop loop-holds (λ c. omega arith) (λ c. omega arith) (λ c κs. search rules) (λ c κs. search rules)
-    segment-of-requires mul-g element-copy-out-g places-of-requires called-requires mul-put-answer put-answer-requires
+    segment-of-requires mul-g element-copy-out-g counted-site-requires called-requires mul-put-answer put-answer-requires
     (λ c κs. search rules) add-granted add-i (λ c. omega (arith, c.before.before.before.before.before.before.before.before.before.before.before.before.before.before.before.before.before.before.before.before.loop-test.true)) loop-again same_length same-length-2 same-length-3 returns)

@@ -7,10 +7,8 @@ use lib.ListN.{length, replicate, length-replicate}
 use borrow.Author.Rules.{rules}
 use Rattle.model.specs.Record.{thread_at}
 use Rattle.model_effect.proofs.LengthLaws.{segments-length}
-use Rattle.early.specs.Log.{log_of, counted_log}
 use Rattle.early_limits.proofs.PlaceLaws.{reach_in-all}
 use Rattle.early_answer.specs.Shown.{table_by}
-use Rattle.early_answer.proofs.AnsweredLaws.{places_same}
 use Rattle.early_answer.proofs.ShownLaws.{shows-fit}
 use Rattle.early_request.proofs.FitAnswerLaws.{fit-threads-few, fit-segments-few, fit-places, fit-segment-few, room-fit, call-fit}
 use Rattle.early_request.proofs.call_fit.Statement.{statement}
@@ -42,8 +40,8 @@ element-copy-out-g c =
     let p = c.segment-of.ensures ∙ ap (λ i. cond (ltb i x.t1.t) (thread_at x.threads.at i).segment 0) c.before.thread-of.ensures in
     omega (arith, p, fit-segment-few x.t1 x.marks ws x.site x.threads.at x.call unfit)
 
-places-of-requires : tie.Need-places-of-requires
-places-of-requires c κs =
+counted-site-requires : tie.Need-counted-site-requires
+counted-site-requires c κs =
     let start = c.before.before.before.before.before.before.before.before.before.before.before.before.before.before.before.before.before in
     let x = start.args in
     let (unfit, known, enough) = start.requires in
@@ -60,13 +58,7 @@ called-requires c κs =
       fit-threads-few x.t1 x.marks ws x.site x.threads.at x.call unfit,
       (ws, shows-fit x.t1 ws x.site x.threads.at x.stepwise x.words.now _ unfit (rw c.before.before.before.before.before.before.before.before.before.before.before.before.before.before.before.before.fill-reach.ensures.0 known)),
       enough,
-      (
-        counted_log x.t1 x.threads.at (log_of x.site),
-        (
-          places_same x.t1.t _ x.threads.at _ _ _ _ c.before.before.before.before.before.before.before.thread-of.ensures c.before.before.before.before.places_of.ensures,
-          room-fit x.t1 x.marks ws x.site x.threads.at x.call unfit _ _ p (segments-length x.t1 _ start.well-formed.0) refl,
-        ),
-      ),
+      room-fit x.t1 x.marks ws x.site x.threads.at x.call unfit _ _ p (segments-length x.t1 _ start.well-formed.0) refl _ c.before.before.before.before.counted-site.ensures,
     )
 
 same_length : tie.Need-same-length
@@ -81,14 +73,13 @@ returns c =
     let p = c.before.before.before.before.before.before.before.before.before.before.before.segment-of.ensures ∙ ap (λ i. cond (ltb i x.t1.t) (thread_at x.threads.at i).segment 0) c.before.before.before.before.before.before.before.before.before.before.before.before.thread-of.ensures in
     let r = c.before.before.before.before.before.before.before.before.before.before.before.before.before.before.before.before.before.before.before.before.before.fill-reach in
     let a = c.before.before.before.before.called in
-    let takes = places_same x.t1.t _ x.threads.at _ _ _ _ c.before.before.before.before.before.before.before.before.before.before.before.before.thread-of.ensures c.before.before.before.before.before.before.before.before.before.places_of.ensures in
     let reach = r.ensures.1 ws known ∙ reach_in-all x.t1 ws (replicate 2048 0) (simp length-replicate) in
     let (held, left) =
-    call-fit x.t1 x.marks ws x.site x.threads.at x.call unfit _ _ p (segments-length x.t1 _ start.well-formed.0) refl _ _ c.before.before.before.before.before.before.before.before.before.before.before.before.before.before.before.before.fill-names.ensures reach x.held.now in (
+    call-fit x.t1 x.marks ws x.site x.threads.at x.call unfit _ _ p (segments-length x.t1 _ start.well-formed.0) refl _ c.before.before.before.before.before.before.before.before.before.counted-site.ensures _ _ c.before.before.before.before.before.before.before.before.before.before.before.before.before.before.before.before.fill-names.ensures reach x.held.now in (
       a.ensures.0 ∙ r.ensures.0,
       (
-        a.ensures.1.0 _ takes ws (shows-fit x.t1 ws x.site x.threads.at x.stepwise x.words.now _ unfit (rw r.ensures.0 known)) ∙ held,
-        a.ensures.1.1 _ takes ws (shows-fit x.t1 ws x.site x.threads.at x.stepwise x.words.now _ unfit (rw r.ensures.0 known)) ∙ left,
+        a.ensures.1.0 ws (shows-fit x.t1 ws x.site x.threads.at x.stepwise x.words.now _ unfit (rw r.ensures.0 known)) ∙ held,
+        a.ensures.1.1 ws (shows-fit x.t1 ws x.site x.threads.at x.stepwise x.words.now _ unfit (rw r.ensures.0 known)) ∙ left,
       ),
     )
 
@@ -96,4 +87,4 @@ pub call_fit_spec : {M : Type 1} → statement M
 call_fit_spec =
     tie.close
     (tie.spec (λ c. search rules) (λ c κs. search rules) (λ c. search rules) (λ c κs. search rules) (λ c κs. search rules) segment-of-requires mul-g element-copy-out-g
-    places-of-requires (λ c. search rules) (λ c. search rules) called-requires same_length (λ c. search rules) returns)
+    counted-site-requires (λ c. search rules) (λ c. search rules) called-requires same_length (λ c. search rules) returns)

@@ -9,7 +9,7 @@ use borrow.Author.Rules.{rules}
 use Rattle.reader_record.specs.Parts.{record_fault}
 use Rattle.reader_record.proofs.RecordLaws.{Opened, opened-least, opened-left, opened-length, opened-head, opened-thread}
 use Rattle.reader_record.proofs.FaultLaws.{record_fault-framed, record_fault-counts, count-segment, count-thread}
-use Rattle.reader_file.proofs.FileLaws.{rest_of, rest_of-length, Judged, judged-none, judged-short, judged-refused, judged-end, judged-unnamed, judged-segments, judged-more}
+use Rattle.reader_file.proofs.FileLaws.{rest_of, rest_of-length, Judged, judged-none, judged-short, judged-refused, judged-end, judged-unnamed, judged-more}
 use Rattle.reader_file.proofs.judge.Statement.{statement}
 use Rattle.reader_file.proofs.judge.Tie as tie
 
@@ -52,7 +52,6 @@ returns : tie.Need-returns invariant-loop decreases-loop
 returns c = record {
   number = judged-refused _ _ _ _ c.before.before.before.before.loop.invariant.1 _ c.before.before.before.loop-test.true c.before.record-fault.ensures c.if1.true;
   unnamed = λ z. absurd (c.if1.true z);
-  segments = λ z. absurd (c.if1.true z);
 }
 
 sub-end-fault : tie.Need-overflow-sub-end-fault invariant-loop decreases-loop
@@ -64,11 +63,7 @@ returns-2 c =
     let o = opened c.before.before in
     let none = kept c.before.before.before.before.before in
     let number = judged-end _ _ _ _ j o none _ _ c.before.if2.true refl c.end-fault.ensures in
-    record {
-      number = number;
-      unnamed = λ z u. judged-unnamed _ _ _ _ j o none c.before.if2.true (sym number ∙ z) u;
-      segments = λ z. judged-segments _ _ _ _ j o none c.before.if2.true (sym number ∙ z);
-    }
+    record { number = number; unnamed = λ z u. judged-unnamed _ _ _ _ j o none c.before.if2.true (sym number ∙ z) u }
 
 slice-aggregate-counts-after : tie.Need-slice-aggregate-counts-after invariant-loop decreases-loop
 slice-aggregate-counts-after c = sym (opened-length (opened c.before.before))
@@ -90,7 +85,7 @@ loop-again c =
     (next-within w, rw c.counts-after.ensures (judged-more _ _ _ _ (turn-of w).loop.invariant.1 (opened w) (kept w.before.before.before) c.before.before.if2.false))
 
 returns-3 : tie.Need-returns-3 invariant-loop decreases-loop
-returns-3 c = record { number = judged-short _ _ _ _ c.before.loop.invariant.1 (omega arith); unnamed = λ z. absurd (omega arith); segments = λ z. absurd (omega arith) }
+returns-3 c = record { number = judged-short _ _ _ _ c.before.loop.invariant.1 (omega arith); unnamed = λ z. absurd (omega arith) }
 
 pub judge_spec : {M : Type 1} → statement M
 judge_spec =

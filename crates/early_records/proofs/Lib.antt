@@ -1,2 +1,0 @@
-pub mod ShortLaws
-pub mod Edges

@@ -1,3 +1,0 @@
-pub mod HeardLaws
-pub mod SpreadLaws
-pub mod Edges

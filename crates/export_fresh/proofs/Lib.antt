@@ -1,4 +1,0 @@
-pub mod FreshLaws
-pub mod Computed
-pub mod EdgeStates
-pub mod Edges

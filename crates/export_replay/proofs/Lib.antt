@@ -1,3 +1,0 @@
-pub mod ReplayLaws
-pub mod Computed
-pub mod Edges

@@ -1,0 +1,436 @@
+// For callers in C and Rust: the fresh state, one request, grant or finish, or a whole list, on a state that they keep as numbers in buffers.
+// Words past those of a state are not looked at and not touched.
+ghost use Rattle.std.specs.Prelude.{ℕ, ◌+◌, ◌<◌, ◌≤◌, ◌≡◌, ◌&&◌, List, leb, length, take};
+ghost use Rattle.reader.specs.File.{read_file};
+ghost use Rattle.tables.specs.Outcome.{conflict_marks};
+ghost use Rattle.buffers.specs.Write.{placed_in};
+ghost use Rattle.early.specs.Answer.{values_of, number_of};
+ghost use Rattle.early.specs.ByRows.{request_by_rows, LeftFree};
+ghost use Rattle.early.specs.Call.{call_of, call_by_rows};
+ghost use Rattle.early_answer.specs.After.{after_of};
+ghost use Rattle.early_request.specs.Fresh.{fresh_of};
+ghost use Rattle.early_lent.specs.Answered.{request_first};
+ghost use Rattle.replay.specs.Replay.{replayed_on, words_on, held_on, answers_on, replayed_by_rows, held_by_rows, answers_by_rows};
+ghost use Rattle.export_state.specs.Numbers.{site_from, held_threads, are_held};
+ghost use Rattle.export_step.specs.Step.{keeps, has_room, holding, fresh_number, asked_number, request_by, rows_by, call_by, call_rows_by, kept_by, started_by, left_by, replay_buffer, Freshens, Requests, Calls, Replays};
+ghost use Rattle.export_step.specs.Left.{left_of};
+
+use clock::ThreadNo;
+use early::{After, Answer, Call, Site};
+use model::{Model, Threads};
+use reader::Read;
+
+// A state and the records of its t threads in the caller's buffers.
+fn put_state(
+    site: Site,
+    threads: Threads,
+    t: u8,
+    variables: &mut [u32],
+    log: &mut [u64],
+    records: &mut [u64],
+)
+    ensures { keeps variables.new log.new records.new ≡ holding site (take t threads.at) (keeps variables.old log.old records.old) }
+{
+    export_state::site_into(site, variables, log);
+    export_state::threads_into(threads, t, records);
+}
+
+// The number of an answer, with segment, time and delta of a grant.
+fn put_answer(a: Answer, answer: &mut [u64]) -> u8
+    ensures number { result ≡ number_of a }
+    ensures words { answer.new ≡ placed_in (values_of a) answer.old }
+{
+    match a {
+        Answer::Granted(s, c) => {
+            export_state::grant_into(s, c, answer);
+            0
+        }
+        Answer::Refused(n) => n,
+    }
+}
+
+// Whether the buffers of a state of t threads are long enough.
+fn has_room(variables: &[u32], log: &[u64], records: &[u64], t: u8) -> bool
+    ensures { result ≡ has_room t (keeps variables.now log.now records.now) }
+{
+    if variables.len() < 64 {
+        return false;
+    }
+    if log.len() < 385 {
+        return false;
+    }
+    5 * buffers::wide(t) <= records.len()
+}
+
+// Whether the numbers are those of a state, and the answer has room.
+fn may_ask(variables: &[u32], log: &[u64], records: &[u64], t: u8, answer: &[u64]) -> bool
+    ensures { result ≡ are_held t variables.now log.now records.now && leb 3 (length answer.now) }
+{
+    if export_state::are_held(variables, log, records, t) {
+        return 3 <= answer.len();
+    }
+    false
+}
+
+// The file, with 11 where it is accepted and a buffer of its state is too short.
+fn with_room(file: &[u8], variables: &[u32], log: &[u64], records: &[u64]) -> Read
+    ensures number { result.number ≡ fresh_number file.now (keeps variables.now log.now records.now) }
+    ensures read { result.number ≡ 0 → result ≡ read_file file.now }
+{
+    let mut read = reader_file::read_file(file);
+    if read.number != 0 {
+        return read;
+    }
+    if has_room(variables, log, records, read.model.t) {
+        return read;
+    }
+    read.number = 11;
+    read
+}
+
+// The file, with 11 where it is accepted and the numbers are not those of a state of it, or the answer has no room.
+fn with_state(file: &[u8], variables: &[u32], log: &[u64], records: &[u64], answer: &[u64]) -> Read
+    ensures number { result.number ≡ asked_number file.now (keeps variables.now log.now records.now) answer.now }
+    ensures read { result.number ≡ 0 → result ≡ read_file file.now }
+{
+    let mut read = reader_file::read_file(file);
+    if read.number != 0 {
+        return read;
+    }
+    if may_ask(variables, log, records, read.model.t, answer) {
+        return read;
+    }
+    read.number = 11;
+    read
+}
+
+// The fresh state of a model, in the caller's buffers.
+fn put_fresh(m: Model, variables: &mut [u32], log: &mut [u64], records: &mut [u64])
+    ensures { keeps variables.new log.new records.new ≡ holding (fresh_of m).site (take m.t (fresh_of m).threads.at) (keeps variables.old log.old records.old) }
+{
+    let fresh = early_request::fresh(m);
+    put_state(fresh.site, fresh.threads, m.t, variables, log, records);
+}
+
+// A file's fresh state in the caller's buffers: the number, 0 where it is there.
+pub fn fresh_into(file: &[u8], variables: &mut [u32], log: &mut [u64], records: &mut [u64]) -> u8
+    ensures { Freshens file.now (keeps variables.old log.old records.old) result (keeps variables.new log.new records.new) }
+{
+    let read = with_room(file, variables, log, records);
+    if read.number != 0 {
+        return read.number;
+    }
+    put_fresh(read.model, variables, log, records);
+    0
+}
+
+// A request on the state that the numbers say: the lent request, on as many records as there are threads.
+fn request_on(
+    m: Model,
+    words: &[u64],
+    variables: &[u32],
+    log: &[u64],
+    records: &[u64],
+    thread: u8,
+) -> After
+    ensures { result ≡ left_of (request_first m (conflict_marks m) words.now (site_from variables.now log.now) (held_threads records.now m.t) m.t thread) }
+{
+    let t = m.t;
+    let marks = tables_conflict::conflict_marks(m);
+    let site = export_state::site_from(variables, log);
+    let held = export_state::threads_from(records, t);
+    let left = early_lent::request_first(
+        m,
+        marks,
+        words,
+        site,
+        held,
+        buffers::wide(t),
+        ThreadNo(thread),
+    );
+    let asked = left.asked;
+    let answer = asked.answer;
+    let site = asked.site;
+    let held = left.records;
+    let threads = export_state::first_threads(held);
+    After {
+        answer,
+        site,
+        threads,
+    }
+}
+
+// The same by rows: the request on the records by value.
+fn rows_on(
+    m: Model,
+    row: &mut [u64],
+    variables: &[u32],
+    log: &[u64],
+    records: &[u64],
+    thread: u8,
+) -> After
+    ensures free { LeftFree row.old row.new }
+    ensures left { result ≡ after_of (request_by_rows m (conflict_marks m) (length row.old) (site_from variables.now log.now) (take 32 (held_threads records.now m.t)) thread) }
+{
+    let marks = tables_conflict::conflict_marks(m);
+    let site = export_state::site_from(variables, log);
+    let held = export_state::threads_from(records, m.t);
+    let threads = export_state::first_threads(held);
+    early_request::request_by_rows(m, marks, row, site, threads, ThreadNo(thread))
+}
+
+// What a request left, in the caller's buffers: on a refusal nothing is written.
+fn put_after(after: After, t: u8, variables: &mut [u32], log: &mut [u64], records: &mut [u64])
+    ensures { keeps variables.new log.new records.new ≡ kept_by after.answer after.site (take t after.threads.at) (keeps variables.old log.old records.old) }
+{
+    let a = after.answer;
+    match a {
+        Answer::Granted(_, _) => {
+            put_state(after.site, after.threads, t, variables, log, records);
+        }
+        Answer::Refused(_) => {}
+    }
+}
+
+// What a grant apart from its finish left: the records alone.
+fn put_started(after: After, t: u8, records: &mut [u64])
+    ensures { (vs ws : List ℕ) → keeps vs ws records.new ≡ started_by after.answer (take t after.threads.at) (keeps vs ws records.old) }
+{
+    let a = after.answer;
+    match a {
+        Answer::Granted(_, _) => {
+            export_state::threads_into(after.threads, t, records);
+        }
+        Answer::Refused(_) => {}
+    }
+}
+
+// What a call left.
+fn put_called(
+    call: Call,
+    after: After,
+    t: u8,
+    variables: &mut [u32],
+    log: &mut [u64],
+    records: &mut [u64],
+)
+    ensures { keeps variables.new log.new records.new ≡ left_by call after.answer after.site (take t after.threads.at) (keeps variables.old log.old records.old) }
+{
+    match call {
+        Call::Both(_) => {
+            put_after(after, t, variables, log, records);
+        }
+        Call::Grant(_) => {
+            put_started(after, t, records);
+        }
+        Call::Finish(_) => {
+            put_after(after, t, variables, log, records);
+        }
+    }
+}
+
+// One request of a thread on the state that the caller keeps, with the file's words: the number, 0 where it is granted, and then segment, time and delta in the answer.
+// On a refusal every buffer is as it was.
+pub fn request_into(
+    file: &[u8],
+    words: &[u64],
+    variables: &mut [u32],
+    log: &mut [u64],
+    records: &mut [u64],
+    thread: u8,
+    answer: &mut [u64],
+) -> u8
+    ensures { Requests file.now (request_by file.now words.now (keeps variables.old log.old records.old) thread) (keeps variables.old log.old records.old) answer.old result (keeps variables.new log.new records.new) answer.new }
+{
+    let read = with_state(file, variables, log, records, answer);
+    if read.number != 0 {
+        return read.number;
+    }
+    let after = request_on(read.model, words, variables, log, records, thread);
+    let a = after.answer;
+    put_after(after, read.model.t, variables, log, records);
+    put_answer(a, answer)
+}
+
+// The same by rows, in 64 words that are left free: 16 after 11.
+pub fn request_by_rows_into(
+    file: &[u8],
+    row: &mut [u64],
+    variables: &mut [u32],
+    log: &mut [u64],
+    records: &mut [u64],
+    thread: u8,
+    answer: &mut [u64],
+) -> u8
+    ensures free { LeftFree row.old row.new }
+    ensures requests { Requests file.now (rows_by file.now (length row.old) (keeps variables.old log.old records.old) thread) (keeps variables.old log.old records.old) answer.old result (keeps variables.new log.new records.new) answer.new }
+{
+    let read = with_state(file, variables, log, records, answer);
+    if read.number != 0 {
+        return read.number;
+    }
+    let after = rows_on(read.model, row, variables, log, records, thread);
+    let a = after.answer;
+    put_after(after, read.model.t, variables, log, records);
+    put_answer(a, answer)
+}
+
+// A call on the state that the numbers say and on the values that are held, with the records by value.
+fn call_on(
+    m: Model,
+    words: &[u64],
+    held: &mut [u32],
+    variables: &[u32],
+    log: &[u64],
+    records: &[u64],
+    call: Call,
+) -> After
+    ensures left { result ≡ after_of (call_of m (conflict_marks m) words.now (site_from variables.now log.now) (take 32 (held_threads records.now m.t)) held.old call).left }
+    ensures held { held.new ≡ (call_of m (conflict_marks m) words.now (site_from variables.now log.now) (take 32 (held_threads records.now m.t)) held.old call).held }
+{
+    let marks = tables_conflict::conflict_marks(m);
+    let site = export_state::site_from(variables, log);
+    let own = export_state::threads_from(records, m.t);
+    let threads = export_state::first_threads(own);
+    early_request::call(m, marks, words, site, threads, held, call)
+}
+
+// The same by rows.
+fn call_rows_on(
+    m: Model,
+    row: &mut [u64],
+    held: &mut [u32],
+    variables: &[u32],
+    log: &[u64],
+    records: &[u64],
+    call: Call,
+) -> After
+    ensures free { LeftFree row.old row.new }
+    ensures left { result ≡ after_of (call_by_rows m (conflict_marks m) (length row.old) (site_from variables.now log.now) (take 32 (held_threads records.now m.t)) held.old call).left }
+    ensures held { held.new ≡ (call_by_rows m (conflict_marks m) (length row.old) (site_from variables.now log.now) (take 32 (held_threads records.now m.t)) held.old call).held }
+{
+    let marks = tables_conflict::conflict_marks(m);
+    let site = export_state::site_from(variables, log);
+    let own = export_state::threads_from(records, m.t);
+    let threads = export_state::first_threads(own);
+    early_request::call_by_rows(m, marks, row, site, threads, held, call)
+}
+
+// Document 02, slip 7: a grant, a finish or a combined request on the state that the caller keeps, with the file's words and the values
+// that are held: the number, 0 where it is not refused, and then segment, time and delta in the answer. On a refusal every buffer is as it was.
+pub fn call_into(
+    file: &[u8],
+    words: &[u64],
+    held: &mut [u32],
+    variables: &mut [u32],
+    log: &mut [u64],
+    records: &mut [u64],
+    call: Call,
+    answer: &mut [u64],
+) -> u8
+    ensures { Calls file.now call (call_by file.now words.now (keeps variables.old log.old records.old) held.old call) (keeps variables.old log.old records.old) held.old answer.old result (keeps variables.new log.new records.new) held.new answer.new }
+{
+    let read = with_state(file, variables, log, records, answer);
+    if read.number != 0 {
+        return read.number;
+    }
+    let after = call_on(read.model, words, held, variables, log, records, call);
+    let a = after.answer;
+    put_called(call, after, read.model.t, variables, log, records);
+    put_answer(a, answer)
+}
+
+// The same by rows, in 64 words that are left free: 16 after 11.
+pub fn call_by_rows_into(
+    file: &[u8],
+    row: &mut [u64],
+    held: &mut [u32],
+    variables: &mut [u32],
+    log: &mut [u64],
+    records: &mut [u64],
+    call: Call,
+    answer: &mut [u64],
+) -> u8
+    ensures free { LeftFree row.old row.new }
+    ensures calls { Calls file.now call (call_rows_by file.now (length row.old) (keeps variables.old log.old records.old) held.old call) (keeps variables.old log.old records.old) held.old answer.old result (keeps variables.new log.new records.new) held.new answer.new }
+{
+    let read = with_state(file, variables, log, records, answer);
+    if read.number != 0 {
+        return read.number;
+    }
+    let after = call_rows_on(read.model, row, held, variables, log, records, call);
+    let a = after.answer;
+    put_called(call, after, read.model.t, variables, log, records);
+    put_answer(a, answer)
+}
+
+// A list of calls from the file's fresh state on, its answers in five words each and its tables in the words, and the state and the held
+// values that it leaves in the caller's buffers.
+pub fn replay_into(
+    file: &[u8],
+    words: &mut [u64],
+    held: &mut [u32],
+    calls: &[u16],
+    answers: &mut [u64],
+    variables: &mut [u32],
+    log: &mut [u64],
+    records: &mut [u64],
+) -> u8
+    ensures listed { Replays file.now held.old calls.now (replayed_on (read_file file.now).model words.old held.old calls.now answers.old) (keeps variables.old log.old records.old) result (keeps variables.new log.new records.new) held.new }
+    ensures tables { words.new ≡ replay_buffer file.now (keeps variables.old log.old records.old) (words_on (read_file file.now).model words.old held.old calls.now answers.old) words.old }
+    ensures holds { held.new ≡ replay_buffer file.now (keeps variables.old log.old records.old) (held_on (read_file file.now).model words.old held.old calls.now answers.old) held.old }
+    ensures written { answers.new ≡ replay_buffer file.now (keeps variables.old log.old records.old) (answers_on (read_file file.now).model words.old held.old calls.now answers.old) answers.old }
+{
+    let read = with_room(file, variables, log, records);
+    if read.number != 0 {
+        return read.number;
+    }
+    let done = replay::replay_on(read.model, words, held, calls, answers);
+    if done.number != 0 {
+        return done.number;
+    }
+    put_state(
+        done.site,
+        done.threads,
+        read.model.t,
+        variables,
+        log,
+        records,
+    );
+    0
+}
+
+// The same by rows, in 64 words that are left free.
+pub fn replay_by_rows_into(
+    file: &[u8],
+    row: &mut [u64],
+    held: &mut [u32],
+    calls: &[u16],
+    answers: &mut [u64],
+    variables: &mut [u32],
+    log: &mut [u64],
+    records: &mut [u64],
+) -> u8
+    ensures free { LeftFree row.old row.new }
+    ensures listed { Replays file.now held.old calls.now (replayed_by_rows (read_file file.now).model (length row.old) held.old calls.now answers.old) (keeps variables.old log.old records.old) result (keeps variables.new log.new records.new) held.new }
+    ensures holds { held.new ≡ replay_buffer file.now (keeps variables.old log.old records.old) (held_by_rows (read_file file.now).model (length row.old) held.old calls.now answers.old) held.old }
+    ensures written { answers.new ≡ replay_buffer file.now (keeps variables.old log.old records.old) (answers_by_rows (read_file file.now).model (length row.old) held.old calls.now answers.old) answers.old }
+{
+    let read = with_room(file, variables, log, records);
+    if read.number != 0 {
+        return read.number;
+    }
+    let done = replay::replay_by_rows(read.model, row, held, calls, answers);
+    if done.number != 0 {
+        return done.number;
+    }
+    put_state(
+        done.site,
+        done.threads,
+        read.model.t,
+        variables,
+        log,
+        records,
+    );
+    0
+}

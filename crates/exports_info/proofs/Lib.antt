@@ -1,2 +1,0 @@
-pub mod InfoLaws
-pub mod Edges

@@ -1,4 +1,0 @@
-pub mod Version
-pub mod Text
-pub mod Counts
-pub mod Run

@@ -1,3 +1,0 @@
-mod WhyLaws
-pub mod Computed
-pub mod Edges

@@ -1,3 +1,0 @@
-pub mod WordsLaws
-pub mod TextLaws
-pub mod Edges
