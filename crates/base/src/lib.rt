@@ -1,1 +1,2 @@
 // Definitions and laws that belong to no layer. No types and no functions.
+#![tactic(auto)]

@@ -1,4 +1,6 @@
 // Bytes and words in lent buffers: parts of a text put from a place on, a text written whole or not at all, words read with 0 past the end.
+#![tactic(auto)]
+
 ghost use Rattle.std.specs.Prelude.{◌+◌, ◌<◌, ◌≤◌, min, ◌≡◌, [], ◌∷◌, get_or};
 ghost use Rattle.buffers.specs.Digits.{digits_of};
 ghost use Rattle.buffers.specs.Line.{rest_of};
@@ -7,7 +9,7 @@ ghost use Rattle.buffers.specs.Write.{Writes};
 ghost use Rattle.buffers.specs.Written.{number_of, length_of};
 
 // What a call that writes a file answers: its length, or a number of refusal.
-#[derive(Drop)]
+#[derive(Clone, Copy)]
 pub enum Written {
     Length(usize),
     Refused(u8),

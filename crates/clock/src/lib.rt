@@ -1,4 +1,6 @@
 // Document 01, "Clock", and the bounds of "Early issue".
+#![tactic(auto)]
+
 ghost use Rattle.std.specs.Prelude.{◌≡◌};
 ghost use Rattle.clock.specs.Cycle.{is_before, is_same};
 ghost use Rattle.clock.specs.Passage.{passage_of};
@@ -6,35 +8,35 @@ ghost use Rattle.clock.specs.Wait.{step_over, wait_ends, held_step};
 ghost use Rattle.clock.specs.Advance.{is_bound_before, least};
 
 // Document 01: "Times, deltas and thread numbers are counted separately".
-#[derive(Drop)]
+#[derive(Clone, Copy)]
 pub struct Time(pub u64);
 
-#[derive(Drop)]
+#[derive(Clone, Copy)]
 pub struct Delta(pub u32);
 
-#[derive(Drop)]
+#[derive(Clone, Copy)]
 pub struct ThreadNo(pub u8);
 
 // A number of units of time.
-#[derive(Drop)]
+#[derive(Clone, Copy)]
 pub struct Delay(pub u32);
 
 // Term: cycle.
-#[derive(Drop)]
+#[derive(Clone, Copy)]
 pub struct Cycle {
     pub time: Time,
     pub delta: Delta,
 }
 
 // Term: stamp.
-#[derive(Drop)]
+#[derive(Clone, Copy)]
 pub struct Stamp {
     pub cycle: Cycle,
     pub thread: ThreadNo,
 }
 
 // What a thread waits for: a notification, or a number of units.
-#[derive(Drop)]
+#[derive(Clone, Copy)]
 pub enum Wait {
     Event,
     Time(Delay),
@@ -42,7 +44,7 @@ pub enum Wait {
 
 // How a thread passes over a wait to a later cycle, after IEEE 1666-2011, 4.2.1: the first two in the delta notification
 // phase, the third in the timed notification phase.
-#[derive(Drop)]
+#[derive(Clone, Copy)]
 pub enum Passage {
     DeltaNotification,
     ZeroWait,
@@ -51,14 +53,14 @@ pub enum Passage {
 }
 
 // Where the end of a wait leaves a thread.
-#[derive(Drop)]
+#[derive(Clone, Copy)]
 pub enum Step {
     Ready(Cycle),
     Overrun(Cycle),
 }
 
 // A cycle whose delta is not cut, or never. A distance is one too.
-#[derive(Drop)]
+#[derive(Clone, Copy)]
 pub enum Bound {
     Never,
     At(Cycle),

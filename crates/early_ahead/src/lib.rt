@@ -1,4 +1,6 @@
 // Document 01, "Early issue": bounds as limits, forecast and earliest on them, by the ways to the events.
+#![tactic(auto)]
+
 ghost use Rattle.std.specs.Prelude.{◌≡◌, true, ◌+◌, ◌*◌, ◌≤◌, get_or};
 ghost use Rattle.tables.specs.Word.{all_ones};
 ghost use Rattle.early_limits.specs.Limit.{limit_of_cycle, limit_of_word, lesser, sum_of, raised_limit, is_sooner_limit, at_most};

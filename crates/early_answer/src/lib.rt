@@ -1,5 +1,7 @@
 // Document 01, "Early issue": a request on a fit state, by the counts of its model and what was made of it once. Document 02, slip 7: "Split
 // the request into two that answer as it does".
+#![tactic(auto)]
+
 ghost use Rattle.std.specs.Prelude.{ℕ, ◌+◌, ◌*◌, ◌<◌, ◌≤◌, ◌≡◌, true, cond, ltb, List, length, take};
 ghost use Rattle.model.specs.Values.{body_of};
 ghost use Rattle.model.specs.Statement.{notified_by};

@@ -1,4 +1,6 @@
 // Document 01, "Early issue": the floor, and deliveries on limits.
+#![tactic(auto)]
+
 ghost use Rattle.std.specs.Prelude.{◌<◌, ◌≤◌, ◌≡◌, true, false};
 ghost use Rattle.clock.specs.Wait.{wait_ends};
 ghost use Rattle.model.specs.Record.{awaited_by, state_after};
@@ -21,7 +23,7 @@ const NEVER: u64 = 18446744073709551615;
 const TOP: u64 = 4611686018427387904;
 
 // The records with what is known of them: the segments, the earliest limits, and whether a thread has heard.
-#[derive(Drop)]
+#[derive(Clone, Copy)]
 pub struct Outlook {
     pub threads: Threads,
     pub segments: [u8; 32],

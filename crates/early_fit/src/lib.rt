@@ -1,4 +1,6 @@
 // Document 01, "Numbers of refusal": 11 in a request.
+#![tactic(auto)]
+
 ghost use Rattle.std.specs.Prelude.{◌≡◌, ◌&&◌, ◌||◌, ℕ, ◌*◌, ◌≤◌, ◌<◌, length};
 ghost use Rattle.masks.specs.Mask.{bit_at};
 ghost use Rattle.model.specs.declared.Model.{Model};

@@ -1,4 +1,6 @@
 // Document 01, "Early issue": hazard on limits. Document 02, slip 6: distances are read by rows, of N × N words or worked out when needed.
+#![tactic(auto)]
+
 ghost use Rattle.std.specs.Prelude.{◌≡◌, List, ℕ, ◌*◌, ◌≤◌, ◌<◌, length, get_or};
 ghost use Rattle.base.specs.Index.{any_below};
 ghost use Rattle.tables_row.specs.Row.{Knows};

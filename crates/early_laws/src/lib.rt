@@ -1,1 +1,2 @@
 // What holds of earliest, forecast, hazard, the log and deliveries. Laws alone: the definitions are those of early.
+#![tactic(auto)]

@@ -1,5 +1,7 @@
 // Document 01, "Early issue": "the public request then works on a lent slice of thread records, at least as many as the
 // threads; records past those are neither read nor written".
+#![tactic(auto)]
+
 ghost use Rattle.std.specs.Prelude.{◌≡◌, ◌<◌, ◌≤◌, length, take, drop};
 ghost use Rattle.early.specs.Request.{request_of, Answers};
 ghost use Rattle.early.specs.ByRows.{request_by_rows, LeftFree};
@@ -12,13 +14,13 @@ use early::{Answer, Call, Site};
 use model::{Model, Thread, Threads};
 
 // The answer of a request, and the state beside it; the records stand in the slice.
-#[derive(Drop)]
+#[derive(Clone, Copy)]
 pub struct Asked {
     pub answer: Answer,
     pub site: Site,
 }
 
-#[derive(Drop)]
+#[derive(Clone, Copy)]
 struct Done {
     asked: Asked,
     threads: Threads,
@@ -294,7 +296,7 @@ pub fn call_by_rows(
 }
 
 // What a request on some of 40 records leaves: the answer with the state, and all of the records.
-#[derive(Drop)]
+#[derive(Clone, Copy)]
 pub struct Lent {
     pub asked: Asked,
     pub records: [Thread; 40],

@@ -1,4 +1,6 @@
 // Document 01, "Early issue": a list of calls on plain values, its answers as words.
+#![tactic(auto)]
+
 ghost use Rattle.std.specs.Prelude.{◌+◌, ◌*◌, ◌≤◌, ◌≡◌, false, [], ◌∷◌, map, length, replicate};
 ghost use Rattle.std.proofs.lemmas.List.Edits.{sets};
 ghost use Rattle.early.specs.Fit.{is_unfit};
@@ -14,7 +16,7 @@ use early::{Answer, Call, Site};
 use model::{Model, Threads};
 
 // What a list of calls leaves: 11 where the buffer is short, how many were not refused, the state and the records.
-#[derive(Drop)]
+#[derive(Clone, Copy)]
 pub struct Outcome {
     pub number: u8,
     pub granted: u64,

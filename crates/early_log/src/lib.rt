@@ -1,4 +1,6 @@
 // Document 01, "Early issue": the log, its new pairs, what is heard of it and what is dropped.
+#![tactic(auto)]
+
 ghost use Rattle.std.specs.Prelude.{◌≡◌, false, ℕ, ◌<◌, ◌≤◌, min, ltb, length, take};
 ghost use Rattle.base.specs.Index.{any_below};
 ghost use Rattle.model.specs.Footprint.{has};
@@ -12,7 +14,7 @@ use early::{Notification, Site};
 use model::{Events, Model, State, Threads};
 
 // What is counted of a log: whether it takes more than 128 places with the pairs of the running threads, and else the log with them.
-#[derive(Drop)]
+#[derive(Clone, Copy)]
 pub struct CountedLog {
     pub full: bool,
     pub site: Site,

@@ -1,4 +1,6 @@
 // Document 02, "Modules with ports": "a conflict through a port", by masks. What each segment names is worked out once for a request.
+#![tactic(auto)]
+
 ghost use Rattle.std.specs.Prelude.{◌≡◌, ◌≤◌, ◌<◌, ◌+◌, ◌*◌, min, length};
 ghost use Rattle.model.specs.Port.{uses_ports};
 ghost use Rattle.early_ports.specs.Names.{bit_from, read_from, op_names, test_name, names_of, name_word, stretch, any_ports, names_for};
@@ -8,7 +10,7 @@ use model::{Closer, Model, Op, Segment, Start};
 
 // What a thread does in a segment, after mapping: the variables that it writes, those that it accesses, and those that it names through a
 // port. Variable v is bit v.
-#[derive(Drop)]
+#[derive(Clone, Copy)]
 pub struct Footprint {
     pub writes: u64,
     pub uses: u64,

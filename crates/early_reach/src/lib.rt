@@ -1,5 +1,7 @@
 // Document 01, "Early issue": the ways to the events that forecasts read. Document 02, slip 6: distances are read by rows, of N × N words
 // or worked out when needed.
+#![tactic(auto)]
+
 ghost use Rattle.std.specs.Prelude.{◌≡◌, List, ℕ, ◌+◌, ◌*◌, ◌≤◌, ◌<◌, length};
 ghost use Rattle.model.specs.Values.{body_of};
 ghost use Rattle.model.specs.Statement.{notified_by};

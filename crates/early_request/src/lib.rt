@@ -1,4 +1,6 @@
 // Document 01, "Early issue": the core on plain values.
+#![tactic(auto)]
+
 ghost use Rattle.std.specs.Prelude.{◌≤◌, ◌≡◌, false, length};
 ghost use Rattle.plain.specs.Start.{fresh_threads};
 ghost use Rattle.tables_row.specs.Row.{Knows};
@@ -17,7 +19,7 @@ use early::{After, Call, Notification, Site};
 use model::{Model, State, Thread, Threads, Variables};
 
 // The number, 0 where the model is accepted; then the fresh state and the fresh records, all zero beside a number.
-#[derive(Drop)]
+#[derive(Clone, Copy)]
 pub struct FreshState {
     pub number: u8,
     pub site: Site,

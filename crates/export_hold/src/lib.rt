@@ -1,4 +1,6 @@
 // Document 02, slip 2: the model that numbers hold, and their number.
+#![tactic(auto)]
+
 ghost use Rattle.std.specs.Prelude.{ℕ, ◌+◌, ◌-◌, ◌<◌, ◌≤◌, ◌≡◌, ◌++◌, length, replicate};
 ghost use Rattle.base.specs.Index.{tabulate};
 ghost use Rattle.model.specs.Values.{no_segment, no_start};

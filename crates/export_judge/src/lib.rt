@@ -1,4 +1,6 @@
 // Document 02, slip 2: numbers that hold a model, judged: the first fault in file order, up to 8.
+#![tactic(auto)]
+
 ghost use Rattle.std.specs.Prelude.{◌+◌, ◌≤◌, ◌≡◌, not, ltb, eqb, length};
 ghost use Rattle.base.specs.Index.{any_below, or_else, first_below, tabulate};
 ghost use Rattle.model.specs.Refusal.{wrong_closer, wrong_name};

@@ -1,4 +1,6 @@
 // For callers in C and Rust: a state and thread records as numbers in buffers. Words past those of a state are not looked at and not touched.
+#![tactic(auto)]
+
 ghost use Rattle.std.specs.Prelude.{◌+◌, ◌<◌, ◌≤◌, ◌%◌, ◌^◌, ◌≡◌, cond, ◌&&◌, [], ◌∷◌, ltb, leb, length, get_or, take};
 ghost use Rattle.std.proofs.lemmas.List.Edits.{sets};
 ghost use Rattle.base.specs.Index.{tabulate};

@@ -1,5 +1,7 @@
 // For callers in C and Rust: the fresh state, one request, grant or finish, or a whole list, on a state that they keep as numbers in buffers.
 // Words past those of a state are not looked at and not touched.
+#![tactic(auto)]
+
 ghost use Rattle.std.specs.Prelude.{ℕ, ◌+◌, ◌<◌, ◌≤◌, ◌≡◌, ◌&&◌, List, leb, length, take};
 ghost use Rattle.reader.specs.File.{read_file};
 ghost use Rattle.tables.specs.Outcome.{conflict_marks};

@@ -1,4 +1,6 @@
 // Document 02, slip 2, for C and Rust: a file's model as numbers, and the file of a model held so.
+#![tactic(auto)]
+
 ghost use Rattle.export_write.specs.Call.{Models, Files};
 
 // A file's model as numbers at the front of the slice: the number, 0 where it is there.

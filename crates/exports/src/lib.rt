@@ -1,6 +1,8 @@
 // The kit for programs in C and Rust: numbers, and slices of numbers as a pointer and a count.
 // One order of tests in all calls: the file's number; 11 for a buffer of the state or of the answers, or for numbers that are none of a
 // state; 16; then a call's own numbers.
+#![tactic(auto)]
+
 ghost use Rattle.std.specs.Prelude.{◌≡◌, ◌≤◌, length};
 ghost use Rattle.reader.specs.File.{read_file};
 ghost use Rattle.reader_load.specs.Load.{load_of, load_buffer, load_by_rows};

@@ -1,4 +1,6 @@
 // A set of numbers below 64 as the bits of a word.
+#![tactic(auto)]
+
 ghost use Rattle.std.specs.Prelude.{◌≡◌, cond};
 ghost use Rattle.masks.specs.Mask.{bit_at, with_bit};
 

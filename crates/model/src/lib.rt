@@ -1,4 +1,6 @@
 // Document 01, "Model file" as values; thread records of "Early issue". Types and definitions; the functions are those of `model_effect` and `model_rules`.
+#![tactic(auto)]
+
 use clock::{Cycle, Delay, Time};
 
 // `largest_time`: the last horizon, and the longest delay.
@@ -14,7 +16,7 @@ pub const RECORD_TIME: u64 = 2000000001;
 pub const CUT_WORD: u64 = 1024 * CUT_TIME;
 
 // A statement's operation: one byte a, four bytes b.
-#[derive(Drop)]
+#[derive(Clone, Copy)]
 pub enum Op {
     Set(u8, u32),
     Add(u8, u32),
@@ -24,13 +26,13 @@ pub enum Op {
     Notify(u8),
 }
 
-#[derive(Drop)]
+#[derive(Clone, Copy)]
 pub struct Statement {
     pub op: Op,
 }
 
 // Next segments A and B, the test variable or 255, and the limit.
-#[derive(Drop)]
+#[derive(Clone, Copy)]
 pub struct Next {
     pub a: u8,
     pub b: u8,
@@ -38,7 +40,7 @@ pub struct Next {
     pub limit: u32,
 }
 
-#[derive(Drop)]
+#[derive(Clone, Copy)]
 pub enum Closer {
     End,
     Time(Delay, Next),
@@ -46,7 +48,7 @@ pub enum Closer {
 }
 
 // n statements, the rest of the places unused.
-#[derive(Drop)]
+#[derive(Clone, Copy)]
 pub struct Segment {
     pub closer: Closer,
     pub n: u8,
@@ -54,14 +56,14 @@ pub struct Segment {
 }
 
 // A thread as a model declares it: its first segment, and the variable of each port, 255 for an unused one.
-#[derive(Drop)]
+#[derive(Clone, Copy)]
 pub struct Start {
     pub first: u8,
     pub ports: [u8; 8],
 }
 
 // The horizon, then document 01's counts: v variables, e events, n segments, t threads.
-#[derive(Drop)]
+#[derive(Clone, Copy)]
 pub struct Model {
     pub horizon: Time,
     pub v: u8,
@@ -72,14 +74,14 @@ pub struct Model {
     pub starts: [Start; 32],
 }
 
-#[derive(Drop)]
+#[derive(Clone, Copy)]
 pub struct Variables {
     pub at: [u32; 64],
 }
 
 // Document 01: "ready at a cycle, waiting on an event since a cycle, ended at a cycle, or overrun at a cycle"; and document 02, slip 7:
 // "Until its finish a thread is running, a new state of its record".
-#[derive(Drop)]
+#[derive(Clone, Copy)]
 pub enum State {
     Ended(Cycle),
     Overrun(Cycle),
@@ -89,26 +91,26 @@ pub enum State {
 }
 
 // Document 01: "A thread record holds its segment and its state".
-#[derive(Drop)]
+#[derive(Clone, Copy)]
 pub struct Thread {
     pub segment: u8,
     pub state: State,
 }
 
-#[derive(Drop)]
+#[derive(Clone, Copy)]
 pub struct Threads {
     pub at: [Thread; 32],
 }
 
 // n events at the front, in order; 0 past them.
-#[derive(Drop)]
+#[derive(Clone, Copy)]
 pub struct Events {
     pub n: u8,
     pub at: [u8; 32],
 }
 
 // What running a segment leaves.
-#[derive(Drop)]
+#[derive(Clone, Copy)]
 pub struct Ran {
     pub variables: Variables,
     pub notified: Events,

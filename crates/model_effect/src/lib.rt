@@ -1,4 +1,6 @@
 // Document 01, "Model file": what a thread does in a segment; what its state says.
+#![tactic(auto)]
+
 ghost use Rattle.std.specs.Prelude.{◌≡◌, ◌+◌, ◌-◌, ◌%◌, ◌^◌, ◌<◌, length, replicate, slice_index, slice_index_or, slice_set};
 ghost use Rattle.clock.specs.Wait.{wait_ends, held_step};
 ghost use Rattle.model.specs.Port.{uses_ports, mapped, map_op, map_next, map_closer, map_segment};

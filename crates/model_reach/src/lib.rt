@@ -1,4 +1,6 @@
 // Document 02, "Modules with ports": from which segments a thread could reach a port that it leaves unused.
+#![tactic(auto)]
+
 ghost use Rattle.std.specs.Prelude.{◌≡◌, ◌≤◌, ◌<◌, min, length};
 ghost use Rattle.masks.specs.Mask.{mask_of};
 ghost use Rattle.model_reach.specs.Lacks.{HoldsLacks};

@@ -1,4 +1,6 @@
 // Document 01, "Model file": the file rules over values, as the number of the first fault.
+#![tactic(auto)]
+
 ghost use Rattle.std.specs.Prelude.{◌≡◌, ℕ, ◌≤◌, ◌<◌};
 ghost use Rattle.base.specs.Index.{or_else, first_below};
 ghost use Rattle.model.specs.Refusal.{wrong_closer, wrong_name};

@@ -1,4 +1,6 @@
 // A stored file is a list of parts, each a length of two bytes and its bytes.
+#![tactic(auto)]
+
 ghost use Rattle.std.specs.Prelude.{◌<◌, ◌≡◌};
 ghost use Rattle.io.specs.Counts.{IsPrefixLen};
 

@@ -1,4 +1,6 @@
 // Document 01, "Plain run": a segment's end and a cycle's end, on states as words: who waits, who wakes, and which cycle is next.
+#![tactic(auto)]
+
 ghost use Rattle.std.specs.Prelude.{◌≡◌, not, ◌&&◌, ltb, eqb, ℕ, ◌+◌, ◌%◌, ◌≤◌, ◌<◌, ◌^◌, get_or, length};
 ghost use Rattle.plain_words.specs.Reach.{lesser_of};
 ghost use Rattle.plain_state.specs.Words.{next_word, close_word, wake_word, least_word};
@@ -172,7 +174,7 @@ fn past_late(state: &[u64; 32], from: usize, to: usize) -> usize
 }
 
 // A cycle, and the threads that it has to look at: from one on and before another.
-#[derive(Drop)]
+#[derive(Clone, Copy)]
 pub struct Due {
     pub key: u64,
     pub from: usize,

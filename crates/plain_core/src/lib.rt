@@ -1,5 +1,7 @@
 // Document 01, "Plain run": the run with a budget.
 // A model is packed into words once; the run then works on arrays of words that are lent, so that no record is copied.
+#![tactic(auto)]
+
 ghost use Rattle.std.specs.Prelude.{◌≡◌, ℕ, ◌%◌, ◌≤◌, ◌<◌, get_or, length};
 ghost use Rattle.model.specs.Values.{start_at};
 ghost use Rattle.model.specs.Rules.{model_fault};

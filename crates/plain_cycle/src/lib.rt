@@ -1,4 +1,6 @@
 // Document 01, "Plain run": a cycle, in which the ready threads run.
+#![tactic(auto)]
+
 ghost use Rattle.std.specs.Prelude.{◌≡◌, ◌&&◌, leb, ℕ, ◌≤◌, ◌<◌, ◌^◌, get_or};
 ghost use Rattle.plain_state.specs.Words.{least_word};
 ghost use Rattle.plain_state.specs.Turn.{locals, waited_by, turn_on, turns_to};

@@ -1,4 +1,6 @@
 // A segment run in its row of words: the statements, the events that they notify, the threads that these reach, and the next segment.
+#![tactic(auto)]
+
 ghost use Rattle.std.specs.Prelude.{◌≡◌, ◌+◌, ◌-◌, ◌/◌, ◌%◌, ◌^◌, true, slice_index, slice_set};
 ghost use Rattle.plain_words.specs.Unpack.{next_by, follow_by};
 ghost use Rattle.plain_words.specs.Reach.{lesser_of, greater_of, widened};

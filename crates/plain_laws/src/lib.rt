@@ -1,1 +1,2 @@
 // What holds along the plain run. Laws alone: the definitions are those of plain.
+#![tactic(auto)]

@@ -1,4 +1,6 @@
 // A model packed into words, for the plain run, and what is read of them: how a segment closes, and whether one names a port.
+#![tactic(auto)]
+
 ghost use Rattle.std.specs.Prelude.{◌≡◌, ℕ, ◌+◌, ◌*◌, ◌≤◌, ◌<◌, ◌^◌, get_or, length};
 ghost use Rattle.model.specs.Port.{is_port};
 ghost use Rattle.model.specs.Values.{no_statement};

@@ -1,4 +1,6 @@
 // The rows in which threads are while a model runs: a segment's own, or, for one that names a port, the thread's, after mapping.
+#![tactic(auto)]
+
 ghost use Rattle.std.specs.Prelude.{◌≡◌, false, ℕ, ◌≤◌, ◌<◌, get_or, length};
 ghost use Rattle.model.specs.Port.{mapped};
 ghost use Rattle.plain_words.specs.Ports.{ports_by, map_word, map_choice};

@@ -1,4 +1,6 @@
 // Document 01, "Cases": "The program reads the file on standard input, at most its first 65,536 bytes, and prints exactly" the sheet.
+#![tactic(auto)]
+
 ghost use Rattle.io.specs.Counts.{IsPrefixLen};
 ghost use Rattle.buffers.specs.Write.{Writes};
 ghost use Rattle.sheet_file.specs.Report.{printed};

@@ -1,4 +1,6 @@
 // Document 01, "Model file": bytes to a model, or the first number that applies.
+#![tactic(auto)]
+
 ghost use Rattle.std.specs.Prelude.{◌≡◌, ◌≤◌, max, length, true, cond};
 ghost use Rattle.model.specs.Rules.{lack_fault};
 ghost use Rattle.reader.specs.File.{read_file};
@@ -10,7 +12,7 @@ use reader::Read;
 use reader_record::Counts;
 
 // What a file's head says, and where the record after it begins.
-#[derive(Drop)]
+#[derive(Clone, Copy)]
 struct Head {
     horizon: Time,
     v: u8,
@@ -19,7 +21,7 @@ struct Head {
 }
 
 // A file's number but for 18, and whether a segment can name a port.
-#[derive(Drop)]
+#[derive(Clone, Copy)]
 struct Verdict {
     number: u8,
     named: bool,

@@ -1,4 +1,6 @@
 // Document 01, "Model file" and "Tables": a file's model with its tables.
+#![tactic(auto)]
+
 ghost use Rattle.std.specs.Prelude.{◌≡◌, length};
 ghost use Rattle.reader_load.specs.Load.{load_of, load_buffer, load_by_rows};
 

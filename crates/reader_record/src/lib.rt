@@ -1,4 +1,6 @@
 // Document 01, "Model file": a record of a file: its first fault, after what is counted.
+#![tactic(auto)]
+
 ghost use Rattle.std.specs.Prelude.{◌≡◌, ◌≤◌, length, true};
 ghost use Rattle.reader.specs.Word.{long_at};
 ghost use Rattle.reader.specs.Record.{follows, length_fits, framing_fault, ports_from, ports_bytes_fault};
@@ -9,7 +11,7 @@ use clock::Time;
 
 // What is counted as a file is judged: variables, events, segments, threads, the least N that every target is below, and whether a
 // segment can name a port.
-#[derive(Drop)]
+#[derive(Clone, Copy)]
 pub struct Counts {
     pub v: u8,
     pub e: u8,

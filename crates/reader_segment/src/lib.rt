@@ -1,4 +1,6 @@
 // Document 01, "Model file": the record of a segment, from its bytes to its first fault and to the segment.
+#![tactic(auto)]
+
 ghost use Rattle.std.specs.Prelude.{◌≡◌, ◌+◌, ◌≤◌, ◌<◌, length};
 ghost use Rattle.reader.specs.Word.{word_at, long_at};
 ghost use Rattle.reader.specs.Closer.{next_from, closer_from, rest_is_zero, closer_shape_fault, closer_bytes_fault};
@@ -10,7 +12,7 @@ use clock::Delay;
 use model::{Closer, Next, Op, Segment, Statement};
 
 // A statement's 6, or 0, and its operation.
-#[derive(Drop)]
+#[derive(Clone, Copy)]
 struct Decoded(u8, Op);
 
 // A byte as a longer word.

@@ -1,4 +1,6 @@
 // A list of calls, all of it made on the fresh state: of a held model, and of a file's bytes.
+#![tactic(auto)]
+
 ghost use Rattle.std.specs.Prelude.{◌*◌, ◌≡◌, ◌||◌, ltb, length};
 ghost use Rattle.reader.specs.File.{read_file};
 ghost use Rattle.early.specs.ByRows.{LeftFree};
@@ -9,7 +11,7 @@ use model::{Model, Threads};
 
 // What a replay leaves: the number of the refusal or 0, how many calls were not refused, the counts of variables and threads, the state
 // and the records.
-#[derive(Drop)]
+#[derive(Clone, Copy)]
 pub struct Replayed {
     pub number: u8,
     pub granted: u64,

@@ -1,5 +1,7 @@
 // A list of calls: the model file on standard input, at most its first 65,536 bytes; the calls as arguments, at most 1,024: a thread's number
 // for a request, after a `g` for a grant, after an `f` for a finish. Prints the transcript of the replay, and nothing else.
+#![tactic(auto)]
+
 ghost use Rattle.std.specs.Prelude.{◌≤◌, length};
 ghost use Rattle.io.specs.Counts.{IsPrefixLen};
 ghost use Rattle.buffers.specs.Write.{Writes};

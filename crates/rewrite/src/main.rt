@@ -1,4 +1,6 @@
 // Document 02, slip 2: a model file on standard input, at most its first 65,536 bytes, written again on standard output.
+#![tactic(auto)]
+
 ghost use Rattle.io.specs.Counts.{IsPrefixLen};
 ghost use Rattle.buffers.specs.Write.{Writes};
 ghost use Rattle.writer_print.specs.Again.{again};

@@ -8,7 +8,7 @@ use crate::{draw, issue, number, simulator};
 
 // A call as a word, the thread with 256 more for a grant and 512 more for a finish, NEVER at the end of the list; and the stamp from which
 // the list goes on if it is refused.
-#[derive(Drop)]
+#[derive(Clone, Copy)]
 pub struct Turn {
     pub word: u64,
     pub stamp: u64,

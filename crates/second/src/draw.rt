@@ -33,7 +33,7 @@ const TABLE: [u64; 296] = [
 
 // What the parts of a model are drawn by. Statements write the first w variables. Of a hundred names of variables so many are ports, of
 // so many ports from one of the eight on.
-#[derive(Drop)]
+#[derive(Clone, Copy)]
 struct Shape {
     v: u64,
     w: u64,

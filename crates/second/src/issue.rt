@@ -16,7 +16,7 @@ pub const FINISH: u64 = 2;
 
 // What a call is answered with: the number, 0 where it is not refused; then segment, time and delta.
 // Beside it, how many others have overrun on hearing.
-#[derive(Drop)]
+#[derive(Clone, Copy)]
 pub struct Reply {
     pub number: u64,
     pub segment: u64,

@@ -1,4 +1,6 @@
 // Document 01, "Cases": the sheet of a file's plain run, as bytes.
+#![tactic(auto)]
+
 ghost use Rattle.std.specs.Prelude.{◌≤◌, length};
 ghost use Rattle.buffers.specs.Write.{Writes};
 ghost use Rattle.sheet.specs.Sheet.{longest_sheet};

@@ -1,4 +1,6 @@
 // Document 01, "Cases": the sheet of a plain run, as bytes in a lent buffer.
+#![tactic(auto)]
+
 ghost use Rattle.std.specs.Prelude.{◌+◌, ◌≤◌, min, ◌++◌, length};
 ghost use Rattle.buffers.specs.Line.{rest_of};
 ghost use Rattle.buffers.specs.Put.{Puts};

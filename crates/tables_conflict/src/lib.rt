@@ -1,4 +1,6 @@
 // Document 01, "Tables": the marks of conflict.
+#![tactic(auto)]
+
 ghost use Rattle.std.specs.Prelude.{◌≡◌, ℕ, ◌≤◌, ◌<◌, length};
 ghost use Rattle.std.specs.Int.Bits.{bit_or};
 ghost use Rattle.model.specs.Values.{segment_at};
@@ -9,7 +11,7 @@ ghost use Rattle.tables_conflict.specs.Mask.{masks, op_masks, test_mask, join_ma
 use model::{Closer, Model, Op, Segment};
 
 // The variables that a segment writes, and those that it writes, reads or tests: variable v is bit v.
-#[derive(Drop)]
+#[derive(Clone, Copy)]
 struct Masks {
     writes: u64,
     uses: u64,

@@ -1,4 +1,6 @@
 // Document 01, "Tables": the words of distance.
+#![tactic(auto)]
+
 ghost use Rattle.std.specs.Prelude.{◌≡◌, cond, ◌+◌, ◌*◌, ◌≤◌, ◌<◌, ltb, length};
 ghost use Rattle.clock.specs.Advance.{advance_of};
 ghost use Rattle.model.specs.Refusal.{accepted, unfit, short_table};
@@ -14,7 +16,7 @@ use model::{CUT_TIME, CUT_WORD, Closer, Model};
 const NEVER: u64 = 18446744073709551615;
 
 // The next segments of a closer, and the word of a step to them. While the rounds run CUT_WORD stands for never.
-#[derive(Drop)]
+#[derive(Clone, Copy)]
 pub struct Steps {
     pub a: u8,
     pub b: u8,

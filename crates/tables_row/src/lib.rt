@@ -1,4 +1,6 @@
 // Document 02, slip 6: "works out one segment's row when it is needed".
+#![tactic(auto)]
+
 ghost use Rattle.std.specs.Prelude.{◌≡◌, cond, true, false, min, ◌≤◌, ◌<◌, length};
 ghost use Rattle.model.specs.Rules.{model_fault};
 ghost use Rattle.tables_distance.specs.Store.{far};

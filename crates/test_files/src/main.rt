@@ -1,5 +1,7 @@
 // Runs the library on what is stored in the files that the arguments name: the reader on the model files of the first, and the runs
 // of the second. `make.py` makes both, and what is to be written.
+#![tactic(auto)]
+
 mod models;
 mod runs;
 

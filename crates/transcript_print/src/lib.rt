@@ -1,4 +1,6 @@
 // What `replayrun` prints, as bytes in a lent buffer: the transcript of a list of calls, and that of a list on a model file.
+#![tactic(auto)]
+
 ghost use Rattle.std.specs.Prelude.{◌+◌, ◌*◌, ◌<◌, ◌≤◌, min, ◌≡◌, ◌∷◌, length};
 ghost use Rattle.buffers.specs.Line.{rest_of};
 ghost use Rattle.buffers.specs.Put.{Puts};

@@ -1,6 +1,8 @@
 // The plain run against a second simulator: stored models (model M, cases 2 and 3, examples of the source documents), whose sheets
 // are written, and generated ones; then lists of calls against a second scheduler, on generated models. Counts follow each; every
 // difference is a line of its own.
+#![tactic(auto)]
+
 mod compare;
 mod library;
 mod orders;

@@ -41,7 +41,7 @@ const ROWS_JUNK: u64 = 1431655765;
 
 // A list: seed and number, how many calls were made and not refused, how many segments were granted, the stamp at which the last call was
 // refused, whether the list goes on, and what each thread has run.
-#[derive(Drop)]
+#[derive(Clone, Copy)]
 struct List {
     seed: u64,
     number: u64,

@@ -1,4 +1,6 @@
 // Document 02, slip 2: the file of a model, as bytes in a lent buffer.
+#![tactic(auto)]
+
 ghost use Rattle.std.specs.Prelude.{◌≡◌, ◌++◌, ◌+◌, ◌≤◌, length};
 ghost use Rattle.buffers.specs.Put.{Puts};
 ghost use Rattle.buffers.specs.Written.{Saves};

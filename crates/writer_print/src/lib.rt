@@ -1,4 +1,6 @@
 // Document 02, slip 2: a file read and written again, as the program `rewrite` prints it.
+#![tactic(auto)]
+
 ghost use Rattle.buffers.specs.Write.{Writes};
 ghost use Rattle.writer_print.specs.Again.{again, Same};
 

@@ -1,4 +1,6 @@
 // Document 02, slip 2: the record of a segment, and the bytes and the frame that every record has.
+#![tactic(auto)]
+
 ghost use Rattle.std.specs.Prelude.{◌++◌, ◌+◌, ◌*◌, get_or};
 ghost use Rattle.buffers.specs.Put.{Puts};
 ghost use Rattle.model.specs.Values.{no_statement};
