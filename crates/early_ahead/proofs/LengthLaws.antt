@@ -13,7 +13,7 @@ use Rattle.early_limits.specs.contracts.Crew as crew
 use Rattle.early_limits.proofs.Crew.TheLaws as crew'
 
 pub limits-length : (xs : Limits) (vs : List Val) → Is limits.the_row xs vs → length xs.at ≡ 32
-limits-length xs vs g = sym (length-map xs.at _) ∙ (LL.owed limits.the_type limits'.the_laws xs vs g).0.1.0.1
+limits-length xs vs g = (LL.owed limits.the_type limits'.the_laws xs vs g).0.1.0.1
 
 pub events-length : (x : Crew) (vs : List Val) → Is crew.the_row x vs → length x.events ≡ 32
-events-length x vs g = sym (length-map x.events _) ∙ (LL.owed crew.the_type crew'.the_laws x vs g).1.0.1.0.1
+events-length x vs g = (LL.owed crew.the_type crew'.the_laws x vs g).1.0.1.0.1

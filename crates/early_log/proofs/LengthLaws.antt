@@ -14,7 +14,7 @@ use Rattle.early.specs.contracts.Site as site
 use Rattle.early.proofs.Site.TheLaws as site'
 
 pub log-length : (s : Site) (vs : List Val) → Is site.the_row s vs → length s.log ≡ 128
-log-length s vs g = sym (length-map s.log _) ∙ (LL.owed site.the_type site'.the_laws s vs g).1.0.1.0.1
+log-length s vs g = (LL.owed site.the_type site'.the_laws s vs g).1.0.1.0.1
 
 -- a count above the places takes them all
 pub take_within : {A : Type 0} (xs : List A) (n p : ℕ) → length xs ≡ p → take (min n p) xs ≡ take n xs

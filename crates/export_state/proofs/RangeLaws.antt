@@ -78,7 +78,7 @@ site-range s vs g =
     let o = LL.owed site.the_type site'.the_laws s vs g in
     let size = log-length s vs g in
     record {
-      variables = sym (length-map s.variables.at _) ∙ o.0.1.1.0.1.0.1;
+      variables = o.0.1.1.0.1.0.1;
       places = size;
       count = o.1.1.0.1;
       pairs = λ i h. pair-range _ _ (each_at _ _ s.log o.1.0.0 i (pair_of 0 (cycle_at 0 0)) o.1.0.1.1 (omega arith)).1;

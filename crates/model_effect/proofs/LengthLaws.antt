@@ -22,19 +22,19 @@ use Rattle.model.specs.contracts.Events as events
 use Rattle.model.proofs.Events.TheLaws as events'
 
 pub variables_length : (v : Variables) (vs : List Val) → Is variables.the_row v vs → length v.at ≡ 64
-variables_length v vs g = sym (length-map v.at _) ∙ (LL.owed variables.the_type variables'.the_laws v vs g).0.1.0.1
+variables_length v vs g = (LL.owed variables.the_type variables'.the_laws v vs g).0.1.0.1
 
 pub statements-length : (g : Segment) (vs : List Val) → Is segment.the_row g vs → length g.statements ≡ 32
-statements-length g vs h = sym (length-map g.statements _) ∙ (LL.owed segment.the_type segment'.the_laws g vs h).1.1.0.1.0.1
+statements-length g vs h = (LL.owed segment.the_type segment'.the_laws g vs h).1.1.0.1.0.1
 
 pub segments-length : (m : Model) (vs : List Val) → Is model.the_row m vs → length m.segments ≡ 64
-segments-length m vs g = sym (length-map m.segments _) ∙ (LL.owed model.the_type model'.the_laws m vs g).1.1.1.1.1.0.1.0.1
+segments-length m vs g = (LL.owed model.the_type model'.the_laws m vs g).1.1.1.1.1.0.1.0.1
 
 pub starts-length : (m : Model) (vs : List Val) → Is model.the_row m vs → length m.starts ≡ 32
-starts-length m vs g = sym (length-map m.starts _) ∙ (LL.owed model.the_type model'.the_laws m vs g).1.1.1.1.1.1.0.1.0.1
+starts-length m vs g = (LL.owed model.the_type model'.the_laws m vs g).1.1.1.1.1.1.0.1.0.1
 
 pub threads-length : (t : Threads) (vs : List Val) → Is threads.the_row t vs → length t.at ≡ 32
-threads-length t vs g = sym (length-map t.at _) ∙ (LL.owed threads.the_type threads'.the_laws t vs g).0.1.0.1
+threads-length t vs g = (LL.owed threads.the_type threads'.the_laws t vs g).0.1.0.1
 
 pub events-length : (x : Events) (vs : List Val) → Is events.the_row x vs → length x.at ≡ 32
-events-length x vs g = sym (length-map x.at _) ∙ (LL.owed events.the_type events'.the_laws x vs g).1.0.1.0.1
+events-length x vs g = (LL.owed events.the_type events'.the_laws x vs g).1.0.1.0.1

@@ -20,16 +20,16 @@ use Rattle.model.specs.contracts.Model as model
 use Rattle.model.proofs.Model.TheLaws as model'
 
 pub statements-length : (g : Segment) (vs : List Val) → Is segment.the_row g vs → length g.statements ≡ 32
-statements-length g vs h = sym (length-map g.statements _) ∙ (LL.owed segment.the_type segment'.the_laws g vs h).1.1.0.1.0.1
+statements-length g vs h = (LL.owed segment.the_type segment'.the_laws g vs h).1.1.0.1.0.1
 
 pub ports-length : (x : Start) (vs : List Val) → Is start.the_row x vs → length x.ports ≡ 8
-ports-length x vs h = sym (length-map x.ports _) ∙ (LL.owed start.the_type start'.the_laws x vs h).1.0.1.0.1
+ports-length x vs h = (LL.owed start.the_type start'.the_laws x vs h).1.0.1.0.1
 
 pub segments-length : (m : Model) (vs : List Val) → Is model.the_row m vs → length m.segments ≡ 64
-segments-length m vs g = sym (length-map m.segments _) ∙ (LL.owed model.the_type model'.the_laws m vs g).1.1.1.1.1.0.1.0.1
+segments-length m vs g = (LL.owed model.the_type model'.the_laws m vs g).1.1.1.1.1.0.1.0.1
 
 pub starts-length : (m : Model) (vs : List Val) → Is model.the_row m vs → length m.starts ≡ 32
-starts-length m vs g = sym (length-map m.starts _) ∙ (LL.owed model.the_type model'.the_laws m vs g).1.1.1.1.1.1.0.1.0.1
+starts-length m vs g = (LL.owed model.the_type model'.the_laws m vs g).1.1.1.1.1.1.0.1.0.1
 
 pub segment_at-read : (m : Model) (i : ℕ) (d : Segment) → i < length m.segments → get_or m.segments i d ≡ segment_at m i
 unfolding segment_at

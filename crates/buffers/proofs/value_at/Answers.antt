@@ -1,0 +1,8 @@
+-- `buffers::value_at` meets its contract: 0 past the end.
+use mathlib.Core.Path.{sym}
+use lib.ListN.{get_or-eq_default}
+use borrow.Author.Rules.{rules}
+use Rattle.buffers.proofs.value_at.Goals as goal
+
+pub returns : goal.returns
+returns c = sym (get_or-eq_default c.args.values.now 0 c.if-i-values.false)

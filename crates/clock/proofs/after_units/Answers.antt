@@ -1,0 +1,7 @@
+-- `clock::after_units` meets its contract: so many units on, at delta 0.
+use Rattle.std.proofs.Common.{rules}
+use Rattle.clock.proofs.WaitLaws.{over-units}
+use Rattle.clock.proofs.after_units.Goals as goal
+
+pub returns : goal.returns
+returns c = rw c.wrapping_add_u64.ensures.value (over-units _ _)

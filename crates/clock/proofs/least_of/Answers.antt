@@ -1,0 +1,10 @@
+-- `clock::least_of` meets its contract: b where it is before a, else a.
+use Rattle.std.proofs.Common.{sym, ◌∙◌, rules}
+use Rattle.clock.proofs.LeastLaws.{least-before, least_other}
+use Rattle.clock.proofs.least_of.Goals as goal
+
+pub returns-then-is_bound_before : goal.returns-then-is_bound_before
+returns-then-is_bound_before c = least-before _ _ (sym c.is_bound_before.ensures ∙ c.if-is_bound_before.true)
+
+pub returns : goal.returns
+returns c = least_other _ _ (sym c.is_bound_before.ensures ∙ c.if-is_bound_before.false)

@@ -1,0 +1,15 @@
+-- `model_reach::all_rounds` meets its contract: a round for each segment.
+use Prim.Native.Nat.{◌≤◌, ◌-◌}
+use mathlib.Core.Path.{◌≡◌, refl, ap, ◌∙◌}
+use native.Mathlib.Omega.{arith}
+use lib.ListN.{length}
+use borrow.Author.Rules.{rules}
+use Rattle.model_reach.specs.Store.{rounds_to}
+use Rattle.model_reach.proofs.StoreLaws.{rounds_to-length, rounds_to-none, rounds_to-more}
+use Rattle.model_reach.proofs.all_rounds.Given as goal
+
+abbrev pub invariant-loop-k : goal.invariant-loop-k
+invariant-loop-k l = (l.k ≤ l.n) × (length l.rows ≡ length l.initial.rows) × (l.rows ≡ rounds_to l.initial.rows l.n l.k)
+
+abbrev pub decreases-loop-k : goal.decreases-loop-k
+decreases-loop-k l = l.n - l.k

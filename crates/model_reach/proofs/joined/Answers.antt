@@ -1,0 +1,11 @@
+-- `model_reach::joined` meets its contract, case by case.
+use mathlib.Core.Path.{sym, ◌∙◌}
+use borrow.Author.Rules.{rules}
+use Rattle.model_reach.proofs.StoreLaws.{joined-over, joined-left}
+use Rattle.model_reach.proofs.joined.Goals as goal
+
+pub returns-then-has : goal.returns-then-has
+returns-then-has c = joined-over _ _ _ (sym c.has.ensures ∙ c.if-has.true)
+
+pub returns : goal.returns
+returns c = joined-left _ _ _ (sym c.has.ensures ∙ c.if-has.false)

@@ -1,0 +1,25 @@
+-- `model_rules::lack_in` meets its contract. The invariant: none of the first k threads lacks a port.
+use Prim.Native.Nat.{ℕ, ◌≤◌, ◌<◌, ◌-◌}
+use mathlib.Core.Bool.{Bool, false}
+use mathlib.Core.List.{List}
+use mathlib.Core.Path.{◌≡◌, refl, sym, ap, ◌∙◌}
+use native.Mathlib.Omega.{arith}
+use lib.ListN.{length, get_or}
+use Rattle.masks.specs.Mask.{bit_at}
+use borrow.Author.Count.{below_none, below_more}
+use borrow.Author.Rules.{rules}
+use Rattle.model.specs.declared.Model.{Model}
+use Rattle.model.specs.declared.Start.{Start}
+use Rattle.model_rules.specs.Asked.{Linked}
+use Rattle.model_rules.proofs.FaultLaws.{start_lacks, start_lacks-read, lack_fault-here, lack_fault-end, both_below, not-both-below}
+use Rattle.model_rules.proofs.lack_in.Given as goal
+
+-- of each model that the contract speaks of
+abbrev pub Held : List Start → ℕ → List ℕ → (Model → Type 0) → Type 0
+Held starts t ws A = (m : Model) → m.starts ≡ starts → m.t ≡ t → Linked m ws → A m
+
+abbrev pub invariant-loop-k : goal.invariant-loop-k
+invariant-loop-k l = (l.k ≤ l.count) × ((l.k ≤ 32) × Held l.starts l.t l.lacking (λ m. (i : ℕ) → i < l.k → start_lacks m i ≡ false))
+
+abbrev pub decreases-loop-k : goal.decreases-loop-k
+decreases-loop-k l = l.count - l.k
