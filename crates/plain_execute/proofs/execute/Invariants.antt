@@ -1,7 +1,6 @@
 -- `plain_execute::execute` meets its contract. The invariant: the first j statements are executed.
-use Rattle.std.proofs.Common.{◌≡◌, ◌+◌, ◌-◌, ◌*◌, ◌%◌, ◌<◌, ◌≤◌, get_or, arith, rules}
+use Rattle.std.proofs.Common.{◌≡◌, ◌+◌, ◌-◌, ◌*◌, ◌%◌, ◌<◌, ◌≤◌}
 use Rattle.plain_words.specs.Shared.{shared, execute_to}
-use Rattle.plain_words.proofs.ExitLaws.{size_by-<, execute_to-none, execute_to-next, execute_by-as}
 use Rattle.plain_execute.proofs.execute.Given as goal
 
 abbrev pub invariant-loop-j : goal.invariant-loop-j

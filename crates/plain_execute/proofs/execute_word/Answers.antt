@@ -1,5 +1,5 @@
 -- `plain_execute::execute_word` meets its contract, code by code.
-use Rattle.std.proofs.Common.{ℕ, ◌/◌, ◌%◌, set, refl, ap, arith, rules}
+use Rattle.std.proofs.Common.{ℕ, ◌/◌, ◌%◌, set, refl, ap, arith}
 use Rattle.plain_words.proofs.ExitLaws.{execute_word-sets, execute_word-notifies, op_of-set, op_of-add, op_of-copy, op_of-add-variable, op_of-sub-variable, op_of-notify}
 use Rattle.plain_execute.proofs.execute_word.Goals as goal
 
@@ -32,11 +32,9 @@ returns-in-4 c = let at = c in
     execute_word-sets a.w a.v.now a.told.now a.ranges.now _ (op_of-sub-variable a.w (λ e. omega arith) (λ e. omega arith) (λ e. omega arith) (λ e. omega arith) code) refl _ (ap (λ (x : ℕ). set a.v.now (a.w / 8 % 64) x) c.difference.ensures)
 
 pub returns-in-5 : goal.returns-in-5
-returns-in-5 c = let at = c in
-    let a = at.args in
-    let rest = at.in-0.rest in
+returns-in-5 c = let a = c.args in
     let told = c.tell.ensures in
-    execute_word-notifies a.w a.v.now a.told.now a.ranges.now _ (op_of-notify a.w rest.0.0.0.0.1 rest.0.0.0.1 rest.0.0.1 rest.0.1 rest.1) _ _ told.marks told.reached
+    execute_word-notifies a.w a.v.now a.told.now a.ranges.now _ (op_of-notify a.w (λ e. omega arith) (λ e. omega arith) (λ e. omega arith) (λ e. omega arith) (λ e. omega arith)) _ _ told.marks told.reached
 
 pub returns-else-this-lt8 : goal.returns-else-this-lt8
-returns-else-this-lt8 c = absurd (omega (arith, c.if-this-lt8.left))
+returns-else-this-lt8 c = absurd (omega arith)

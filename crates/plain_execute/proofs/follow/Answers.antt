@@ -1,5 +1,5 @@
 -- `plain_execute::follow` meets its contract.
-use Rattle.std.proofs.Common.{ℕ, ◌+◌, ◌*◌, ◌%◌, get_or, ap, ◌∙◌, rules}
+use Rattle.std.proofs.Common.{ℕ, ◌+◌, ◌*◌, ◌%◌, get_or, ap, ◌∙◌}
 use Rattle.plain_words.specs.Unpack.{next_by}
 use Rattle.plain_words.proofs.ExitLaws.{follow_by-over, follow_by-on}
 use Rattle.plain_execute.proofs.follow.Goals as goal

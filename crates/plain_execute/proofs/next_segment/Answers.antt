@@ -1,6 +1,5 @@
 -- `plain_execute::next_segment` meets its contract.
 use Rattle.plain_words.proofs.ExitLaws.{next_by-untested, next_by-below, next_by-above}
-use Rattle.std.proofs.Common.{rules}
 use Rattle.plain_execute.proofs.next_segment.Goals as goal
 
 pub returns-then-test-eq255 : goal.returns-then-test-eq255

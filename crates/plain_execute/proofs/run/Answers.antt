@@ -1,5 +1,4 @@
 -- `plain_execute::run` meets its contract.
-use Rattle.std.proofs.Common.{rules}
 use Rattle.plain_execute.proofs.run.Goals as goal
 
 pub returns : goal.returns

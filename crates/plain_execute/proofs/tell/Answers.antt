@@ -1,5 +1,5 @@
 -- `plain_execute::tell` meets its contract.
-use Rattle.std.proofs.Common.{refl, rules}
+use Rattle.std.proofs.Common.{refl}
 use Rattle.plain_execute.proofs.tell.Goals as goal
 
 pub returns : goal.returns

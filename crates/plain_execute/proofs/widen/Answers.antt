@@ -1,5 +1,5 @@
 -- `plain_execute::widen` meets its contract.
-use Rattle.std.proofs.Common.{◌%◌, rules}
+use Rattle.std.proofs.Common.{◌%◌}
 use Rattle.plain_words.proofs.ReachLaws.{widened-as}
 use Rattle.plain_execute.proofs.widen.Goals as goal
 
