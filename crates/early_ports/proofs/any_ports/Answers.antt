@@ -1,11 +1,8 @@
 -- `early_ports::any_ports` meets its contract: a search over the threads.
-use Prim.Native.Nat.{◌≤◌, ◌-◌, min}
+use Prim.Native.Nat.{min}
 use mathlib.Core.Path.{◌≡◌, refl, ap, sym, ◌∙◌}
-use mathlib.Core.Bool.{false}
 use native.Mathlib.Omega.{arith}
 use lib.ListN.{length, get_or}
-use borrow.Author.Rules.{rules}
-use Rattle.base.specs.Index.{any_below}
 use Rattle.base.proofs.IndexLaws.{any_below-start, any_below-here, any_below-more}
 use Rattle.model.specs.Port.{uses_ports}
 use Rattle.base.proofs.ListLaws.{get_d_any}

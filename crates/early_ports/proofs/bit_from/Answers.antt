@@ -1,6 +1,5 @@
 -- `early_ports::bit_from` meets its contract: a number below the first is none.
 use native.Mathlib.Omega.{arith}
-use borrow.Author.Rules.{rules}
 use Rattle.early_ports.proofs.NameLaws.{bit_from-none, bit_from-some}
 use Rattle.early_ports.proofs.bit_from.Goals as goal
 

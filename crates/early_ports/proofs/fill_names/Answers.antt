@@ -1,13 +1,9 @@
 -- `early_ports::fill_names` meets its contract: too short, no port used, or stretch by stretch.
-use Prim.Native.Nat.{◌≤◌, ◌-◌, min}
-use mathlib.Core.Path.{◌≡◌, refl, ap, sym, ◌∙◌}
-use mathlib.Core.Bool.{true}
+use mathlib.Core.Path.{refl, ap, sym, ◌∙◌}
 use native.Mathlib.Omega.{arith}
 use lib.ListN.{length}
-use borrow.Author.Rules.{rules}
 use borrow.Author.Tests.{not-true, not-false}
-use Rattle.early_ports.specs.Names.{stretches, any_ports}
-use Rattle.early_ports.proofs.NameLaws.{stretch-length, stretches-length, stretches-none, stretches-more, names_for-short, names_for-none, names_for-some}
+use Rattle.early_ports.proofs.NameLaws.{stretches-length, stretches-none, stretches-more, names_for-short, names_for-none, names_for-some}
 use mathlib.Core.Bool.{not}
 use Rattle.early_ports.proofs.fill_names.Goals as goal
 

@@ -1,9 +1,8 @@
 -- `early_ports::fill_stretch` meets its contract: a word for each segment.
-use Prim.Native.Nat.{◌≤◌, ◌-◌, ◌*◌}
+use Prim.Native.Nat.{◌*◌}
 use mathlib.Core.Path.{◌≡◌, refl, ap, ◌∙◌}
 use native.Mathlib.Omega.{arith}
 use lib.ListN.{length}
-use borrow.Author.Rules.{rules}
 use Rattle.base.proofs.IndexLaws.{store_to-none, store_to-more, store_to-length}
 use Rattle.model.specs.Values.{segment_at}
 use Rattle.model_reach.proofs.ReadLaws.{segments-length, segment_at-read}

@@ -1,13 +1,8 @@
 -- `early_ports::fill_stretch` meets its contract: a word for each segment.
-use Prim.Native.Nat.{◌≤◌, ◌-◌, ◌*◌}
-use mathlib.Core.Path.{◌≡◌, refl, ap, ◌∙◌}
-use native.Mathlib.Omega.{arith}
+use Prim.Native.Nat.{◌≤◌, ◌-◌}
+use mathlib.Core.Path.{◌≡◌}
 use lib.ListN.{length}
-use borrow.Author.Rules.{rules}
-use Rattle.base.proofs.IndexLaws.{store_to-none, store_to-more, store_to-length}
-use Rattle.model.specs.Values.{segment_at}
-use Rattle.model_reach.proofs.ReadLaws.{segments-length, segment_at-read}
-use Rattle.early_ports.specs.Names.{name_word, stretch}
+use Rattle.early_ports.specs.Names.{stretch}
 use Rattle.early_ports.proofs.fill_stretch.Given as goal
 
 abbrev pub invariant-loop-s : goal.invariant-loop-s

@@ -1,7 +1,5 @@
 -- `early_ports::footprint_of` meets its contract: nothing past the segments.
-use mathlib.Core.Path.{refl}
 use native.Mathlib.Omega.{arith}
-use borrow.Author.Rules.{rules}
 use Rattle.early_ports.proofs.CrossLaws.{footprint_of-past, footprint_of-made}
 use Rattle.early_ports.proofs.footprint_of.Goals as goal
 

@@ -1,9 +1,6 @@
 -- `early_ports::map_bits` meets its contract: no port, or port by port.
-use Prim.Native.Nat.{◌≤◌, ◌-◌}
-use mathlib.Core.Path.{◌≡◌, refl, ◌∙◌}
+use mathlib.Core.Path.{◌≡◌}
 use native.Mathlib.Omega.{arith}
-use borrow.Author.Rules.{rules}
-use Rattle.early_ports.specs.Cross.{map_bits}
 use Rattle.early_ports.proofs.CrossLaws.{map_bits-none, map_bits-more, map_bits-unset}
 use Rattle.early_ports.proofs.map_bits.Goals as goal
 

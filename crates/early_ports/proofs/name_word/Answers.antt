@@ -1,6 +1,5 @@
 -- `early_ports::name_word` meets its contract: variables below 2, ports from 2 on.
 use native.Mathlib.Omega.{arith}
-use borrow.Author.Rules.{rules}
 use borrow.Author.Tests.{lt-ltb, le-ltb}
 use Rattle.early_ports.specs.Names.{name_word}
 use Rattle.early_ports.proofs.name_word.Goals as goal

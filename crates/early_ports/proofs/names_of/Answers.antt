@@ -1,11 +1,6 @@
 -- `early_ports::names_of` meets its contract: the statements, one after the other, and the test variable.
-use Prim.Native.Nat.{◌≤◌, ◌-◌, min}
-use mathlib.Core.Path.{◌≡◌}
 use native.Mathlib.Omega.{arith}
-use lib.ListN.{take}
-use borrow.Author.Rules.{rules}
 use Rattle.model_reach.proofs.ReadLaws.{statements-length}
-use Rattle.early_ports.specs.Names.{names_in}
 use Rattle.early_ports.proofs.NameLaws.{names_in-none, names_in-more, names_of-made}
 use Rattle.early_ports.proofs.names_of.Goals as goal
 

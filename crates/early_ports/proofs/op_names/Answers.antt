@@ -1,7 +1,6 @@
 -- `early_ports::op_names` meets its contract, operation by operation.
 use mathlib.Core.Path.{refl, ap₂, ◌∙◌}
 use mathlib.Core.Logic.{⊎_elim}
-use borrow.Author.Rules.{rules}
 use lib.Bits.{bit_or}
 use Rattle.early_ports.specs.Names.{op_names}
 use Rattle.early_ports.proofs.op_names.Goals as goal

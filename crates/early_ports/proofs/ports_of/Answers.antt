@@ -1,9 +1,7 @@
 -- `early_ports::ports_of` meets its contract: no port past the threads.
-use Prim.Native.Nat.{ℕ}
-use mathlib.Core.Path.{◌≡◌, refl, ap, sym}
+use mathlib.Core.Path.{◌≡◌, ap, sym}
 use native.Mathlib.Omega.{arith}
 use lib.ListN.{length, get_or-eq_default}
-use borrow.Author.Rules.{rules}
 use Rattle.base.proofs.ListLaws.{get_d_any}
 use Rattle.model.specs.declared.Start.{Start}
 use Rattle.model.specs.Values.{no_start}

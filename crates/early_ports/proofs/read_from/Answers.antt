@@ -1,6 +1,5 @@
 -- `early_ports::read_from` meets its contract.
 use mathlib.Core.Path.{refl}
-use borrow.Author.Rules.{rules}
 use Rattle.early_ports.specs.Names.{read_from}
 use Rattle.early_ports.proofs.read_from.Goals as goal
 

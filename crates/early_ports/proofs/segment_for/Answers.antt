@@ -1,6 +1,5 @@
 -- `early_ports::segment_for` meets its contract.
 use mathlib.Core.Path.{refl, sym, ◌∙◌}
-use borrow.Author.Rules.{rules}
 use Rattle.early_ports.specs.Cross.{segment_with}
 use Rattle.early_ports.proofs.segment_for.Goals as goal
 
