@@ -5,16 +5,13 @@
 -- Assumes nothing.
 use Prim.Native.Nat.{ℕ, ◌+◌, ◌*◌, ◌≤◌}
 use mathlib.Core.Path.{◌≡◌, refl, ap, ◌∙◌}
-use mathlib.Core.List.{List, [], ◌∷◌, ◌++◌, append_assoc}
+use mathlib.Core.List.{List, ◌++◌, append_assoc}
 use native.Mathlib.Omega.{arith}
-use types.Run.{OneOf, miss}
-use denote.Enum.Declared.{tag_of}
 use lib.ListN.{length, get_or, get_or-eq_default}
 use Rattle.model.specs.declared.Closer.{Closer}
-use Rattle.model.specs.declared.Closer.TheVariants.{End, Time, Event}
+use Rattle.model.specs.declared.Closer.TheVariants.{End}
 use Rattle.model.specs.declared.Segment.{Segment}
 use Rattle.model.specs.Values.{no_statement}
-use Rattle.model.specs.contracts.Closer as closer
 use Rattle.reader.specs.Record.{segment_kind}
 use Rattle.writer.specs.Bytes.{bytes_of, joined, next_bytes, closer_bytes, statement_of, op_bytes}
 use Rattle.writer.specs.File.{record_bytes, segment_bytes}
@@ -39,12 +36,10 @@ segment_bytes-parts g =
 
 -- the `End` arm: thirteen bytes of 0
 pub closer_bytes-end :
-    (z : Closer) → OneOf (0 ∷ []) (tag_of closer.the_type z) →
+    (z : Closer) → z ≡ End →
     bytes_of 1 0 ++ (bytes_of 1 0 ++ (bytes_of 4 0 ++ next_bytes (record { a = 0; b = 0; test = 0; limit = 0 }))) ≡ closer_bytes z
 unfolding bytes_of next_bytes closer_bytes
-closer_bytes-end End h = refl
-closer_bytes-end (Time k x) h = absurd (miss (0 ∷ []) 1 tt h)
-closer_bytes-end (Event e x) h = absurd (miss (0 ∷ []) 2 tt h)
+closer_bytes-end z e = rw e refl
 
 -- statement j, past the 32 places: variable 0 is set to 0
 pub op_bytes-past : (g : Segment) (j : ℕ) → length g.statements ≤ j → statement_of 1 0 0 ≡ statement_at g j

@@ -1,0 +1,12 @@
+-- `writer_segment::put_next` meets its contract. Its four numbers in turn.
+use Rattle.buffers.proofs.PutLaws.{puts_then}
+use Rattle.writer.specs.Bytes.{next_bytes}
+use Rattle.writer_segment.proofs.put_next.Goals as goal
+
+pub returns : goal.returns
+unfolding next_bytes
+returns c =
+    let t = c in
+    let b = t in
+    let limit = rw c.long_word.ensures at c.put_four.ensures in
+    puts_then b.put_one-a.ensures (puts_then b.put_one-b.ensures (puts_then t.put_one-c.ensures limit))
