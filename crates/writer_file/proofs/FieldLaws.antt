@@ -2,13 +2,14 @@
 --     fields_owned     a model
 use Prim.Native.Nat.{ℕ, zero, suc, ◌<◌, ◌^◌}
 use mathlib.Core.Path.{◌≡◌, sym, subst}
-use mathlib.Core.List.{List, [], ◌∷◌, map}
+use mathlib.Core.List.{List, [], ◌∷◌}
 use native.Mathlib.Decide.{dec_lt}
 use native.Mathlib.Omega.{arith}
 use mir.Val.{Val}
 use base.Fml.{Fml}
 use denote.Shadow.{shadow}
 use denote.Array.{each}
+use denote.Builtin.{u8}
 use denote.Laws.{Is}
 use denote.Struct.Laws as LL
 use lib.ListN.{length, get_or, get_or-replicate, get_or-eq_default}
@@ -37,12 +38,12 @@ use Rattle.writer.specs.Fields.{FitsNext, FitsCloser, FitsOp, FitsSegment, Field
 
 -- what is owned of each element of an array is owned of the one at i
 each_at :
-    {D E : Type 0} (f : E → List Val → Fml) (to : D → E) (xs : List D) (us : List Val) (i : ℕ) (z : D) → shadow (each E f (map to xs) us) →
-    i < length xs → (u : Val) × shadow (f (to (get_or xs i z)) (u ∷ []))
-each_at f to [] us i z g h = absurd (omega arith)
-each_at f to (x ∷ xs) [] i z g h = absurd g
-each_at f to (x ∷ xs) (u ∷ us) zero z g h = (u, g.0)
-each_at f to (x ∷ xs) (u ∷ us) (suc i) z g h = each_at f to xs us i z g.1 (omega arith)
+    {D : Type 0} (f : D → List Val → Fml) (xs : List D) (us : List Val) (i : ℕ) (z : D) → shadow (each D f xs us) →
+    i < length xs → (u : Val) × shadow (f (get_or xs i z) (u ∷ []))
+each_at f [] us i z g h = absurd (omega arith)
+each_at f (x ∷ xs) [] i z g h = absurd g
+each_at f (x ∷ xs) (u ∷ us) zero z g h = (u, g.0)
+each_at f (x ∷ xs) (u ∷ us) (suc i) z g h = each_at f xs us i z g.1 (omega arith)
 
 -- a property of the elements within an array and of the one past it
 at_each :
@@ -81,7 +82,7 @@ segment-fits g vs h =
       statements =
           λ j _.
           at_each (λ (x : Statement). FitsOp x.op) g.statements j no_statement
-          (λ l. statement-fits (get_or g.statements j no_statement) _ (each_at _ _ g.statements o.1.1.0.0 j no_statement o.1.1.0.1.1 l).1)
+          (λ l. statement-fits (get_or g.statements j no_statement) _ (each_at (statement.the_row).own_val g.statements o.1.1.0.0 j no_statement o.1.1.0.1.1 l).1)
           (omega arith, omega arith);
     }
 
@@ -89,7 +90,7 @@ segment-fits g vs h =
 start_fits : (s : Start) (vs : List Val) → Is start.the_row s vs → (p : ℕ) → port_of s.ports p < 256
 start_fits s vs h p =
     let o = LL.owed start.the_type start'.the_laws s vs h in
-    at_each (λ (x : ℕ). x < 256) s.ports p 0 (λ l. (each_at _ _ s.ports o.1.0.0 p 0 o.1.0.1.1 l).1.1) (omega arith)
+    at_each (λ (x : ℕ). x < 256) s.ports p 0 (λ l. (each_at u8.own_val s.ports o.1.0.0 p 0 o.1.0.1.1 l).1.1) (omega arith)
 
 no_ports-fit : (p : ℕ) → port_of no_ports p < 256
 no_ports-fit p = at_each (λ (x : ℕ). x < 256) no_ports p 0 (λ l. let e : port_of no_ports p ≡ 255 = get_or-replicate 8 p 255 0 l in omega arith) (omega arith)
@@ -105,16 +106,16 @@ fields_owned m vs g h =
       segments =
           λ i _.
           at_each FitsSegment m.segments i no_segment
-          (λ l. segment-fits (get_or m.segments i no_segment) _ (each_at _ _ m.segments o.1.1.1.1.1.0.0 i no_segment o.1.1.1.1.1.0.1.1 l).1)
+          (λ l. segment-fits (get_or m.segments i no_segment) _ (each_at (segment.the_row).own_val m.segments o.1.1.1.1.1.0.0 i no_segment o.1.1.1.1.1.0.1.1 l).1)
           (record { closer = tt; few = omega arith; statements = λ j l. absurd (omega arith) });
       starts =
           λ k _.
           at_each (λ (s : Start). s.first < 256) m.starts k no_start
-          (λ l. (each_at _ _ m.starts o.1.1.1.1.1.1.0.0 k no_start o.1.1.1.1.1.1.0.1.1 l).1.1.1.0.1)
+          (λ l. (each_at (start.the_row).own_val m.starts o.1.1.1.1.1.1.0.0 k no_start o.1.1.1.1.1.1.0.1.1 l).1.1.1.0.1)
           (omega arith);
       ports =
           λ k p _ _.
           at_each (λ (s : Start). (p : ℕ) → port_of s.ports p < 256) m.starts k no_start
-          (λ l. start_fits (get_or m.starts k no_start) _ (each_at _ _ m.starts o.1.1.1.1.1.1.0.0 k no_start o.1.1.1.1.1.1.0.1.1 l).1)
+          (λ l. start_fits (get_or m.starts k no_start) _ (each_at (start.the_row).own_val m.starts o.1.1.1.1.1.1.0.0 k no_start o.1.1.1.1.1.1.0.1.1 l).1)
           no_ports-fit p;
     }
