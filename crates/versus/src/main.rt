@@ -8,9 +8,9 @@ mod library;
 mod orders;
 mod print;
 
-use libc::STDIN_FILENO;
 use second::number::at;
 use second::{draw, layout, number, simulator};
+use std::io::{Read, Result};
 
 // The first seed, and how many models.
 const SEED: u64 = 24000;
@@ -55,7 +55,14 @@ fn count(totals: &mut [u64; 24], desk: &[u64; 640]) {
 }
 
 // One run of both.
-fn hold(totals: &mut [u64; 24], seed: u64, bytes: &[u8; 16384], size: usize, budget: u64) {
+fn hold<R: Print>(
+    rt: &R,
+    totals: &mut [u64; 24],
+    seed: u64,
+    bytes: &[u8; 16384],
+    size: usize,
+    budget: u64,
+) -> Result<()> {
     let file = number::first(bytes, size);
     let mut desk = [0u64; 640];
     simulator::simulate(file, budget, &mut desk);
@@ -64,7 +71,8 @@ fn hold(totals: &mut [u64; 24], seed: u64, bytes: &[u8; 16384], size: usize, bud
     library::run(library::model_in(file), budget, &mut held);
     let h = simulator::field(file, 4, 0, 4);
     let words = layout::words_of(&desk);
-    compare::hold(totals, seed, h, budget, &held, &words, layout::ALL);
+    compare::hold(rt, totals, seed, h, budget, &held, &words, layout::ALL)?;
+    Ok(())
 }
 
 // Budgets inside and at the end of a run of n segments.
@@ -100,7 +108,8 @@ fn horizon(i: u64, own: u64, time: u64) -> u64 {
 }
 
 // A model of which a run takes n segments and a thread ends at a time, at its horizons and budgets.
-fn hold_each(
+fn hold_each<R: Print>(
+    rt: &R,
     totals: &mut [u64; 24],
     seed: u64,
     file: &mut [u8; 16384],
@@ -108,28 +117,43 @@ fn hold_each(
     n: u64,
     time: u64,
     most: u64,
-) {
+) -> Result<()> {
     let own = simulator::field(file, 4, 0, 4);
     let mut i: u64 = 0;
     while i < 16 {
         draw::put(file, 4, 4, horizon(i, own, time));
-        hold(totals, seed, file, size, budget(i, seed, n, most));
+        hold(rt, totals, seed, file, size, budget(i, seed, n, most))?;
         i += 1;
     }
+    Ok(())
 }
 
-fn hold_all(totals: &mut [u64; 24], seed: u64, file: &mut [u8; 16384], size: usize, most: u64) {
+fn hold_all<R: Print>(
+    rt: &R,
+    totals: &mut [u64; 24],
+    seed: u64,
+    file: &mut [u8; 16384],
+    size: usize,
+    most: u64,
+) -> Result<()> {
     let mut desk = [0u64; 640];
     simulator::simulate(file, most, &mut desk);
     let k = draw::pick(seed, 8, at(&desk, simulator::THREADS, 0));
     let time = at(&desk, simulator::RECORDS, k) / 268435456;
     let n = at(&desk, simulator::RAN, 0);
-    hold_each(totals, seed, file, size, n, time, most);
+    hold_each(rt, totals, seed, file, size, n, time, most)?;
     add(totals, OF_MODELS, 1);
+    Ok(())
 }
 
 // A model against the file rules, by its counts: 11, and nothing run.
-fn refuse(totals: &mut [u64; 24], seed: u64, file: &[u8; 16384], size: usize) {
+fn refuse<R: Print>(
+    rt: &R,
+    totals: &mut [u64; 24],
+    seed: u64,
+    file: &[u8; 16384],
+    size: usize,
+) -> Result<()> {
     let mut x = library::model_in(number::first(file, size));
     match seed % 5 {
         0 => x.t = 0,
@@ -142,9 +166,10 @@ fn refuse(totals: &mut [u64; 24], seed: u64, file: &[u8; 16384], size: usize) {
     library::run(x, 300, &mut held);
     let mut refused = [0u64; 640];
     refused[layout::ANSWER] = 11;
-    if compare::hold(totals, seed, 0, 300, &held, &refused, layout::ALL) {
+    if compare::hold(rt, totals, seed, 0, 300, &held, &refused, layout::ALL)? {
         add(totals, REFUSALS, 1);
     }
+    Ok(())
 }
 
 // A file that is not written again byte by byte is a difference.
@@ -156,60 +181,67 @@ fn hold_written(totals: &mut [u64; 24], bytes: &[u8; 16384], size: usize) {
 }
 
 // A generated model: written again, its runs, and lists of calls.
-fn hold_drawn(runs: &mut [u64; 24], lists: &mut [u64; 24], seed: u64) {
+fn hold_drawn<R: Print>(
+    rt: &R,
+    runs: &mut [u64; 24],
+    lists: &mut [u64; 24],
+    seed: u64,
+) -> Result<()> {
     let mut file = [0u8; 16384];
     let size = draw::model_of(seed, &mut file) as usize;
     hold_written(runs, &file, size);
-    orders::hold_lists(lists, seed, &file, size);
+    orders::hold_lists(rt, lists, seed, &file, size)?;
     let most = if draw::is_long(seed) { 3300 } else { 300 };
-    hold_all(runs, seed, &mut file, size, most);
-    refuse(runs, seed, &file, size);
+    hold_all(rt, runs, seed, &mut file, size, most)?;
+    refuse(rt, runs, seed, &file, size)
 }
 
-fn all_drawn() {
+fn all_drawn<R: Print>(rt: &R) -> Result<()> {
     let mut runs = [0u64; 24];
     let mut lists = [0u64; 24];
     let mut i: u64 = 0;
     while i < MODELS {
-        hold_drawn(&mut runs, &mut lists, SEED + i);
+        hold_drawn(rt, &mut runs, &mut lists, SEED + i)?;
         i += 1;
     }
-    print::run_counts(&runs);
-    print::list_counts(&lists);
+    print::run_counts(rt, &runs)?;
+    print::list_counts(rt, &lists)
 }
 
 // The sheet of a stored model.
-fn write_sheet(file: &[u8]) {
+fn write_sheet<R: Print>(rt: &R, file: &[u8]) -> Result<()> {
     let m = library::model_in(file);
     let mut out = [0u8; 8192];
     let size = sheet_print::sheet(m.v, m.t, plain_core::plain_run(m, 1000000), &mut out);
-    print::text(number::first(&out, size));
+    print::text(rt, number::first(&out, size))
 }
 
 // A name and a model; whether there was one.
-fn hold_next(totals: &mut [u64; 24]) -> bool {
+fn hold_next<R: Print, F: Read>(rt: &R, stored: &mut F, totals: &mut [u64; 24]) -> Result<bool> {
     let mut file = [0u8; 16384];
-    let n = parts::next_part(STDIN_FILENO, &mut file);
+    let n = parts::next_part(stored, &mut file)?;
     if n == 0 {
-        return false;
+        return Ok(false);
     }
-    print::text(number::first(&file, n));
-    let size = parts::next_part(STDIN_FILENO, &mut file);
-    write_sheet(number::first(&file, size));
-    hold_all(totals, 0, &mut file, size, 1000000);
-    true
+    print::text(rt, number::first(&file, n))?;
+    let size = parts::next_part(stored, &mut file)?;
+    write_sheet(rt, number::first(&file, size))?;
+    hold_all(rt, totals, 0, &mut file, size, 1000000)?;
+    Ok(true)
 }
 
-fn all_stored() {
+fn all_stored<R: Print, F: Read>(rt: &R, stored: &mut F) -> Result<()> {
     let mut totals = [0u64; 24];
-    let mut turns: u64 = 1000;
-    while 0 < turns && hold_next(&mut totals) {
-        turns -= 1;
+    for _ in 0..1000 {
+        if !hold_next(rt, stored, &mut totals)? {
+            break;
+        }
     }
-    print::run_counts(&totals);
+    print::run_counts(rt, &totals)
 }
 
-fn main() {
-    all_stored();
-    all_drawn();
+fn main(rt: HostRuntime) -> Result<()> {
+    all_stored(&rt, &mut rt.stdin())?;
+    all_drawn(&rt)?;
+    Ok(())
 }

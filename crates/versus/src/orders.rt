@@ -5,6 +5,7 @@ use second::issue::Reply;
 use second::number::at;
 use second::simulator::{NEVER, key_of};
 use second::{calls, draw, graph, issue, layout, number, simulator, start};
+use std::io::Result;
 
 // Places of the counts. Of calls that are not refused, requests, grants and finishes stand from 3 on; refusals with 10 to 15 from 7 on;
 // 14 and 15 by running threads at 14 and 15.
@@ -186,19 +187,21 @@ fn lent(t: u64, n: u64) -> usize {
 }
 
 // Both answers and both states.
-fn hold_turn(
+fn hold_turn<R: Print>(
+    rt: &R,
     totals: &mut [u64; 24],
     l: List,
     desk: &[u64; 640],
     held: &[u64; 640],
     a: Reply,
     b: Reply,
-) -> bool {
+) -> Result<bool> {
     let mut first = *held;
     layout::put_reply(&mut first, a);
     let mut other = layout::words_of(desk);
     layout::put_reply(&mut other, b);
     compare::hold(
+        rt,
         totals,
         l.seed,
         l.number,
@@ -210,7 +213,8 @@ fn hold_turn(
 }
 
 // The next call in both.
-fn turn(
+fn turn<R: Print>(
+    rt: &R,
     totals: &mut [u64; 24],
     list: &mut [u16; 4096],
     answers: &mut [u64; 20480],
@@ -222,20 +226,20 @@ fn turn(
     held: &mut [u64; 640],
     values: &mut [u32; 2048],
     l: List,
-) -> List {
+) -> Result<List> {
     let now = calls::next(desk, l.seed, l.number, l.made, l.last);
     if now.word == NEVER {
         let mut end = l;
         end.goes_on = false;
-        return end;
+        return Ok(end);
     }
     let t = at(desk, simulator::THREADS, 0);
     let b = issue_next(totals, file, g, desk, kept, now.word);
     let a = library::ask(file, words, held, values, now.word, lent(t, l.made));
     list[(l.made % 4096) as usize] = (now.word % 65536) as u16;
     note(answers, l.made, now.word, b);
-    let same = hold_turn(totals, l, desk, held, a, b);
-    after(l, now.word, now.stamp, a, same)
+    let same = hold_turn(rt, totals, l, desk, held, a, b)?;
+    Ok(after(l, now.word, now.stamp, a, same))
 }
 
 // Some lists are long enough for delta 1,023.
@@ -249,7 +253,8 @@ fn length(seed: u64, list: u64) -> u64 {
 }
 
 // A list in both, up to the first difference.
-fn one_by_one(
+fn one_by_one<R: Print>(
+    rt: &R,
     totals: &mut [u64; 24],
     list: &mut [u16; 4096],
     answers: &mut [u64; 20480],
@@ -261,20 +266,21 @@ fn one_by_one(
     held: &mut [u64; 640],
     values: &mut [u32; 2048],
     l: List,
-) -> List {
+) -> Result<List> {
     let mut now = l;
     let mut left = length(l.seed, l.number);
     while 0 < left && now.goes_on {
         now = turn(
-            totals, list, answers, file, words, g, desk, kept, held, values, now,
-        );
+            rt, totals, list, answers, file, words, g, desk, kept, held, values, now,
+        )?;
         left -= 1;
     }
-    now
+    Ok(now)
 }
 
 // What a list in one call left: every answer again, how many were not refused, the state at its end, and what is held.
-fn hold_whole(
+fn hold_whole<R: Print>(
+    rt: &R,
     totals: &mut [u64; 24],
     answers: &[u64; 20480],
     out: &[u64; 20480],
@@ -284,17 +290,29 @@ fn hold_whole(
     values: &[u32; 2048],
     junk: u64,
     l: List,
-) {
+) -> Result<()> {
     let mut left = layout::words_of(desk);
     left[layout::RAN] = l.done;
-    compare::hold(totals, l.seed, l.number, l.made, held, &left, layout::ALL);
+    compare::hold(
+        rt,
+        totals,
+        l.seed,
+        l.number,
+        l.made,
+        held,
+        &left,
+        layout::ALL,
+    )?;
     let n = (l.made % 4096 * 5) as usize;
-    compare::hold_answers(totals, l.seed, l.number, l.made, out, answers, n + 5);
-    compare::hold_kept(totals, l.seed, l.number, l.made, values, junk, kept, JUNK);
+    compare::hold_answers(rt, totals, l.seed, l.number, l.made, out, answers, n + 5)?;
+    compare::hold_kept(
+        rt, totals, l.seed, l.number, l.made, values, junk, kept, JUNK,
+    )
 }
 
 // The same list in one call, from the state that it started at: with the table, and by rows.
-fn whole(
+fn whole<R: Print>(
+    rt: &R,
     totals: &mut [u64; 24],
     list: &[u16; 4096],
     answers: &[u64; 20480],
@@ -304,22 +322,22 @@ fn whole(
     kept: &[u64; 2048],
     begun: &[u64; 640],
     l: List,
-) {
+) -> Result<()> {
     let asked = number::front(list, l.made as usize);
     let mut out = [0u64; 20480];
     let mut held = layout::words_of(begun);
     let mut values = library::values_at(begun, l.seed, TABLE_JUNK);
     library::ask_all(file, words, &mut held, &mut values, asked, &mut out);
     hold_whole(
-        totals, answers, &out, desk, &held, kept, &values, TABLE_JUNK, l,
-    );
+        rt, totals, answers, &out, desk, &held, kept, &values, TABLE_JUNK, l,
+    )?;
     let mut again = [0u64; 20480];
     let mut state = layout::words_of(begun);
     let mut other = library::values_at(begun, l.seed, ROWS_JUNK);
     library::ask_all_by_rows(file, junk(l), &mut state, &mut other, asked, &mut again);
     hold_whole(
-        totals, answers, &again, desk, &state, kept, &other, ROWS_JUNK, l,
-    );
+        rt, totals, answers, &again, desk, &state, kept, &other, ROWS_JUNK, l,
+    )
 }
 
 // What the words of a row hold beforehand: nothing, all ones, or some distance.
@@ -353,7 +371,13 @@ fn histories_on(desk: &[u64; 640]) -> [u64; 32] {
 
 // The claim at the end of a list that started fresh. "ends with nothing running and nothing ready up to the horizon": variables, records
 // and histories are the plain run's, of as many segments as were granted.
-fn hold_ended(totals: &mut [u64; 24], file: &[u8], held: &[u64; 640], l: List) {
+fn hold_ended<R: Print>(
+    rt: &R,
+    totals: &mut [u64; 24],
+    file: &[u8],
+    held: &[u64; 640],
+    l: List,
+) -> Result<()> {
     let mut other = [0u64; 640];
     simulator::simulate(file, number::sum(l.ran, 1), &mut other);
     let mut first = *held;
@@ -363,8 +387,9 @@ fn hold_ended(totals: &mut [u64; 24], file: &[u8], held: &[u64; 640], l: List) {
     let mut plain = layout::words_of(&other);
     put_histories(&mut plain, &histories_on(&other));
     let n = layout::PLAIN + 33;
-    compare::hold(totals, l.seed, l.number, l.made, &first, &plain, n);
+    compare::hold(rt, totals, l.seed, l.number, l.made, &first, &plain, n)?;
     crate::add(totals, ENDED, 1);
+    Ok(())
 }
 
 // The call that "is not refused": a finish of a running thread, or the least stamp's request or grant; NEVER where there is none.
@@ -380,7 +405,8 @@ fn next_done(desk: &[u64; 640], l: List) -> u64 {
     calls::word_of(l.seed % 2, least % 256)
 }
 
-fn hold_ending(
+fn hold_ending<R: Print>(
+    rt: &R,
     totals: &mut [u64; 24],
     file: &[u8],
     words: &[u64; 4096],
@@ -388,25 +414,27 @@ fn hold_ending(
     held: &mut [u64; 640],
     values: &mut [u32; 2048],
     l: List,
-) {
+) -> Result<()> {
     let word = next_done(desk, l);
     if word == NEVER {
-        hold_ended(totals, file, held, l);
-        return;
+        hold_ended(rt, totals, file, held, l)?;
+        return Ok(());
     }
     let r = library::ask(file, words, held, values, word, 40);
-    compare::hold_number(totals, l.seed, l.number, l.made, r.number, 0);
+    compare::hold_number(rt, totals, l.seed, l.number, l.made, r.number, 0)?;
     crate::add(totals, WENT_ON, 1);
+    Ok(())
 }
 
-fn hold_list(
+fn hold_list<R: Print>(
+    rt: &R,
     totals: &mut [u64; 24],
     seed: u64,
     number: u64,
     file: &[u8],
     words: &[u64; 4096],
     g: &[u64; 24576],
-) {
+) -> Result<()> {
     let mut desk = [0u64; 640];
     start::set_up(file, seed, number, &mut desk);
     let begun = desk;
@@ -427,6 +455,7 @@ fn hold_list(
         told: [0u64; 32],
     };
     let l = one_by_one(
+        rt,
         totals,
         &mut list,
         &mut answers,
@@ -438,15 +467,16 @@ fn hold_list(
         &mut held,
         &mut values,
         start,
-    );
-    compare::hold_kept(totals, seed, number, l.made, &values, JUNK, &kept, JUNK);
+    )?;
+    compare::hold_kept(rt, totals, seed, number, l.made, &values, JUNK, &kept, JUNK)?;
     whole(
-        totals, &list, &answers, file, words, &desk, &kept, &begun, l,
-    );
+        rt, totals, &list, &answers, file, words, &desk, &kept, &begun, l,
+    )?;
     crate::add(totals, LISTS, 1);
     if number < 3 {
-        hold_ending(totals, file, words, &desk, &mut held, &mut values, l);
+        hold_ending(rt, totals, file, words, &desk, &mut held, &mut values, l)?;
     }
+    Ok(())
 }
 
 // A thread that no fit state of a model with n segments, e events and a horizon has.
@@ -492,21 +522,24 @@ fn spoil(held: &mut [u64; 640], way: u64, n: u64, e: u64, h: u64) {
 }
 
 // 11, and all stays.
-fn hold_unmoved(
+fn hold_unmoved<R: Print>(
+    rt: &R,
     totals: &mut [u64; 24],
     seed: u64,
     number: u64,
     same: &[u64; 640],
     held: &[u64; 640],
-) {
+) -> Result<()> {
     crate::add(totals, CALLS, 1);
     crate::add(totals, 8, 1);
-    compare::hold_number(totals, seed, 6, 0, number, 11);
-    compare::hold(totals, seed, 6, 0, held, same, layout::ALL);
+    compare::hold_number(rt, totals, seed, 6, 0, number, 11)?;
+    compare::hold(rt, totals, seed, 6, 0, held, same, layout::ALL)?;
+    Ok(())
 }
 
 // An unfit state, or too few records, are refused with 11.
-fn refuse(
+fn refuse<R: Print>(
+    rt: &R,
     totals: &mut [u64; 24],
     seed: u64,
     file: &[u8],
@@ -514,14 +547,15 @@ fn refuse(
     held: &mut [u64; 640],
     k: u64,
     lent: usize,
-) {
+) -> Result<()> {
     let same = *held;
     let r = library::request(file, words, held, k, lent);
-    hold_unmoved(totals, seed, r.number, &same, held);
+    hold_unmoved(rt, totals, seed, r.number, &same, held)
 }
 
 // So are a grant and a finish, on an unfit state, or with too few held values.
-fn refuse_call(
+fn refuse_call<R: Print>(
+    rt: &R,
     totals: &mut [u64; 24],
     seed: u64,
     file: &[u8],
@@ -529,66 +563,88 @@ fn refuse_call(
     held: &mut [u64; 640],
     word: u64,
     n: usize,
-) {
+) -> Result<()> {
     let same = *held;
     let mut values = [7u32; 2048];
     let r = library::call_with(file, words, held, &mut values, word, n);
-    hold_unmoved(totals, seed, r.number, &same, held);
-    compare::hold_kept(totals, seed, 6, 0, &values, 7, &[7u64; 2048], 7);
+    hold_unmoved(rt, totals, seed, r.number, &same, held)?;
+    compare::hold_kept(rt, totals, seed, 6, 0, &values, 7, &[7u64; 2048], 7)
 }
 
 // By rows: the answer of one request, and all stays.
-fn hold_refused(
+fn hold_refused<R: Print>(
+    rt: &R,
     totals: &mut [u64; 24],
     seed: u64,
     held: &[u64; 640],
     left: &mut [u64; 640],
     answer: u64,
     number: u64,
-) {
-    compare::hold_number(totals, seed, 7, 0, answer, number);
+) -> Result<()> {
+    compare::hold_number(rt, totals, seed, 7, 0, answer, number)?;
     left[layout::ANSWER] = held[layout::ANSWER];
     left[layout::RAN] = held[layout::RAN];
-    compare::hold(totals, seed, 7, 0, left, held, layout::ALL);
+    compare::hold(rt, totals, seed, 7, 0, left, held, layout::ALL)?;
+    Ok(())
 }
 
 // An unfit state is refused with 11 by rows too.
-fn refuse_by_rows(totals: &mut [u64; 24], seed: u64, file: &[u8], held: &[u64; 640], word: u64) {
+fn refuse_by_rows<R: Print>(
+    rt: &R,
+    totals: &mut [u64; 24],
+    seed: u64,
+    file: &[u8],
+    held: &[u64; 640],
+    word: u64,
+) -> Result<()> {
     let mut left = *held;
     let mut out = [0u64; 20480];
     let mut values = [7u32; 2048];
     let asked = [(word % 65536) as u16; 1];
     library::ask_all_by_rows(file, seed, &mut left, &mut values, &asked, &mut out);
-    hold_refused(totals, seed, held, &mut left, out[1], 11);
+    hold_refused(rt, totals, seed, held, &mut left, out[1], 11)
 }
 
 // 63 words are refused with 16.
-fn refuse_few(totals: &mut [u64; 24], seed: u64, file: &[u8], held: &[u64; 640], word: u64) {
+fn refuse_few<R: Print>(
+    rt: &R,
+    totals: &mut [u64; 24],
+    seed: u64,
+    file: &[u8],
+    held: &[u64; 640],
+    word: u64,
+) -> Result<()> {
     let mut left = *held;
     let mut out = [0u64; 20480];
     let mut values = [7u32; 2048];
     let asked = [(word % 65536) as u16; 1];
     library::ask_few_by_rows(file, seed, &mut left, &mut values, &asked, &mut out);
-    hold_refused(totals, seed, held, &mut left, out[1], 16);
+    hold_refused(rt, totals, seed, held, &mut left, out[1], 16)
 }
 
 // A state that is not fit; for some seeds one beside distances that are out of range.
-fn hold_unfit(totals: &mut [u64; 24], seed: u64, file: &[u8], words: &[u64; 4096]) {
+fn hold_unfit<R: Print>(
+    rt: &R,
+    totals: &mut [u64; 24],
+    seed: u64,
+    file: &[u8],
+    words: &[u64; 4096],
+) -> Result<()> {
     let mut desk = [0u64; 640];
     let k = calls::any_thread(seed, start::set_up(file, seed, 3, &mut desk));
     let mut held = layout::words_of(&desk);
     if seed % 4 == 0 {
         let far = [1024000001024u64; 4096];
-        refuse(totals, seed, file, &far, &mut held, k, 40);
-        return;
+        refuse(rt, totals, seed, file, &far, &mut held, k, 40)?;
+        return Ok(());
     }
     let n = at(&desk, simulator::SEGMENTS, 0);
     let e = simulator::byte(file, 9, 0);
     spoil(&mut held, seed / 4, n, e, simulator::field(file, 4, 0, 4));
-    refuse(totals, seed, file, words, &mut held, k, 40);
+    refuse(rt, totals, seed, file, words, &mut held, k, 40)?;
     let word = calls::word_of(seed / 12, k);
-    refuse_call(totals, seed, file, words, &mut held, word, 2048);
-    refuse_by_rows(totals, seed, file, &held, word);
+    refuse_call(rt, totals, seed, file, words, &mut held, word, 2048)?;
+    refuse_by_rows(rt, totals, seed, file, &held, word)
 }
 
 // None, or one less.
@@ -600,46 +656,82 @@ fn less_by(n: usize, seed: u64) -> usize {
 }
 
 // The fresh state with no thread records lent, or one too few, and with held values too few.
-fn hold_short(totals: &mut [u64; 24], seed: u64, file: &[u8], words: &[u64; 4096]) {
+fn hold_short<R: Print>(
+    rt: &R,
+    totals: &mut [u64; 24],
+    seed: u64,
+    file: &[u8],
+    words: &[u64; 4096],
+) -> Result<()> {
     let mut desk = [0u64; 640];
     let t = start::set_up(file, seed, 0, &mut desk);
     let mut held = layout::words_of(&desk);
     let few = if seed % 2 == 0 { 0 } else { number::less(t) };
     let k = calls::any_thread(seed, t);
-    refuse(totals, seed, file, words, &mut held, k, few as usize);
+    refuse(rt, totals, seed, file, words, &mut held, k, few as usize)?;
     let n = (64 * (t % 33)) as usize;
     let word = calls::word_of(seed / 2, k);
-    refuse_call(totals, seed, file, words, &mut held, word, less_by(n, seed));
+    refuse_call(
+        rt,
+        totals,
+        seed,
+        file,
+        words,
+        &mut held,
+        word,
+        less_by(n, seed),
+    )
 }
 
 // The fresh state with 63 words lent, for a thread of the model or for none.
-fn hold_few(totals: &mut [u64; 24], seed: u64, file: &[u8]) {
+fn hold_few<R: Print>(rt: &R, totals: &mut [u64; 24], seed: u64, file: &[u8]) -> Result<()> {
     let mut desk = [0u64; 640];
     let t = start::set_up(file, seed, 0, &mut desk);
     let held = layout::words_of(&desk);
     let k = if seed % 2 == 0 { t } else { 0 };
-    refuse_few(totals, seed, file, &held, calls::word_of(seed / 2, k));
+    refuse_few(rt, totals, seed, file, &held, calls::word_of(seed / 2, k))
 }
 
 // The fresh state.
-fn hold_fresh(totals: &mut [u64; 24], seed: u64, file: &[u8], desk: &[u64; 640]) {
+fn hold_fresh<R: Print>(
+    rt: &R,
+    totals: &mut [u64; 24],
+    seed: u64,
+    file: &[u8],
+    desk: &[u64; 640],
+) -> Result<()> {
     let mut held = [0u64; 640];
     library::fresh(file, &mut held);
     let words = layout::words_of(desk);
-    compare::hold(totals, seed, 0, 0, &held, &words, layout::ALL);
+    compare::hold(rt, totals, seed, 0, 0, &held, &words, layout::ALL)?;
+    Ok(())
 }
 
-fn hold_all(totals: &mut [u64; 24], seed: u64, file: &[u8], words: &[u64; 4096], g: &[u64; 24576]) {
+fn hold_all<R: Print>(
+    rt: &R,
+    totals: &mut [u64; 24],
+    seed: u64,
+    file: &[u8],
+    words: &[u64; 4096],
+    g: &[u64; 24576],
+) -> Result<()> {
     let mut list: u64 = 0;
     while list < 6 {
-        hold_list(totals, seed, list, file, words, g);
+        hold_list(rt, totals, seed, list, file, words, g)?;
         list += 1;
     }
     crate::add(totals, MODELS, 1);
+    Ok(())
 }
 
 // All lists of the model in a file's first bytes.
-pub fn hold_lists(totals: &mut [u64; 24], seed: u64, bytes: &[u8; 16384], size: usize) {
+pub fn hold_lists<R: Print>(
+    rt: &R,
+    totals: &mut [u64; 24],
+    seed: u64,
+    bytes: &[u8; 16384],
+    size: usize,
+) -> Result<()> {
     let file = number::first(bytes, size);
     let mut desk = [0u64; 640];
     start::set_up(file, seed, 0, &mut desk);
@@ -647,9 +739,9 @@ pub fn hold_lists(totals: &mut [u64; 24], seed: u64, bytes: &[u8; 16384], size: 
     graph::fill(file, &desk, &mut g);
     let mut words = [0u64; 4096];
     library::fill_words(file, &mut words);
-    hold_fresh(totals, seed, file, &desk);
-    hold_unfit(totals, seed, file, &words);
-    hold_short(totals, seed, file, &words);
-    hold_few(totals, seed, file);
-    hold_all(totals, seed, file, &words, &g);
+    hold_fresh(rt, totals, seed, file, &desk)?;
+    hold_unfit(rt, totals, seed, file, &words)?;
+    hold_short(rt, totals, seed, file, &words)?;
+    hold_few(rt, totals, seed, file)?;
+    hold_all(rt, totals, seed, file, &words, &g)
 }
