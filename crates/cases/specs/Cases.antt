@@ -1,5 +1,5 @@
 -- Document 01, "Cases": those marked P, in one table.
-use Rattle.std.specs.Prelude.{ℕ, ◌+◌, ◌*◌, Bool, true, false, cond, not, ◌&&◌, List, [], ◌∷◌, eqb, get_or, length}
+use Rattle.std.specs.Prelude.{ℕ, Bool, true, false, cond, not, ◌&&◌, List, [], ◌∷◌, eqb, get_or, length}
 use Rattle.clock.specs.declared.Cycle.{Cycle}
 use Rattle.clock.specs.declared.Bound.{Bound}
 use Rattle.clock.specs.declared.Bound.TheVariants.{Never, At}
@@ -22,8 +22,7 @@ use Rattle.early.specs.declared.Answer.{Answer}
 use Rattle.early.specs.declared.Answer.TheVariants.{Granted, Refused}
 use Rattle.early.specs.Log.{log_of}
 use Rattle.early.specs.Earliest.{earliest_of}
-use Rattle.early.specs.Answer.{number_of, values_of}
-use Rattle.early.specs.Request.{Listed}
+use Rattle.early.specs.Answer.{number_of}
 use Rattle.order.specs.Claim.{after_list}
 use Rattle.cases.specs.Models.{file1, file_m, setters, notifiers, waits, subtracts, zero_wait}
 

@@ -1,5 +1,5 @@
 -- Document 01, "Cases": the files and models of the cases marked P.
-use Rattle.std.specs.Prelude.{ℕ, List, [], ◌∷◌, ◌++◌, length, replicate}
+use Rattle.std.specs.Prelude.{ℕ, List, [], ◌∷◌, ◌++◌, replicate}
 use Rattle.model.specs.declared.Op.{Op}
 use Rattle.model.specs.declared.Op.TheVariants.{Set, SubVariable, Notify}
 use Rattle.model.specs.declared.Statement.{Statement}

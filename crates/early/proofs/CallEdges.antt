@@ -3,10 +3,9 @@ use Prim.Native.Nat.{ℕ}
 use mathlib.Core.Path.{◌≡◌, refl}
 use mathlib.Core.Bool.{true, false}
 use mathlib.Core.List.{List, [], ◌∷◌, ◌++◌}
-use lib.ListN.{length, get_or, replicate}
+use lib.ListN.{get_or, replicate}
 use Rattle.clock.specs.Cycle.{cycle_at}
 use Rattle.model.specs.declared.Thread.{Thread}
-use Rattle.model.specs.Record.{thread_at}
 use Rattle.plain.specs.Wake.{floor_of}
 use Rattle.plain.specs.History.{ran, heard}
 use Rattle.early.specs.declared.Site.{Site}

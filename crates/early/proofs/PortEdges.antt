@@ -15,7 +15,6 @@ use Rattle.model.specs.Port.{no_ports}
 use Rattle.model.specs.Values.{no_model, with_head, with_segment, with_start}
 use Rattle.model.specs.Rules.{model_fault}
 use Rattle.tables.specs.Word.{all_ones}
-use Rattle.early.specs.declared.Answer.{Answer}
 use Rattle.early.specs.declared.Answer.TheVariants.{Granted, Refused}
 use Rattle.early.specs.Hazard.{ports_conflict, threads_conflict, hazard}
 use Rattle.early.specs.Fit.{is_fit_thread, is_unfit}

@@ -9,7 +9,6 @@ use Rattle.model.specs.declared.Model.{Model}
 use Rattle.model.specs.declared.Thread.{Thread}
 use Rattle.model.specs.Values.{with_head}
 use Rattle.model.specs.Record.{nothing, awaits}
-use Rattle.tables.specs.Word.{all_ones}
 use Rattle.plain.specs.History.{ran, heard}
 use Rattle.early.specs.declared.Notification.{Notification}
 use Rattle.early.specs.declared.Site.{Site}

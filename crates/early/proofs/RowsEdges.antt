@@ -6,7 +6,7 @@ use Rattle.model.specs.declared.Thread.{Thread}
 use Rattle.early.specs.declared.Answer.TheVariants.{Granted, Refused}
 use Rattle.early.specs.ByRows.{request_by_rows, requests_by_rows}
 use Rattle.early.proofs.Computed.{computed}
-use Rattle.early.proofs.EdgeModels.{ready_in, ended_in, segment_of, with_starts, doers, no_mark, site_with}
+use Rattle.early.proofs.EdgeModels.{ready_in, segment_of, with_starts, doers, no_mark, site_with}
 
 -- two threads, ready in segments 0 and 1
 abbrev two : List Thread

@@ -1,5 +1,5 @@
 -- Document 01, "Early issue": earliest. First by chains, then the form that computes it, which is proved to be that.
-use Rattle.std.specs.Prelude.{ℕ, zero, suc, ◌<◌, ◌≡◌, Bool, cond, List, get_or}
+use Rattle.std.specs.Prelude.{ℕ, zero, suc, ◌<◌, ◌≡◌, cond, List, get_or}
 use Rattle.base.specs.Index.{tabulate}
 use Rattle.clock.specs.declared.Cycle.{Cycle}
 use Rattle.clock.specs.declared.Bound.{Bound}

@@ -1,6 +1,6 @@
 -- Document 01, "Early issue" and "Numbers of refusal": a request, and a list of requests. "Requests: 11, 10, 12, 13, 14, 15."; document 02,
 -- slip 7: 19 is "checked after 10".
-use Rattle.std.specs.Prelude.{ℕ, ◌≡◌, Bool, false, cond, not, ◌&&◌, ◌||◌, List, [], ◌∷◌, ◌++◌, ltb, eqb}
+use Rattle.std.specs.Prelude.{ℕ, ◌≡◌, Bool, cond, not, ◌&&◌, ◌||◌, List, [], ◌∷◌, ◌++◌, ltb, eqb}
 use Rattle.clock.specs.declared.Cycle.{Cycle}
 use Rattle.clock.specs.declared.Bound.{Bound}
 use Rattle.clock.specs.declared.Bound.TheVariants.{Never, At}

@@ -1,10 +1,10 @@
 -- The number of places of each declared array, as owning its record tells it.
-use mathlib.Core.Path.{◌≡◌, sym, ◌∙◌}
+use mathlib.Core.Path.{◌≡◌}
 use mathlib.Core.List.{List}
 use mir.Val.{Val}
 use denote.Laws.{Is}
 use denote.Struct.Laws as LL
-use lib.ListN.{length, length-map}
+use lib.ListN.{length}
 use Rattle.early_limits.specs.declared.Limits.{Limits}
 use Rattle.early_limits.specs.declared.Crew.{Crew}
 use Rattle.early_limits.specs.contracts.Limits as limits

@@ -2,17 +2,15 @@
 use Prim.Native.Nat.{ℕ, ◌<◌, ◌≤◌}
 use mathlib.Core.Path.{◌≡◌, refl, ap, ap₂, sym, ◌∙◌, subst}
 use mathlib.Core.Bool.{Bool, true, false, cond, ◌&&◌, ◌||◌}
-use mathlib.Core.List.{List, [], ◌∷◌}
+use mathlib.Core.List.{List}
 use native.Mathlib.Omega.{arith}
 use native.Mathlib.Decide.{dec_lt}
-use types.Run.{OneOf, miss}
-use denote.Enum.Declared.{tag_of}
 use lib.ListN.{get_or, set, take}
 use lib.Seq.{take-append_seam}
 use borrow.Author.Tests.{lt-ltb, le-ltb, ne_eqb}
 use Rattle.clock.specs.declared.Cycle.{Cycle}
 use Rattle.clock.specs.declared.Bound.{Bound}
-use Rattle.clock.specs.declared.Bound.TheVariants.{Never, At}
+use Rattle.clock.specs.declared.Bound.TheVariants.{At}
 use Rattle.clock.specs.Cycle.{stamp_at}
 use Rattle.clock.specs.Advance.{is_bound_before}
 use Rattle.model.specs.declared.Segment.{Segment}
@@ -28,7 +26,6 @@ use Rattle.model.specs.Statement.{notified_by}
 use Rattle.model.specs.Record.{no_thread, thread_at, ready_cycle, cycle_of, is_running}
 use Rattle.model.specs.Refusal.{out_of_turn}
 use Rattle.model.specs.Effect.{Effect, effect_in, held_events, held_effect}
-use Rattle.model.specs.contracts.State as state
 use Rattle.model_effect.proofs.FrameLaws.{effect_in-begins}
 use Rattle.plain.specs.Wake.{floor_below}
 use Rattle.early.specs.declared.Notification.{Notification}
@@ -45,12 +42,12 @@ use Rattle.early_laws.proofs.LogLaws.{log_of-site_of, site_of-variables}
 use Rattle.early_laws.proofs.OnceLaws.{places_with-begins}
 use Rattle.early_laws.proofs.NumberLaws.{ready_cycle→cycle, is_full_by-none, number_for→passed}
 use Rattle.early_limits.specs.Limit.{at_most}
-use Rattle.early_limits.specs.Ahead.{hazard_at, segments_of}
+use Rattle.early_limits.specs.Ahead.{hazard_at}
 use Rattle.early_limits.proofs.PlaceLaws.{at_most-is}
 use Rattle.early_log.specs.Noted.{noted_of}
 use Rattle.early_log.proofs.NotedLaws.{noted_of-fits}
 use Rattle.early_deliver.specs.declared.Outlook.{Outlook}
-use Rattle.early_deliver.specs.Awake.{ahead_of, sooner_on, outlook_of}
+use Rattle.early_deliver.specs.Awake.{sooner_on, outlook_of}
 use Rattle.early_answer.specs.After.{after_of}
 use Rattle.early_answer.specs.Answered.{thread_of, is_grant, is_finish, hazard_on, number_on, call_number_on, effect_from, grant_on, stored_in, effect_on, run_on, emptied_by, done_on, called_on, HasRoom}
 
@@ -116,14 +113,14 @@ module _ (is_hazard : Cycle → Bool) (floor : Bound) (es : List ℕ) (l : List 
     number-thread h = rw (le-ltb k t h) refl
 
     module _ (h : k < t) where
-      pub number-unready : (s : State) → (get_or ts k no_thread).state ≡ s → OneOf (0 ∷ 1 ∷ 3 ∷ 4 ∷ []) (tag_of state.the_type s) → cond (is_running s) 19 12 ≡ number_for t end is_hazard floor es l ts k
+      pub number-unready : (s : State) → (get_or ts k no_thread).state ≡ s → ((x : Cycle) → s ≡ Ready x → ⊥) → cond (is_running s) 19 12 ≡ number_for t end is_hazard floor es l ts k
       unfolding number_for number_at thread_at
       number-unready s e o = rw (lt-ltb k t h, e) (go s o)
         where
-          go : (s : State) → OneOf (0 ∷ 1 ∷ 3 ∷ 4 ∷ []) (tag_of state.the_type s) → cond (is_running s) 19 12 ≡ cond (is_running s) out_of_turn (number_at end is_hazard floor es l (ready_cycle s))
+          go : (s : State) → ((x : Cycle) → s ≡ Ready x → ⊥) → cond (is_running s) 19 12 ≡ cond (is_running s) out_of_turn (number_at end is_hazard floor es l (ready_cycle s))
           go (Ended c) o = refl
           go (Overrun c) o = refl
-          go (Ready c) o = absurd (miss (0 ∷ 1 ∷ 3 ∷ 4 ∷ []) 2 tt o)
+          go (Ready c) o = absurd (o c refl)
           go (Waiting e c) o = refl
           go (Running c) o = refl
 

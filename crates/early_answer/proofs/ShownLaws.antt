@@ -18,7 +18,6 @@ use Rattle.early.specs.declared.Site.{Site}
 use Rattle.early.specs.declared.Notification.{Notification}
 use Rattle.early.specs.Fit.{is_unfit}
 use Rattle.early_limits.specs.Limit.{at_most}
-use Rattle.early_limits.specs.Ahead.{segments_of}
 use Rattle.early_limits.proofs.PlaceLaws.{at_most-is, segments_of-at}
 use Rattle.early_limits.proofs.StateLaws.{is_unfit→FitState, fit-segment}
 use Rattle.early_deliver.specs.declared.Outlook.{Outlook}

@@ -26,7 +26,7 @@ use Rattle.plain_laws.proofs.RecordLaws.{thread_at-at}
 use Rattle.tables.specs.Word.{all_ones}
 use Rattle.early.specs.declared.Notification.{Notification}
 use Rattle.early.specs.declared.Site.{Site}
-use Rattle.early.specs.Log.{places, log_of, counted_log}
+use Rattle.early.specs.Log.{places, log_of}
 use Rattle.early.specs.Fit.{is_fit_cycle, is_fit_wait, is_fit_run, is_fit_thread, is_fit_pair, is_fit_word, is_unfit_threads, is_unfit_log, is_unfit_places, is_unfit_words, is_unfit_state, is_unfit}
 use Rattle.early_laws.proofs.FitLaws.{place_of, is_fit_thread→, is_unfit_threads→, →is_unfit_places, →is_fit_word}
 use Rattle.early_log.proofs.RunningLaws.{counted_none}

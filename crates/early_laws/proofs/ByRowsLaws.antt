@@ -4,7 +4,7 @@
 --     by_rows-fit, by_rows-enough     with 64 words a request by rows is the request with the reader's words
 --     all_by_rows-enough     so is a list of them
 --     free-same, free-front     the words are left free
-use Prim.Native.Nat.{ℕ, ◌+◌, ◌*◌, ◌<◌, ◌≤◌}
+use Prim.Native.Nat.{ℕ, ◌+◌, ◌<◌, ◌≤◌}
 use mathlib.Core.Path.{◌≡◌, refl, sym, ap, ◌∙◌}
 use mathlib.Core.Bool.{Bool, true, false, ◌||◌}
 use mathlib.Core.List.{List, [], ◌∷◌, ◌++◌}

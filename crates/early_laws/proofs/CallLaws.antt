@@ -44,7 +44,7 @@ use Rattle.early.specs.declared.Site.{Site}
 use Rattle.early.specs.declared.Answer.TheVariants.{Granted, Refused}
 use Rattle.early.specs.declared.Call.{Call}
 use Rattle.early.specs.declared.Call.TheVariants.{Both, Grant, Finish}
-use Rattle.early.specs.Log.{places, pair_of, log_of, with_pairs, counted_log, counted_places}
+use Rattle.early.specs.Log.{pair_of, log_of, with_pairs, counted_log, counted_places}
 use Rattle.early.specs.Deliver.{settled, settled_items}
 use Rattle.early.specs.Fit.{is_unfit_state, is_unfit}
 use Rattle.early.specs.Grant.{log_by, closed_by, effect_at, log_after, closed_threads, threads_after, items_after}

@@ -4,17 +4,17 @@
 --     with_running-kept, with_running-new, with_running-only     what stands in it
 --     with_running-once, with_running-none, with_running-same     no pair twice; nothing runs; the same runs
 --     places_with-counted, running-counted, dropped-shorter     what a log takes is counted
-use Prim.Native.Nat.{ℕ, zero, suc, ◌+◌, ◌<◌, ◌≤◌}
+use Prim.Native.Nat.{ℕ, zero, suc, ◌<◌, ◌≤◌}
 use mathlib.Core.Path.{◌≡◌, refl, ap, sym, ◌∙◌, subst}
 use mathlib.Core.Logic.{◌⊎◌, inl, inr}
-use mathlib.Core.Bool.{Bool, true, false, cond, not}
+use mathlib.Core.Bool.{Bool, true, false, cond}
 use mathlib.Core.List.Memᴰ
 use mathlib.Core.List.{List, [], ◌∷◌, ◌++◌, append_assoc, append-nil}
 use native.Mathlib.Omega.{arith}
 use native.Mathlib.Decide.{ℕ_discrete}
 use lib.Dec.{T, T_not}
 use lib.ListN.{length, length-append}
-use Rattle.base.proofs.BoolLaws.{cond-case, T→true, T→false, true→T}
+use Rattle.base.proofs.BoolLaws.{cond-case, T→true, T→false}
 use Rattle.clock.specs.declared.Cycle.{Cycle}
 use Rattle.clock.specs.declared.Bound.{Bound}
 use Rattle.clock.specs.declared.Bound.TheVariants.{Never, At}

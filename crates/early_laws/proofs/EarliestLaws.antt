@@ -18,7 +18,7 @@ use Rattle.clock.specs.Advance.{least, least_below, ◌⊕◌, one_delta}
 use Rattle.clock.specs.Order.{Before, ◌⊑◌, ◌≼◌}
 use Rattle.clock.proofs.OrderLaws.{Before-trans, Before→⊑, ≡→⊑, ⊑-Before-trans, ≼_refl, ≼_trans, ≼-antisym}
 use Rattle.clock.proofs.LeastLaws.{attained-same}
-use Rattle.clock.proofs.AdvanceLaws.{⊕-mono, Never-⊕}
+use Rattle.clock.proofs.AdvanceLaws.{⊕-mono}
 use Rattle.clock.proofs.RelaxLaws.{relaxed-source, relaxed-link, relaxed-attained}
 use Rattle.model.specs.declared.Model.{Model}
 use Rattle.model.specs.declared.State.{State}

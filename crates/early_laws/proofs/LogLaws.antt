@@ -54,7 +54,7 @@ holds→In (y ∷ l) x t = go (λ s. holds→In l x s) (or→either (is_same_pai
     go ih (inl s) = Memᴰ.head (sym (is_same_pair→≡ y x s))
     go ih (inr s) = Memᴰ.tail (ih s)
 
-pub In→holds : {l : List Notification} {x : Notification} → In x l → T (holds l x)
+pub In→holds : {x : Notification} {l : List Notification} → In x l → T (holds l x)
 unfolding holds
 In→holds {x} (Memᴰ.head {x = y} {xs = l} e) = either→or (is_same_pair y x) (holds l x) (inl (≡→is_same_pair (sym e)))
 In→holds {x} (Memᴰ.tail {x = y} {xs = l} h) = either→or (is_same_pair y x) (holds l x) (inr (In→holds h))
@@ -140,6 +140,7 @@ heard_of e since x = cond (is_heard e since x) (At x.cycle) Never
 
 pub least_heard-≼ : (l : List Notification) (e : ℕ) (since : Cycle) (x : Notification) → In x l → x.event ≡ e → since ⊑ x.cycle → least_heard l e since ≼ At x.cycle
 unfolding least_heard heard_of
+least_heard-≼ [] e since x h q r = absurd (Memᴰ.not-nil h)
 least_heard-≼ (y ∷ l) e since x (Memᴰ.head p) q r =
     ≼_trans
     (least_heard (y ∷ l) e since)
@@ -205,6 +206,7 @@ least_heard-more l l' e since more = go (least_heard l e since) refl
 
 pub drop_before-kept : (f : Cycle) (l : List Notification) {x : Notification} → In x l → f ⊑ x.cycle → In x (drop_before (At f) l)
 unfolding drop_before is_dropped
+drop_before-kept f [] k h = absurd (Memᴰ.not-nil k)
 drop_before-kept f (y ∷ l) {x} (Memᴰ.head p) h =
     cond-case
     (λ (z : List Notification). In x z)

@@ -95,7 +95,7 @@ get_d-In [] i d h = absurd (omega arith)
 get_d-In (x ∷ l) zero d h = Memᴰ.head refl
 get_d-In (x ∷ l) (suc i) d h = Memᴰ.tail (get_d-In l i d (le_of_suc-le-suc h))
 
-pub In-get_d : {l : List Notification} {x : Notification} (d : Notification) → In x l → (i : ℕ) × (i < length l) × (get_or l i d ≡ x)
+pub In-get_d : {x : Notification} {l : List Notification} (d : Notification) → In x l → (i : ℕ) × (i < length l) × (get_or l i d ≡ x)
 In-get_d d (Memᴰ.head e) = (0, omega arith, sym e)
 In-get_d d (Memᴰ.tail h) = let (i, k, e) = In-get_d d h in (suc i, omega arith, e)
 

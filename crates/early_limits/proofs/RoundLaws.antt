@@ -10,12 +10,11 @@ use lib.ListN.{get_or}
 use borrow.Author.Tests.{lt-ltb}
 use Rattle.clock.specs.declared.Cycle.{Cycle}
 use Rattle.clock.specs.declared.Bound.{Bound}
-use Rattle.clock.specs.declared.Bound.TheVariants.{Never, At}
+use Rattle.clock.specs.declared.Bound.TheVariants.{Never}
 use Rattle.clock.specs.Advance.{least, least_below, ◌⊕◌, one_delta}
 use Rattle.clock.proofs.LeastLaws.{least-Never-right, least_below-one, least_below-same}
 use Rattle.model.specs.declared.Model.{Model}
 use Rattle.model.specs.declared.Thread.{Thread}
-use Rattle.model.specs.Record as view
 use Rattle.model.specs.Record.{thread_at, is_live, Awaited, nothing, awaits, awaited_by, view_of, awaited_of}
 use Rattle.tables.specs.Word.{all_ones}
 use Rattle.plain_laws.proofs.RecordLaws.{not-live→idle, awaits→waits}

@@ -1,6 +1,6 @@
 -- A fit state, as a request finds it and as it stays while deliveries are made; what it says of words, records, segments and the log.
 use Prim.Native.Nat.{ℕ, ◌*◌, ◌<◌}
-use mathlib.Core.Path.{◌≡◌, refl, subst}
+use mathlib.Core.Path.{◌≡◌, subst}
 use mathlib.Core.Bool.{false}
 use mathlib.Core.List.{List}
 use native.Mathlib.Omega.{arith}
@@ -8,8 +8,7 @@ use lib.Dec.{T}
 use lib.ListN.{get_or}
 use Rattle.clock.specs.Wait.{last_delta}
 use Rattle.clock.specs.declared.Cycle.{Cycle}
-use Rattle.clock.specs.declared.Bound.{Bound}
-use Rattle.clock.specs.declared.Bound.TheVariants.{Never, At}
+use Rattle.clock.specs.declared.Bound.TheVariants.{At}
 use Rattle.model.specs.declared.Model.{Model}
 use Rattle.model.specs.declared.Thread.{Thread}
 use Rattle.model.specs.Limits.{cut_time, record_time}

@@ -6,12 +6,10 @@
 use Prim.Native.Nat.{ℕ, zero, suc, ◌+◌, ◌<◌, ◌≤◌}
 use mathlib.Core.Path.{◌≡◌, refl, ap, sym, ◌∙◌}
 use mathlib.Core.Bool.{Bool, true, false}
-use mathlib.Core.List.{List, [], ◌∷◌}
+use mathlib.Core.List.{List, []}
 use native.Mathlib.Omega.{arith}
 use native.Mathlib.Numerals.{add-one}
 use native.Mathlib.Decide.{ℕ_discrete}
-use types.Run.{OneOf, miss}
-use denote.Enum.Declared.{tag_of}
 use lib.Dec.{ltb}
 use lib.ListN.{length, get_or, take}
 use lib.Seq.{take-append_seam}
@@ -33,7 +31,6 @@ use Rattle.model.specs.Statement.{notified_by}
 use Rattle.model.specs.Effect.{held_events}
 use Rattle.model.specs.Record.{thread_at, cycle_of, is_running}
 use Rattle.model.specs.Footprint.{listed_in}
-use Rattle.model.specs.contracts.State as state
 use Rattle.model_effect.proofs.PortLaws.{listed_in-any}
 use Rattle.early.specs.declared.Notification.{Notification}
 use Rattle.early.specs.declared.Site.{Site}
@@ -56,12 +53,12 @@ listed_here m k s j g x count few p there e =
     let q : g ≡ segment_at m s = there ∙ get_d_any m.segments j (record { closer = End; n = 0; statements = [] }) no_segment (omega arith) ∙ ap (segment_at m) p in
     rw (e, held_events-taken (notified_by (body_of g)), q) (sym (listed_in-any m k s))
 
-pub is_running-other : (s : State) → OneOf (0 ∷ 1 ∷ 2 ∷ 3 ∷ []) (tag_of state.the_type s) → is_running s ≡ false
+pub is_running-other : (s : State) → ((x : Cycle) → s ≡ Running x → ⊥) → is_running s ≡ false
 is_running-other (Ended c) h = refl
 is_running-other (Overrun c) h = refl
 is_running-other (Ready c) h = refl
 is_running-other (Waiting e c) h = refl
-is_running-other (Running c) h = absurd (miss (0 ∷ 1 ∷ 2 ∷ 3 ∷ []) 4 tt h)
+is_running-other (Running c) h = absurd (h c refl)
 
 any_below-false : (n : ℕ) (f : ℕ → Bool) → any_below n f ≡ false → (i : ℕ) → i < n → f i ≡ false
 any_below-false n f e i h = T→false (f i) (any_below-none n f (false→T (any_below n f) e) i h)

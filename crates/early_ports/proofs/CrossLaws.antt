@@ -3,32 +3,31 @@
 --     crosses-is     a conflict through a port
 --     conflicts_on-is     by the words that `fill_names` leaves, also where no thread uses a port
 use Prim.Native.Nat.{ℕ, zero, suc, ◌+◌, ◌-◌, ◌≤◌, ◌*◌, ◌<◌, ◌^◌, min}
-use mathlib.Core.Path.{◌≡◌, refl, ap, ap₂, sym, ◌∙◌, subst}
+use mathlib.Core.Path.{◌≡◌, refl, ap, ap₂, sym, ◌∙◌}
 use mathlib.Core.Logic.{◌⊎◌, inl, inr}
 use mathlib.Core.Bool.{Bool, true, false, not, cond, ◌&&◌, ◌||◌, or-false, and-false}
-use mathlib.Core.List.{List, [], ◌∷◌}
+use mathlib.Core.List.{List, []}
 use native.Mathlib.Omega.{arith}
 use native.Mathlib.Numerals.{add-one}
 use native.Mathlib.Nat.{zero-add}
 use native.Mathlib.Decide.{dec_lt}
 use lib.Bits.{bit_and, bit_or, and_le_l, or_lt}
-use lib.Dec.{T, ltb, eqb, eqb→eq, T_not, not_T}
+use lib.Dec.{T, ltb, eqb, eqb→eq}
 use lib.ListN.{length, get_or, replicate, length-replicate, get_or-replicate, get_or-eq_default}
-use borrow.Author.Tests.{lt-ltb, le-ltb, eq-eqb, ne_eqb}
+use borrow.Author.Tests.{lt-ltb, le-ltb, ne_eqb}
 use Rattle.base.specs.Index.{any_below}
-use Rattle.base.proofs.BoolLaws.{T-same, T→false, T→true, true→T, false→T, and→both, both→and, or→either, either→or, eq→eqb}
+use Rattle.base.proofs.BoolLaws.{T-same, true→T, false→T, and→both}
 use Rattle.base.proofs.IndexLaws.{any_below-same, any_below-empty, any_below-found, any_below-some, any_below-none}
 use Rattle.masks.specs.Mask.{bit_at, with_bit}
 use Rattle.masks.proofs.MaskLaws.{bit_at-zero, bit_at-and, bit_at-or, bit_at-some, bit_at-with_bit-below, with_bit-lt}
 use Rattle.model.specs.declared.Model.{Model}
-use Rattle.model.specs.declared.Segment.{Segment}
 use Rattle.model.specs.declared.Start.{Start}
-use Rattle.model.specs.Port.{first_port, unused, port_of, uses_ports, mapped, map_segment}
-use Rattle.model.specs.Values.{no_start, segment_at, start_at, ports_at, segment_for}
+use Rattle.model.specs.Port.{first_port, unused, port_of, uses_ports, mapped}
+use Rattle.model.specs.Values.{segment_at, start_at, ports_at, segment_for}
 use Rattle.model.specs.Footprint.{writes_of, uses_of, writes_in, uses_in, names_port, uses_by_port}
 use Rattle.model.specs.Rules.{model_fault}
-use Rattle.model_effect.proofs.PortLaws.{mapped-port, mapped-below, mapped-above, writes-mapped, uses-mapped}
-use Rattle.model_rules.proofs.RuleLaws.{Name, Counts, model_fault-counts, model_fault-segment, model_fault-ports, segment_fault-uses}
+use Rattle.model_effect.proofs.PortLaws.{mapped-port, mapped-below, uses-mapped}
+use Rattle.model_rules.proofs.RuleLaws.{Name, model_fault-counts, model_fault-segment, model_fault-ports, segment_fault-uses}
 use Rattle.tables.specs.Conflict.{mark_at}
 use Rattle.early.specs.Hazard.{ports_conflict, threads_conflict}
 use Rattle.early_ports.specs.declared.Footprint.{Footprint}

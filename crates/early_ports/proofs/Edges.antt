@@ -1,21 +1,20 @@
 -- The words of what segments name, footprints and conflicts through a port at, below and above their edges: closed examples, worked out from
 -- document 02, "Modules with ports".
-use Prim.Native.Nat.{ℕ, ◌+◌, ◌^◌}
+use Prim.Native.Nat.{ℕ, ◌^◌}
 use mathlib.Core.Path.{◌≡◌, refl}
-use mathlib.Core.Bool.{Bool, true, false}
+use mathlib.Core.Bool.{true, false}
 use mathlib.Core.List.{List, [], ◌∷◌}
 use lib.ListN.{get_or, length, replicate}
 use Rattle.model.specs.declared.Op.TheVariants.{Set, Add, Copy, AddVariable, SubVariable, Notify}
 use Rattle.model.specs.declared.Closer.TheVariants.{End, Time, Event}
 use Rattle.model.specs.declared.Next.{Next}
 use Rattle.model.specs.declared.Segment.{Segment}
-use Rattle.model.specs.declared.Start.{Start}
 use Rattle.model.specs.declared.Model.{Model}
 use Rattle.model.specs.Port.{no_ports, map_segment}
 use Rattle.model.specs.Values.{no_model, with_head, with_segment, with_start}
 use Rattle.early.proofs.EdgeModels.{segment_of, says, no_mark, one_mark}
 use Rattle.early_ports.specs.declared.Footprint.{Footprint}
-use Rattle.early_ports.specs.Names.{bit_from, read_from, op_names, test_name, names_of, name_word, any_ports, names_for}
+use Rattle.early_ports.specs.Names.{bit_from, op_names, test_name, names_of, name_word, any_ports, names_for}
 use Rattle.early_ports.specs.Cross.{ports_in, segment_with, map_bits, footprint_of, crosses, conflicts_on}
 use Rattle.early_ports.proofs.Computed.{computed}
 

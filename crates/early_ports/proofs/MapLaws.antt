@@ -2,7 +2,7 @@
 --     writes-split, uses-split
 --     unnamed-kept     where no port is named, mapping changes nothing that is run
 --     segment_with-runs, segment_with-listed     so that a thread that uses no port can run its segment as it is
-use Prim.Native.Nat.{ℕ, ◌+◌, ◌-◌, ◌≤◌, ◌<◌}
+use Prim.Native.Nat.{ℕ, ◌+◌, ◌-◌, ◌<◌}
 use mathlib.Core.Path.{◌≡◌, refl, ap, ap₂, sym, ◌∙◌, subst}
 use mathlib.Core.Logic.{◌⊎◌, inl, inr}
 use mathlib.Core.Bool.{Bool, true, false, cond, not, ◌&&◌, ◌||◌}
@@ -10,7 +10,7 @@ use mathlib.Core.List.{List, [], ◌∷◌}
 use native.Mathlib.Omega.{arith}
 use native.Mathlib.Decide.{dec_lt}
 use lib.Dec.{T, eqb, eqb→eq, T_not, not_T}
-use lib.ListN.{length, get_or}
+use lib.ListN.{get_or}
 use Rattle.base.specs.Index.{any_below}
 use Rattle.base.proofs.BoolLaws.{T-same, T→false, false→T, not-not, and→both, both→and, or→either, either→or, eq→eqb}
 use Rattle.base.proofs.IndexLaws.{any_below-some, any_below-found, any_below-none}

@@ -4,18 +4,17 @@
 --     names_for-none, names_for-word     a buffer of zeros, as `fill_names` leaves it
 use Prim.Native.Nat.{ℕ, zero, suc, ◌+◌, ◌*◌, ◌-◌, ◌≤◌, ◌<◌, ◌^◌, min}
 use mathlib.Core.Path.{◌≡◌, refl, ap, ap₂, sym, ◌∙◌}
-use mathlib.Core.Logic.{◌⊎◌, inl, inr}
-use mathlib.Core.Bool.{Bool, true, false, not, cond, ◌&&◌, ◌||◌, or_assoc, or-false, or_self, or_self_left}
+use mathlib.Core.Logic.{inl}
+use mathlib.Core.Bool.{Bool, true, false, not, cond, ◌&&◌, ◌||◌, or-false, or_self, or_self_left}
 use mathlib.Core.List.{List, [], ◌∷◌, ◌++◌}
 use native.Mathlib.Omega.{arith}
 use native.Mathlib.Numerals.{add-one}
 use native.Mathlib.Decide.{dec_lt, ℕ_discrete}
 use lib.Bits.{bit_or, or_lt}
-use lib.Dec.{T, ltb, eqb}
-use lib.ListN.{length, get_or, take, replicate, length-replicate}
+use lib.Dec.{eqb}
+use lib.ListN.{length, get_or, take}
 use lib.Seq.{take-suc, take_all}
 use borrow.Author.Tests.{lt-ltb, le-ltb, eq-eqb, ne_eqb}
-use Rattle.base.specs.Index.{store_to}
 use Rattle.base.proofs.IndexLaws.{store_to-length, store_to-other, store_to-at}
 use Rattle.masks.specs.Mask.{bit_at, with_bit}
 use Rattle.masks.proofs.MaskLaws.{bit_at-zero, bit_at-or, bit_at-with_bit-below, with_bit-lt}

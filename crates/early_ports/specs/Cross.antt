@@ -1,5 +1,5 @@
 -- Document 02, "Modules with ports": "a conflict through a port", on masks. The laws of this crate say that it is `ports_conflict` of `early`.
-use Rattle.std.specs.Prelude.{ℕ, zero, suc, ◌+◌, Bool, not, false, cond, ◌||◌, List, ltb, eqb, get_or}
+use Rattle.std.specs.Prelude.{ℕ, zero, suc, ◌+◌, Bool, not, cond, ◌||◌, List, ltb, eqb, get_or}
 use Rattle.std.specs.Int.Bits.{bit_and, bit_or}
 use Rattle.masks.specs.Mask.{bit_at, with_bit}
 use Rattle.model.specs.declared.Segment.{Segment}

@@ -1,5 +1,5 @@
 -- What each segment writes and uses, directly and by port, as the bits of words: `proofs/NameLaws.antt` says what the bits are.
-use Rattle.std.specs.Prelude.{ℕ, zero, suc, ◌+◌, ◌*◌, ◌-◌, min, Bool, not, cond, ◌||◌, List, [], ◌∷◌, ltb, eqb, length, get_or}
+use Rattle.std.specs.Prelude.{ℕ, zero, suc, ◌*◌, ◌-◌, min, Bool, not, cond, ◌||◌, List, [], ◌∷◌, ltb, eqb, length, get_or}
 use Rattle.std.specs.Int.Bits.{bit_or}
 use Rattle.base.specs.Index.{any_below, store_to}
 use Rattle.masks.specs.Mask.{with_bit}

@@ -1,9 +1,9 @@
 -- Each comparison at, below and above its edge, where each number stands: closed examples.
-use Prim.Native.Nat.{ℕ, ◌^◌}
+use Prim.Native.Nat.{◌^◌}
 use mathlib.Core.Path.{◌≡◌, refl}
 use mathlib.Core.Bool.{true, false}
-use mathlib.Core.List.{List, [], ◌∷◌, ◌++◌}
-use lib.ListN.{replicate, set}
+use mathlib.Core.List.{[], ◌∷◌, ◌++◌}
+use lib.ListN.{replicate}
 use Rattle.clock.specs.Cycle.{cycle_at}
 use Rattle.model.specs.declared.State.TheVariants.{Ended, Overrun, Ready, Waiting, Running}
 use Rattle.early.proofs.EdgeModels.{note, in_state}

@@ -1,7 +1,7 @@
 -- The number of places of variables, of a log and of thread records, and the ranges of their numbers, as owning them tells it.
 use Prim.Native.Nat.{ℕ, zero, suc, ◌<◌, ◌^◌}
-use mathlib.Core.Path.{◌≡◌, sym, ◌∙◌}
-use mathlib.Core.List.{List, [], ◌∷◌, map}
+use mathlib.Core.Path.{◌≡◌}
+use mathlib.Core.List.{List, [], ◌∷◌}
 use native.Mathlib.Omega.{arith}
 use mir.Val.{Val}
 use base.Fml.{Fml}
@@ -9,17 +9,14 @@ use denote.Shadow.{shadow}
 use denote.Array.{each}
 use denote.Laws.{Is}
 use denote.Struct.Laws as LL
-use lib.ListN.{length, get_or, length-map}
+use lib.ListN.{length, get_or}
 use Rattle.clock.specs.declared.Cycle.{Cycle}
 use Rattle.clock.specs.Cycle.{cycle_at}
 use Rattle.clock.specs.contracts.Cycle as cycle
-use Rattle.model.specs.declared.Variables.{Variables}
 use Rattle.model.specs.declared.State.{State}
 use Rattle.model.specs.declared.State.TheVariants.{Ended, Overrun, Ready, Waiting, Running}
 use Rattle.model.specs.declared.Thread.{Thread}
 use Rattle.model.specs.Record.{cycle_of}
-use Rattle.model.specs.contracts.Variables as variables
-use Rattle.model.proofs.Variables.TheLaws as variables'
 use Rattle.model.specs.contracts.Thread as thread
 use Rattle.model.specs.contracts.State as state
 use Rattle.early.specs.declared.Notification.{Notification}
@@ -66,12 +63,12 @@ thread-range x vs g = record { segment = g.1.1.0.1; event = (state-range x.segme
 
 -- what is owned of each element of an array is owned of the one at i
 each_at :
-    {D E : Type 0} (f : E → List Val → Fml) (to : D → E) (xs : List D) (us : List Val) (i : ℕ) (z : D) → shadow (each E f (map to xs) us) → i < length xs →
-    (u : Val) × shadow (f (to (get_or xs i z)) (u ∷ []))
-each_at f to [] us i z g h = absurd (omega arith)
-each_at f to (x ∷ xs) [] i z g h = absurd g
-each_at f to (x ∷ xs) (u ∷ us) zero z g h = (u, g.0)
-each_at f to (x ∷ xs) (u ∷ us) (suc i) z g h = each_at f to xs us i z g.1 (omega arith)
+    {E : Type 0} (f : E → List Val → Fml) (xs : List E) (us : List Val) (i : ℕ) (z : E) → shadow (each E f xs us) → i < length xs →
+    (u : Val) × shadow (f (get_or xs i z) (u ∷ []))
+each_at f [] us i z g h = absurd (omega arith)
+each_at f (x ∷ xs) [] i z g h = absurd g
+each_at f (x ∷ xs) (u ∷ us) zero z g h = (u, g.0)
+each_at f (x ∷ xs) (u ∷ us) (suc i) z g h = each_at f xs us i z g.1 (omega arith)
 
 pub site-range : (s : Site) (vs : List Val) → Is site.the_row s vs → SiteRange s
 site-range s vs g =
@@ -81,5 +78,5 @@ site-range s vs g =
       variables = o.0.1.1.0.1.0.1;
       places = size;
       count = o.1.1.0.1;
-      pairs = λ i h. pair-range _ _ (each_at _ _ s.log o.1.0.0 i (pair_of 0 (cycle_at 0 0)) o.1.0.1.1 (omega arith)).1;
+      pairs = λ i h. let e = each_at (notification.the_row).own_val s.log o.1.0.0 i (pair_of 0 (cycle_at 0 0)) o.1.0.1.1 (omega arith) in pair-range _ (e.0 ∷ []) e.1;
     }

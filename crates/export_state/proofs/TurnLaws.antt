@@ -1,14 +1,14 @@
 -- Words in turn: how many there are, stored one after the other, and read by their index; lists that are filled by an index.
-use Prim.Native.Nat.{ℕ, zero, suc, ◌+◌, ◌*◌, ◌≤◌, ◌<◌}
+use Prim.Native.Nat.{ℕ, zero, suc, ◌+◌, ◌*◌, ◌<◌}
 use mathlib.Core.Path.{◌≡◌, refl, sym, ap, ◌∙◌}
 use mathlib.Core.List.{List, [], ◌∷◌, ◌++◌, append-nil, append_assoc}
 use native.Mathlib.Omega.{arith}
 use native.Mathlib.Nat.{zero-add}
 use native.Mathlib.Numerals.{add-one}
-use lib.ListN.{length, get_or, take, drop, length-append, length-drop, get_or-append}
-use lib.Seq.{sets, ext_get_or, get_or-append-add, get_or-take, get_or-drop, take-add, take-suc, length-take-le}
+use lib.ListN.{length, get_or, take, length-append, get_or-append}
+use lib.Seq.{sets, ext_get_or, get_or-append-add, take-suc, length-take-le}
 use Rattle.base.specs.Index.{tabulate}
-use Rattle.base.proofs.IndexLaws.{tabulate-length, tabulate-at, tabulate-more}
+use Rattle.base.proofs.IndexLaws.{tabulate-length, tabulate-at}
 use Rattle.buffers.proofs.StoreLaws.{sets_more}
 use Rattle.export_state.specs.Numbers.{in_turn}
 

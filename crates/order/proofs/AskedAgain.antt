@@ -2,7 +2,7 @@
 -- whoever could come before it later, could before, since no bound falls. So its request is never refused with 14 again: it is granted, or
 -- the log is full (15).
 -- Takes as given the facts of the plain run (PlainFacts) and the laws of the kit (KitLaws).
-use Prim.Native.Nat.{ℕ, ◌+◌}
+use Prim.Native.Nat.{ℕ}
 use mathlib.Core.Path.{◌≡◌, refl, ap, sym, ◌∙◌, subst}
 use mathlib.Core.Bool.{Bool, false}
 use mathlib.Core.List.{List, [], ◌∷◌, ◌++◌, Memᴰ}

@@ -12,7 +12,6 @@ use lib.Dec.{T}
 use lib.ListN.{length, set, length-set}
 use Rattle.clock.specs.declared.Cycle.{Cycle}
 use Rattle.clock.specs.declared.Bound.{Bound}
-use Rattle.clock.specs.Order.{◌≼◌}
 use Rattle.clock.proofs.OrderLaws.{≼_refl}
 use Rattle.model.specs.declared.Model.{Model}
 use Rattle.model.specs.declared.Thread.{Thread}

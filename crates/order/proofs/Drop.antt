@@ -11,7 +11,7 @@ use lib.Dec.{T}
 use Rattle.clock.specs.declared.Cycle.{Cycle}
 use Rattle.clock.specs.declared.Bound.{Bound}
 use Rattle.clock.specs.declared.Bound.TheVariants.{Never, At}
-use Rattle.clock.specs.Advance.{least_below, ◌⊕◌}
+use Rattle.clock.specs.Advance.{least_below}
 use Rattle.clock.specs.Order.{Before, ◌⊑◌, ◌≼◌}
 use Rattle.clock.proofs.OrderLaws.{At-not-Never, ⊑-total, Before→⊑, Before→not-⊑, ⊑_trans, ⊑-Before-trans, ≼_trans}
 use Rattle.clock.proofs.LeastLaws.{least_below-≼, least_below-one}

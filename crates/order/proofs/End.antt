@@ -14,7 +14,6 @@ use lib.Seq.{ext_get_or}
 use Rattle.clock.specs.declared.Cycle.{Cycle}
 use Rattle.clock.specs.declared.Bound.{Bound}
 use Rattle.clock.specs.declared.Bound.TheVariants.{At}
-use Rattle.clock.specs.Advance.{◌⊕◌}
 use Rattle.clock.specs.Order.{◌⊑◌, ◌≼◌}
 use Rattle.clock.proofs.OrderLaws.{Before→not-⊑, ≼_trans}
 use Rattle.clock.proofs.AdvanceLaws.{⊕-inflate}

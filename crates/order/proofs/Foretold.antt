@@ -2,7 +2,7 @@
 -- any hearing of it so far, since it was no sooner then and never falls up to the horizon (slip 5). Beside it: a done place notified whatever was
 -- heard, and nobody has anything to hear.
 -- Takes as given the facts of the plain run (PlainFacts) and the laws of the kit (KitLaws).
-use Prim.Native.Nat.{ℕ, ◌≤◌, ◌<◌, ◌+◌}
+use Prim.Native.Nat.{ℕ, ◌≤◌, ◌<◌}
 use mathlib.Core.Path.{◌≡◌, ap, sym, subst, fun_ext}
 use mathlib.Core.Logic.{◌⊎◌, inl, inr}
 use mathlib.Core.List.Memᴰ

@@ -14,7 +14,7 @@ use lib.ListN.{length, set, length-set}
 use Rattle.clock.specs.declared.Cycle.{Cycle}
 use Rattle.clock.specs.declared.Bound.{Bound}
 use Rattle.clock.specs.declared.Bound.TheVariants.{At}
-use Rattle.clock.specs.Order.{Before, ◌⊑◌, ◌≼◌}
+use Rattle.clock.specs.Order.{Before, ◌≼◌}
 use Rattle.clock.proofs.OrderLaws.{≼_trans}
 use Rattle.model.specs.declared.Model.{Model}
 use Rattle.model.specs.declared.Thread.{Thread}

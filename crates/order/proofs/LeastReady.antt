@@ -13,7 +13,7 @@ use Rattle.clock.specs.declared.Cycle.{Cycle}
 use Rattle.clock.specs.declared.Bound.{Bound}
 use Rattle.clock.specs.declared.Bound.TheVariants.{At}
 use Rattle.clock.specs.Cycle.{stamp_at, is_stamp_before}
-use Rattle.clock.specs.Order.{Before, ◌⊑◌, ◌≼◌}
+use Rattle.clock.specs.Order.{Before, ◌≼◌}
 use Rattle.clock.proofs.OrderLaws.{Before-irrefl, Three, before, same, after, Before-total, Before→not-⊑, ≼-antisym}
 use Rattle.clock.proofs.CycleLaws.{StampBefore, is_stamp_before→, →is_stamp_before}
 use Rattle.model.specs.declared.Model.{Model}

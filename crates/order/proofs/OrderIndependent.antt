@@ -11,7 +11,6 @@ use lib.ListN.{length, drop, take-append-drop}
 use lib.Seq.{take_all}
 use Rattle.model.specs.declared.Model.{Model}
 use Rattle.model.specs.declared.Thread.{Thread}
-use Rattle.model.specs.Refusal.{accepted}
 use Rattle.model.specs.Rules.{model_fault}
 use Rattle.reader.specs.File.{read_file}
 use Rattle.reader_laws.proofs.Accepted.{accepted-kept}

@@ -3,7 +3,7 @@ use Prim.Native.Nat.{ℕ}
 use mathlib.Core.Path.{◌≡◌, refl}
 use mathlib.Core.List.{[], ◌∷◌}
 use Rattle.base.specs.Index.{or_else}
-use Rattle.model.specs.Values.{no_model, no_segment, no_start}
+use Rattle.model.specs.Values.{no_segment, no_start}
 use Rattle.model.specs.declared.Model.{Model}
 use Rattle.reader.specs.declared.Read.{Read}
 use Rattle.tables.specs.Outcome.{is_short}

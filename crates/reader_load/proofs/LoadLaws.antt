@@ -1,11 +1,11 @@
 -- The exits of `load` and `load_by_rows`, and the marks of what was loaded.
 use Prim.Native.Nat.{ℕ, ◌<◌, ◌≤◌}
-use mathlib.Core.Path.{◌≡◌, refl, sym, subst, ap, ◌∙◌}
+use mathlib.Core.Path.{◌≡◌, refl, sym, ap, ◌∙◌}
 use mathlib.Core.Bool.{Bool, true, false, cond}
 use mathlib.Core.List.{List}
 use native.Mathlib.Omega.{arith}
 use lib.Dec.{ltb, eqb}
-use borrow.Author.Tests.{eq-eqb, ne_eqb, lt-ltb, le-ltb}
+use borrow.Author.Tests.{ne_eqb, lt-ltb, le-ltb}
 use Rattle.base.specs.Index.{or_else}
 use Rattle.base.proofs.IndexLaws.{or_else-none, or_else-some, or_else-zero}
 use Rattle.model.specs.Refusal.{accepted, short_table}
@@ -17,7 +17,7 @@ use Rattle.reader_laws.proofs.Reading.{read_or-accepted}
 use Rattle.reader_laws.proofs.Accepted.{accepted-kept, read_or-refused, refused-zero}
 use Rattle.tables.specs.Conflict.{marks_of, no_marks}
 use Rattle.tables.specs.Word.{stored}
-use Rattle.tables.specs.Outcome.{is_short, distances_number, distances_buffer, conflict_marks}
+use Rattle.tables.specs.Outcome.{is_short, distances_number, distances_buffer}
 use Rattle.tables.proofs.OutcomeLaws.{if_held-yes, conflict-unfit, conflict-held}
 use Rattle.reader_load.specs.Load.{load_number, load_of, load_buffer, load_marks, by_rows_number, load_by_rows}
 

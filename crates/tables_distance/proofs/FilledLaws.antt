@@ -12,7 +12,6 @@ use lib.Seq.{ext_get_or}
 use Rattle.base.proofs.BoolLaws.{cond-case}
 use Rattle.base.proofs.IndexLaws.{store_to-length, store_to-other, store_to-at}
 use Rattle.clock.specs.declared.Bound.{Bound}
-use Rattle.clock.specs.Advance.{◌⊕◌}
 use Rattle.model.specs.declared.Model.{Model}
 use Rattle.model.specs.Values.{segment_at}
 use Rattle.model.specs.Rules.{model_fault}

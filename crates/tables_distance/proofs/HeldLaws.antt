@@ -27,7 +27,7 @@ use Rattle.model.specs.declared.Closer.TheVariants.{End, Time, Event}
 use Rattle.model.specs.Limits.{cut_time}
 use Rattle.model.specs.Reach.{goes_to}
 use Rattle.tables.specs.Distance.{step_of, cut}
-use Rattle.tables.specs.Word.{all_ones, word_of}
+use Rattle.tables.specs.Word.{word_of}
 use Rattle.tables_distance.specs.Store.{far, held_word, sum_word, steps_of, direct_word, cut_word}
 use Rattle.tables_distance.proofs.StoreLaws.{sum_word-far, sum_word-none, sum_word-more}
 
