@@ -2,7 +2,7 @@
 # The deepest stack, in KB: of each call of the library, and the least with which each program prints what it should.
 set -e
 cd "$(dirname "$0")/.."
-rt check plainrun replayrun rewrite >/dev/null
+tools/programs.sh plainrun replayrun rewrite
 bindings/library.sh
 mkdir -p target/bench
 cc -O2 -Wall -Wextra -I bindings/c -o target/bench/stack bench/stack.c -L target/staticlib -lexports -lpthread

@@ -3,12 +3,17 @@
 set -e
 cd "$(dirname "$0")/.."
 library=target/staticlib/libexports.a
-if [ -e $library ] && [ -z "$(find crates.txt crates \( -name '*.rt' -o -name '*.antt' -o -name crates.txt \) -newer $library -print -quit)" ]; then
+newer() { find crates.txt crates -name out -prune -o \( -name '*.rt' -o -name '*.antt' -o -name crates.txt \) -newer "$1" -print | head -n 1; }
+if [ -e $library ] && [ -z "$(newer $library)" ]; then
     exit 0
 fi
-mkdir -p target
-if ! rt staticlib exports >target/staticlib.log 2>&1; then
-    tail -n 5 target/staticlib.log >&2
-    echo "bindings/library.sh: 'rt staticlib exports' failed; target/staticlib.log has all that it said" >&2
-    exit 1
+mkdir -p target/staticlib
+built=crates/exports/out/libexports.a
+if [ ! -e $built ] || [ -n "$(newer $built)" ]; then
+    if ! (cd crates/exports && rt lib) >target/staticlib.log 2>&1; then
+        tail -n 5 target/staticlib.log >&2
+        echo "bindings/library.sh: 'rt lib' in crates/exports failed; target/staticlib.log has all that it said" >&2
+        exit 1
+    fi
 fi
+cp $built $library

@@ -1,5 +1,5 @@
 #!/usr/bin/env bash
-# The tests that prove nothing, on what `rt ci` or `rt check` has left: the programs of target/bin and the crates of target/rlib.
+# The tests that prove nothing, on the programs and the library that `rt ci` has left; what is not there, or older than a source, is built first.
 # Stops at the first that fails, with a line that says which.
 set -u
 cd "$(dirname "$0")/.."
@@ -20,10 +20,9 @@ step() { # NAME COMMAND...
 for tool in rt cc cargo python3; do
     command -v $tool >/dev/null || stop "$tool is not on the path"
 done
-for program in plainrun replayrun rewrite; do
-    [ -x target/bin/$program ] || stop "target/bin/$program is not there: rt check $program"
-done
 
+step "programs" tools/programs.sh plainrun replayrun rewrite
+step "library" bindings/library.sh
 step "examples for C and Rust" tests/examples/run.sh
 step "commands of docs/REFUSALS.md" python3 tests/refusals/refusals.py
 step "files above 65,536 bytes" python3 tests/refusals/long.py

@@ -38,7 +38,7 @@
  * The library holds no state, uses no heap, and reads and writes nothing but the buffers: several threads may call it at once,
  * each with its own buffers. A call needs at most 218 KB of stack (bench/stack.sh measures it).
  *
- * Link target/staticlib/libexports.a (`rt staticlib exports` makes it), x86-64.
+ * Link target/staticlib/libexports.a (`bindings/library.sh` makes it), x86-64.
  */
 #ifndef TEASELAUGER_H
 #define TEASELAUGER_H

@@ -1,4 +1,4 @@
-// Links the static library that `rt staticlib exports` writes.
+// Links the static library that `bindings/library.sh` makes.
 fn main() {
     let root = std::path::Path::new(env!("CARGO_MANIFEST_DIR")).join("../..");
     println!("cargo:rustc-link-search=native={}", root.join("target/staticlib").display());

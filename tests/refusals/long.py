@@ -1,7 +1,7 @@
 #!/usr/bin/env python3
 """Files longer than 65,536 bytes: the programs read that many and judge these. The numbers below are worked out by hand from docs/RULES.md.
 
-    rt check plainrun replayrun && python3 tests/refusals/long.py
+    tools/programs.sh plainrun replayrun && python3 tests/refusals/long.py
 
 No legal file is longer than 13,934 bytes, so a file reaches the cut only after its end record (9), or by one long record. Such a record has
 a length that is not its kind's (3) if it ends at byte 65,536 or before, and goes past the end of what is read (1) if it ends later.

@@ -1,7 +1,7 @@
 #!/usr/bin/env python3
 """Runs each command of docs/REFUSALS.md, as a reader would, and looks for the line that is shown beside it.
 
-    rt check plainrun replayrun && python3 tests/refusals/refusals.py
+    tools/programs.sh plainrun replayrun && python3 tests/refusals/refusals.py
 """
 import pathlib
 import re

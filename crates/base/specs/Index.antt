@@ -1,5 +1,5 @@
 -- Search over an index, and lists filled by an index.
-use Rattle.std.specs.Prelude.{ℕ, zero, suc, ◌+◌, Bool, true, false, ◌||◌, List, [], ◌∷◌, set}
+use Rattle.std.specs.Prelude.{ℕ, zero, suc, ◌+◌, Bool, false, ◌||◌, List, [], ◌∷◌, set}
 
 -- whether f holds at some index below n
 unfoldable pub any_below : ℕ → (ℕ → Bool) → Bool

@@ -1,13 +1,13 @@
 -- Laws of `placed_in`, `length_in` and `Writes`: a text for which there is room, and one for which there is none.
 -- Assumes nothing.
 use Prim.Native.Nat.{ℕ, suc, ◌+◌, ◌≤◌, ◌<◌}
-use mathlib.Core.Path.{◌≡◌, refl, sym, ap, ◌∙◌}
+use mathlib.Core.Path.{◌≡◌, refl, sym, ◌∙◌}
 use mathlib.Core.List.{List, ◌++◌, append_assoc}
 use native.Mathlib.Nat.{zero-add}
 use native.Mathlib.Numerals.{add-one}
 use native.Mathlib.Omega.{arith}
 use lib.Dec.{leb, leb→le}
-use lib.ListN.{length, get_or, take, drop, set, take-append-drop}
+use lib.ListN.{length, get_or, take, drop, set}
 use lib.Seq.{sets, sets-eq, length-take-le, take-length, take_at, drop-cons, take-suc, set_at}
 use borrow.Author.Tests.{le-leb, lt-leb}
 use Rattle.base.proofs.BoolLaws.{cond-case}

@@ -6,7 +6,7 @@
 --     neither, request-unfit, request-both, after-answers     11 first
 use Prim.Native.Nat.{ℕ, ◌*◌, ◌<◌, ◌≤◌}
 use mathlib.Core.Path.{◌≡◌, refl, ap, sym, ◌∙◌, subst}
-use mathlib.Core.Bool.{Bool, true, false, cond, not, ◌||◌}
+use mathlib.Core.Bool.{Bool, true, false, cond, ◌||◌}
 use mathlib.Core.List.{List, []}
 use native.Mathlib.Omega.{arith}
 use native.Mathlib.Decide.{dec_lt, ℕ_discrete}
@@ -15,7 +15,6 @@ use lib.ListN.{length, get_or, replicate}
 use borrow.Author.Tests.{lt-ltb, le-ltb, eq-eqb, ne_eqb}
 use Rattle.base.proofs.BoolLaws.{T→false, false→T, not-or→both}
 use Rattle.base.proofs.ListLaws.{get_d_any}
-use Rattle.base.proofs.IndexLaws.{tabulate-same}
 use Rattle.clock.specs.declared.Cycle.{Cycle}
 use Rattle.clock.specs.declared.Bound.TheVariants.{At}
 use Rattle.model.specs.declared.Model.{Model}
@@ -37,13 +36,13 @@ use Rattle.early.specs.declared.Site.{Site}
 use Rattle.early.specs.declared.Call.{Call}
 use Rattle.early.specs.declared.Call.TheVariants.{Both, Grant, Finish}
 use Rattle.early.specs.declared.After.{After}
-use Rattle.early.specs.Log.{places, log_of, places_with, counted_log}
+use Rattle.early.specs.Log.{places, log_of, counted_log}
 use Rattle.early.specs.Deliver.{settled, settled_items}
 use Rattle.early.specs.Hazard.{threads_conflict, hazard}
 use Rattle.early.specs.Grant.{log_by, closed_by, effect_at, log_after, closed_threads}
 use Rattle.early.specs.Request.{number_in, granted_by, granted_to, refused_with, answered_by, request_fit, request_of, Answers}
-use Rattle.early.specs.Call.{held_count, held_at, is_unfit_held, called_with, stored_over, effect_held, finished_from, finish_number, Called, call_fit, call_of, call_by_rows}
-use Rattle.early.specs.Fit.{is_unfit, is_unfit_state}
+use Rattle.early.specs.Call.{held_count, held_at, is_unfit_held, stored_over, effect_held, finished_from, finish_number, Called, call_fit}
+use Rattle.early.specs.Fit.{is_unfit}
 use Rattle.early_ports.specs.Names.{names_for}
 use Rattle.early_ports.specs.Cross.{ports_in, segment_with, conflicts_on}
 use Rattle.early_ports.proofs.MapLaws.{segment_with-runs, segment_with-listed}
@@ -59,7 +58,7 @@ use Rattle.early_limits.proofs.AheadLaws.{hazard-limit}
 use Rattle.early_limits.proofs.DeliverLaws.{granted-fit}
 use Rattle.early_deliver.proofs.SettledLaws.{ahead_of-is, settled_by-is}
 use Rattle.early_answer.specs.After.{after_of}
-use Rattle.early_answer.specs.Answered.{thread_of, is_grant, is_finish, hazard_on, number_on, call_number_on, effect_from, grant_on, stored_in, effect_on, run_on, emptied_by, done_on, called_on, EnoughHeld, HasRoom}
+use Rattle.early_answer.specs.Answered.{thread_of, hazard_on, number_on, call_number_on, effect_from, grant_on, stored_in, effect_on, run_on, emptied_by, done_on, called_on, EnoughHeld, HasRoom}
 use Rattle.early_answer.proofs.AnsweredLaws.{held_events-taken, finish_number→running}
 
 -- what is run of a segment: its body and its closer

@@ -2,7 +2,7 @@
 use Prim.Native.Nat.{ℕ, ◌+◌, ◌<◌, ◌≤◌}
 use mathlib.Core.Path.{◌≡◌, refl, ap, ◌∙◌}
 use mathlib.Core.List.{List}
-use lib.ListN.{get_or, set, replicate}
+use lib.ListN.{set, replicate}
 use borrow.Author.Tests.{eq-eqb, ne_eqb}
 use Rattle.base.specs.Index.{tabulate}
 use Rattle.clock.specs.Cycle.{cycle_at}
@@ -11,7 +11,7 @@ use Rattle.model.specs.declared.State.TheVariants.{Ready}
 use Rattle.model.specs.declared.Start.{Start}
 use Rattle.model.specs.declared.Thread.{Thread}
 use Rattle.model.specs.declared.Threads.{Threads}
-use Rattle.model.specs.Values.{no_start, start_at}
+use Rattle.model.specs.Values.{start_at}
 use Rattle.model.specs.Record.{no_thread}
 use Rattle.model.specs.Rules.{model_fault}
 use Rattle.plain.specs.Start.{started, fresh_threads}

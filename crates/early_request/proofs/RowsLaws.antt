@@ -15,7 +15,7 @@ use Rattle.early.specs.declared.Call.TheVariants.{Both}
 use Rattle.early.specs.Fit.{is_unfit_state}
 use Rattle.early.specs.Request.{request_fit, refused_with}
 use Rattle.early.specs.ByRows.{request_by_rows}
-use Rattle.early.specs.Call.{Called, is_unfit_held, called_with, call_fit, call_by_rows}
+use Rattle.early.specs.Call.{is_unfit_held, called_with, call_fit, call_by_rows}
 use Rattle.early_request.specs.Rows.{rows_fit}
 
 module _ (m : Model) (marks : List (List Bool)) (lent : ℕ) (site : Site) (ts : List Thread) (held : List ℕ) where

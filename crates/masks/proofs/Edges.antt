@@ -1,9 +1,8 @@
 -- Bits at, below and above the first and the last: closed examples.
 -- Assumes nothing.
-use Prim.Native.Nat.{ℕ, ◌-◌, ◌^◌}
+use Prim.Native.Nat.{◌-◌, ◌^◌}
 use mathlib.Core.Path.{◌≡◌, refl}
-use mathlib.Core.Bool.{Bool, true, false}
-use mathlib.Core.List.{List, [], ◌∷◌}
+use mathlib.Core.Bool.{true, false}
 use lib.Dec.{eqb, ltb}
 use Rattle.masks.specs.Mask.{bit_at, bit_of, with_bit, mask_of}
 use Rattle.masks.proofs.Computed.{computed}

@@ -2,7 +2,7 @@
 --     bit_at-zero, -and, -or, -past, -none, -some; bit_at-bit_of, bit_at-with_bit, bit_at-with_bit-below, bit_at-mask_of
 --     bit_of-lt, with_bit-lt, mask_of-lt; for a loop mask_of-start, -more; for the functions' exits bit_at-has, with_bit-past, -below
 use Prim.Native.Nat.{ℕ, zero, suc, ◌+◌, ◌-◌, ◌*◌, ◌/◌, ◌%◌, ◌^◌, ◌≤◌, ◌<◌, min, max}
-use mathlib.Core.Path.{◌≡◌, refl, ap, ap₂, sym, ◌∙◌}
+use mathlib.Core.Path.{◌≡◌, refl, ap, sym, ◌∙◌}
 use mathlib.Core.Logic.{◌⊎◌, inl, inr}
 use mathlib.Core.Bool.{Bool, true, false, not, cond, ◌&&◌, ◌||◌, and-true, and-false, or-false}
 use native.Mathlib.Omega.{arith}

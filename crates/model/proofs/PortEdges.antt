@@ -3,7 +3,7 @@ use Prim.Native.Nat.{ℕ}
 use mathlib.Core.Path.{◌≡◌, refl}
 use mathlib.Core.Bool.{true, false}
 use mathlib.Core.List.{List, [], ◌∷◌, ◌++◌}
-use lib.ListN.{length, get_or, replicate}
+use lib.ListN.{length, replicate}
 use Rattle.base.specs.Index.{any_below}
 use Rattle.model.specs.declared.Op.{Op}
 use Rattle.model.specs.declared.Op.TheVariants.{Set, Add, Copy, AddVariable, SubVariable, Notify}
@@ -16,10 +16,10 @@ use Rattle.model.specs.declared.Start.{Start}
 use Rattle.model.specs.declared.Model.{Model}
 use Rattle.model.specs.Refusal as refusal
 use Rattle.model.specs.Port.{unused, no_ports, first_port, is_port, uses_ports, mapped, map_op, map_next, map_closer}
-use Rattle.model.specs.Values.{no_segment, no_start, no_model, segment_for, start_at, with_start, with_ports}
+use Rattle.model.specs.Values.{no_start, no_model, start_at, with_start, with_ports}
 use Rattle.model.specs.Footprint.{uses_in, writes_in, names_port, uses_by_port}
 use Rattle.model.specs.Reach.{steps_to, reaches, lacks_port, lacks_from}
-use Rattle.model.specs.Rules.{is_name, test_fault, op_fault, ports_fault, starts_fault, targets_fault, lack_fault, links_fault, model_fault}
+use Rattle.model.specs.Rules.{is_name, test_fault, op_fault, ports_fault, starts_fault, lack_fault, links_fault, model_fault}
 use Rattle.model.proofs.Computed.{computed}
 
 abbrev next : ℕ → ℕ → ℕ → Next

@@ -1,6 +1,6 @@
 -- Document 01, "Model file": the file rules over values, as the number of the first fault in file order; 0 where there is none.
 -- Faults that a declared enum cannot hold (an operation outside 1 to 6, stray bytes in a closer) are the reader's alone.
-use Rattle.std.specs.Prelude.{ℕ, Bool, true, false, cond, not, ◌&&◌, ◌||◌, ltb, leb, eqb, List, get_or}
+use Rattle.std.specs.Prelude.{ℕ, Bool, false, cond, not, ◌&&◌, ◌||◌, ltb, leb, eqb, List, get_or}
 use Rattle.base.specs.Index.{any_below, or_else, first_below}
 use Rattle.model.specs.declared.Op.{Op}
 use Rattle.model.specs.declared.Op.TheVariants.{Set, Add, Copy, AddVariable, SubVariable, Notify}

@@ -1,9 +1,7 @@
 -- Document 01, "Model file": a model as values, and how one is put together. "Segments and threads are numbered from 0 as they stand."
-use Rattle.std.specs.Prelude.{ℕ, ◌+◌, ◌-◌, List, [], ◌∷◌, get_or, set, take, replicate}
-use Rattle.model.specs.declared.Op.{Op}
+use Rattle.std.specs.Prelude.{ℕ, ◌+◌, ◌-◌, List, get_or, set, take, replicate}
 use Rattle.model.specs.declared.Op.TheVariants.{Set}
 use Rattle.model.specs.declared.Statement.{Statement}
-use Rattle.model.specs.declared.Closer.{Closer}
 use Rattle.model.specs.declared.Closer.TheVariants.{End}
 use Rattle.model.specs.declared.Segment.{Segment}
 use Rattle.model.specs.declared.Start.{Start}

@@ -23,7 +23,7 @@ use Rattle.model.specs.declared.Model.{Model}
 use Rattle.model.specs.Values.{segment_for, body_of}
 use Rattle.model.specs.Statement.{execute_op, execute, notified_by}
 use Rattle.model.specs.Effect.{next_of, closed_at, Effect, effect_in, effect_of}
-use Rattle.model.specs.Footprint.{writes_op, reads_op, writes, reads, tests_next, tests, writes_of, uses_of, writes_in, uses_in, listed_in, has}
+use Rattle.model.specs.Footprint.{writes_op, reads_op, writes, reads, tests_next, tests, writes_of, uses_of, writes_in, uses_in, listed_in}
 use Rattle.model_effect.proofs.StatementLaws.{execute-length}
 use Rattle.model_effect.proofs.EffectLaws.{next_of-untested}
 

@@ -1,10 +1,9 @@
 -- The number of places of each declared array, as owning its record tells it.
 --     variables_length, statements-length, segments-length, starts-length, threads-length, events-length
-use Rattle.std.proofs.Common.{◌≡◌, List, length, sym, ◌∙◌}
+use Rattle.std.proofs.Common.{◌≡◌, List, length}
 use mir.Val.{Val}
 use denote.Laws.{Is}
 use denote.Struct.Laws as LL
-use lib.ListN.{length-map}
 use Rattle.model.specs.declared.Variables.{Variables}
 use Rattle.model.specs.declared.Segment.{Segment}
 use Rattle.model.specs.declared.Model.{Model}

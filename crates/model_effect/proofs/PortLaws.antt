@@ -1,7 +1,7 @@
 -- Ports that are used, and a segment after mapping: place by place, what it names, what it lists as notifying, where it leads.
-use Rattle.std.proofs.Common.{◌≡◌, ℕ, zero, suc, ◌+◌, ◌-◌, ◌<◌, ◌≤◌, Bool, true, false, not, ◌&&◌, ◌||◌, T, eqb, ltb, leb, ◌⊎◌, List, [], ◌∷◌, length, get_or, take, sym, refl, ap, ◌∙◌, subst, inl, inr, arith, eqb→eq, T_not, le-ltb, lt-ltb, eq-eqb, ne_eqb, le-leb}
+use Rattle.std.proofs.Common.{◌≡◌, ℕ, zero, suc, ◌-◌, ◌<◌, ◌≤◌, Bool, true, false, not, ◌||◌, T, eqb, ◌⊎◌, List, [], ◌∷◌, length, get_or, take, sym, refl, ap, ◌∙◌, subst, inl, inr, arith, eqb→eq, T_not, le-ltb, lt-ltb, eq-eqb, ne_eqb, le-leb}
 use borrow.Author.Tests.{lt-leb}
-use Rattle.base.specs.Index.{tabulate, store_to}
+use Rattle.base.specs.Index.{store_to}
 use Rattle.base.proofs.BoolLaws.{T-case, and→both, both→and, or→either, either→or, eq→eqb}
 use Rattle.base.proofs.IndexLaws.{any_below-here, any_below-empty, tabulate-is, store_to-length, store_to-at}
 use Rattle.model.specs.declared.Op.{Op}

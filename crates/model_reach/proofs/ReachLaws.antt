@@ -5,13 +5,12 @@
 use Prim.Native.Nat.{ℕ, zero, suc, ◌≤◌, ◌<◌}
 use mathlib.Core.Path.{◌≡◌, refl, subst}
 use mathlib.Core.Logic.{◌⊎◌, inl, inr}
-use mathlib.Core.Bool.{Bool, true, false, not, ◌&&◌, ◌||◌, and-false}
+use mathlib.Core.Bool.{Bool, true, false, not, ◌&&◌, and-false}
 use native.Mathlib.Omega.{arith}
 use native.Mathlib.Decide.{ℕ_discrete}
 use lib.Dec.{T, eqb, eqb_refl, eqb→eq, T_not}
-use Rattle.base.specs.Index.{any_below}
-use Rattle.base.proofs.BoolLaws.{T-case, T→true, T→false, false→T, T-same, and→both, both→and, or→either, either→or}
-use Rattle.base.proofs.IndexLaws.{any_below-found, any_below-some, any_below-none, any_below-empty}
+use Rattle.base.proofs.BoolLaws.{T-case, T→true, T→false, false→T, and→both, both→and, or→either, either→or}
+use Rattle.base.proofs.IndexLaws.{any_below-none, any_below-empty}
 use Rattle.model.specs.declared.Model.{Model}
 use Rattle.model.specs.Values.{segment_at}
 use Rattle.model.specs.Reach.{steps_to, Reaches, here, step, reaches_below, reaches, lacks_port, lacks_from}

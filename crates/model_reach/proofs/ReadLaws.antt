@@ -1,12 +1,12 @@
 -- What the code reads of a model: the number of places of each array, as owning its record tells it, and elements as the definitions name them.
 --     statements-length, segments-length, starts-length, ports-length; segment_at-read, ports_at-read
 use Prim.Native.Nat.{ℕ, ◌<◌}
-use mathlib.Core.Path.{◌≡◌, ap, sym, ◌∙◌}
+use mathlib.Core.Path.{◌≡◌, ap}
 use mathlib.Core.List.{List}
 use mir.Val.{Val}
 use denote.Laws.{Is}
 use denote.Struct.Laws as LL
-use lib.ListN.{length, get_or, length-map}
+use lib.ListN.{length, get_or}
 use Rattle.base.proofs.ListLaws.{get_d_any}
 use Rattle.model.specs.declared.Segment.{Segment}
 use Rattle.model.specs.declared.Start.{Start}

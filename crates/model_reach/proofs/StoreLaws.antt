@@ -2,19 +2,18 @@
 -- First the functions' exits and loops; then the bits; then `lacks_to-holds` and, where no segment names a port, `no-ports-holds`.
 use Prim.Native.Nat.{ℕ, zero, suc, ◌+◌, ◌-◌, ◌≤◌, ◌<◌, ◌^◌, min}
 use mathlib.Core.Path.{◌≡◌, refl, ap, ap₂, sym, ◌∙◌}
-use mathlib.Core.Logic.{◌⊎◌, inl, inr}
+use mathlib.Core.Logic.{inr}
 use mathlib.Core.Bool.{Bool, true, false, not, cond, ◌&&◌, ◌||◌, and-true, and_comm, or_assoc, or-false, or_self, or_self_left}
 use mathlib.Core.List.{List, [], ◌∷◌, ◌++◌}
 use native.Mathlib.Omega.{arith}
 use native.Mathlib.Numerals.{add-one}
-use native.Mathlib.Nat.{zero-add}
 use native.Mathlib.Decide.{dec_lt, ℕ_discrete}
 use lib.Bits.{bit_and, bit_or, and_le_r}
 use lib.Dec.{T, ltb, eqb, eqb→eq, ltb→lt, lt→ltb}
 use lib.ListN.{length, get_or, take, replicate, length-replicate, get_or-replicate}
 use lib.Seq.{take-suc, take_all}
 use borrow.Author.Tests.{lt-ltb, le-ltb, eq-eqb, ne_eqb}
-use Rattle.base.specs.Index.{any_below, store_to}
+use Rattle.base.specs.Index.{any_below}
 use Rattle.base.proofs.BoolLaws.{T-same, T→false, true→T, false→T, and→both, both→and}
 use Rattle.base.proofs.IndexLaws.{any_below-same, any_below-empty, any_below-found, any_below-some, any_below-none, store_to-length, store_to-other, store_to-at}
 use Rattle.masks.specs.Mask.{bit_at, with_bit, mask_of}
@@ -28,7 +27,7 @@ use Rattle.model.specs.declared.Closer.TheVariants.{End, Time, Event}
 use Rattle.model.specs.declared.Segment.{Segment}
 use Rattle.model.specs.declared.Start.{Start}
 use Rattle.model.specs.declared.Model.{Model}
-use Rattle.model.specs.Port.{unused, first_port, port_of}
+use Rattle.model.specs.Port.{unused, port_of}
 use Rattle.model.specs.Values.{no_start, segment_at, start_at, ports_at, body_of}
 use Rattle.model.specs.Footprint.{writes_op, reads_op, writes, reads, tests, tests_next, writes_of, uses_of, names_port}
 use Rattle.model.specs.Reach.{goes_to, steps_to, reaches_below, reaches, lacks_port, lacks_from}

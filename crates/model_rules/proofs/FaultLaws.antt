@@ -23,7 +23,7 @@ use Rattle.model.specs.declared.Start.{Start}
 use Rattle.model.specs.declared.Model.{Model}
 use Rattle.model.specs.Port.{unused, port_of}
 use Rattle.model.specs.Values.{no_statement, no_segment, no_start, segment_at, start_at, ports_at}
-use Rattle.model.specs.Rules.{unless, op_fault, statements_fault, segment_fault, segments_fault, leaves_model, any_segment_leaves, any_start_leaves, targets_fault, ports_fault, starts_fault, lack_fault}
+use Rattle.model.specs.Rules.{unless, op_fault, statements_fault, segments_fault, leaves_model, any_segment_leaves, any_start_leaves, targets_fault, ports_fault, starts_fault, lack_fault}
 use Rattle.model.specs.Reach.{lacks_from}
 use Rattle.masks.specs.Mask.{bit_at}
 use Rattle.model_reach.specs.Lacks.{HoldsLacks}

@@ -34,7 +34,7 @@ use Rattle.model.specs.Values.{no_statement, segment_at, segment_for, start_at, 
 use Rattle.model.specs.Statement.{notified_by_op, notified_by}
 use Rattle.model.specs.Limits.{largest_time}
 use Rattle.model.specs.Effect.{next_of, closed_at}
-use Rattle.model.specs.Footprint.{writes_op, reads_op, writes, reads, tests_next, tests, writes_of, uses_of, writes_in, uses_in, has, names_port, notifies_in}
+use Rattle.model.specs.Footprint.{writes_op, reads_op, reads, tests_next, tests, writes_of, uses_of, writes_in, uses_in, has, names_port, notifies_in}
 use Rattle.model.specs.Reach.{lacks_port, lacks_from}
 use Rattle.model.specs.Rules.{unless, head_fault, choice_fault, test_fault, closer_fault, op_fault, statements_fault, segment_fault, segments_fault, counts_fault, leaves_model, any_segment_leaves, any_start_leaves, targets_fault, model_fault, is_name, ports_fault, starts_fault, lack_fault, links_fault}
 use Rattle.model_effect.proofs.FootprintLaws.{asks_at, writes-asks, reads-asks, notifies-asks}

@@ -1,37 +1,54 @@
 // A stored file is a list of parts, each a length of two bytes and its bytes.
 #![tactic(auto)]
 
-ghost use Rattle.std.specs.Prelude.{◌<◌, ◌≡◌};
+ghost use Rattle.std.specs.Prelude.{◌<◌, ◌≡◌, IfOk};
 ghost use Rattle.io.specs.Counts.{IsPrefixLen};
+
+use std::io::{Read, Result};
 
 // No part is so long: what the length is where the file has ended.
 const ENDED: usize = 65536;
 
-// The two bytes of a length, or of a count.
-pub fn read_length(fd: i32) -> usize {
-    let mut head = [0u8; 2];
-    if io::read_full(fd, &mut head) < 2 {
-        return ENDED;
+// Reads until the buffer is full or the file has ended, and answers how many bytes came to its front.
+fn read_full<R: Read>(file: &mut R, buffer: &mut [u8]) -> Result<usize>
+    ensures { IfOk result (λ n. IsPrefixLen n buffer.new) }
+{
+    let mut done = 0;
+    while done < buffer.len() {
+        let n = file.read(&mut buffer[done..])?;
+        if n == 0 {
+            return Ok(done);
+        }
+        done += n;
     }
-    buffers::wide(head[0]) + buffers::wide(head[1]) * 256
+    Ok(done)
+}
+
+// The two bytes of a length, or of a count.
+pub fn read_length<R: Read>(file: &mut R) -> Result<usize> {
+    let mut head = [0u8; 2];
+    if read_full(file, &mut head)? < 2 {
+        return Ok(ENDED);
+    }
+    Ok(buffers::wide(head[0]) + buffers::wide(head[1]) * 256)
 }
 
 // Reads n bytes to the front of the buffer, and answers how many came: none where there is no room for them.
-pub fn read_part(fd: i32, buffer: &mut [u8], n: usize) -> usize
-    ensures { IsPrefixLen result buffer.new }
+pub fn read_part<R: Read>(file: &mut R, buffer: &mut [u8], n: usize) -> Result<usize>
+    ensures { IfOk result (λ k. IsPrefixLen k buffer.new) }
 {
     if buffer.len() < n {
-        return 0;
+        return Ok(0);
     }
-    io::read_full(fd, &mut buffer[..n])
+    read_full(file, &mut buffer[..n])
 }
 
 // Reads the next part to the front of the buffer, and answers its length; 0 where there is none.
-pub fn next_part(fd: i32, buffer: &mut [u8]) -> usize
-    ensures { IsPrefixLen result buffer.new }
+pub fn next_part<R: Read>(file: &mut R, buffer: &mut [u8]) -> Result<usize>
+    ensures { IfOk result (λ n. IsPrefixLen n buffer.new) }
 {
-    let n = read_length(fd);
-    read_part(fd, buffer, n)
+    let n = read_length(file)?;
+    read_part(file, buffer, n)
 }
 
 // Whether two rows of bytes are equal.

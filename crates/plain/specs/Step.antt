@@ -1,14 +1,13 @@
 -- Document 01, "Plain run": the cycle rules, one small step at a time: look at one thread, or close the cycle.
-use Rattle.std.specs.Prelude.{ℕ, zero, suc, ◌+◌, Bool, false, cond, List, [], ◌++◌, ltb, set}
+use Rattle.std.specs.Prelude.{ℕ, zero, suc, ◌+◌, Bool, false, cond, [], ◌++◌, ltb, set}
 use Rattle.clock.specs.declared.Cycle.{Cycle}
 use Rattle.clock.specs.declared.Bound.{Bound}
 use Rattle.clock.specs.declared.Bound.TheVariants.{Never, At}
 use Rattle.clock.specs.Cycle.{is_same}
 use Rattle.model.specs.declared.Model.{Model}
-use Rattle.model.specs.declared.Thread.{Thread}
 use Rattle.model.specs.Limits.{is_up_to_horizon}
 use Rattle.model.specs.Record.{thread_at, ready_cycle}
-use Rattle.model.specs.Effect.{Effect, effect_of}
+use Rattle.model.specs.Effect.{effect_of}
 use Rattle.plain.specs.Start.{Place, start_of}
 use Rattle.plain.specs.Wake.{woken, floor_of}
 

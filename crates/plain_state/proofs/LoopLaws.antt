@@ -32,7 +32,7 @@ use Rattle.model.specs.declared.Thread.{Thread}
 use Rattle.model.specs.Values.{segment_for, start_at, body_of}
 use Rattle.model.specs.Statement.{execute, notified_by}
 use Rattle.model.specs.Limits.{largest_time, is_up_to_horizon, is_bound_up_to_horizon}
-use Rattle.model.specs.Record.{no_thread, thread_at, view_of, ready_cycle}
+use Rattle.model.specs.Record.{no_thread, thread_at, ready_cycle}
 use Rattle.model.specs.Effect.{closed_at, effect_in, effect_of}
 use Rattle.model.specs.Footprint.{listed_in, notifies_in}
 use Rattle.model.specs.Reach.{lacks_port}

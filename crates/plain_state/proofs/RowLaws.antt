@@ -7,13 +7,13 @@ use mathlib.Core.Logic.{◌⊎◌, inl, inr}
 use mathlib.Core.List.{List}
 use native.Mathlib.Omega.{arith}
 use native.Mathlib.Decide.{ℕ_discrete, dec_lt}
-use lib.ListN.{length, get_or, set}
+use lib.ListN.{get_or, set}
 use lib.Seq.{get_or-set_other}
 use Rattle.plain_words.specs.Unpack.{end_by, follow_by}
 use Rattle.plain_words.specs.Ports.{words_for}
-use Rattle.plain_words.specs.Shared.{Shared, shared, execute_by}
+use Rattle.plain_words.specs.Shared.{execute_by}
 use Rattle.plain_words.specs.Rows.{Rowed, InRows, segment_by, segments_by, IsPlain}
-use Rattle.plain_words.proofs.RowLaws.{Acts, segments_by-at, segments_by-set, acts-here, acts-follow, rows-follow}
+use Rattle.plain_words.proofs.RowLaws.{segments_by-at, segments_by-set, acts-here, acts-follow, rows-follow}
 use Rattle.plain_state.specs.Words.{close_word}
 use Rattle.plain_state.specs.Turn.{Locals, locals, waited_by, ran_by, turn_on, turns_to}
 use Rattle.plain_state.proofs.ExitLaws.{turn_on-passed, turn_on-full, turn_on-ran, ran-as}

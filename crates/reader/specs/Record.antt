@@ -1,5 +1,5 @@
 -- Document 01, "Model file": one record. "Each record is a two-byte length (whole record, head included), a two-byte kind, a body."
-use Rattle.std.specs.Prelude.{ℕ, ◌+◌, ◌-◌, ◌*◌, ◌/◌, ◌%◌, Bool, true, false, cond, not, ◌&&◌, ◌||◌, List, ◌++◌, ltb, leb, eqb, length, drop, replicate}
+use Rattle.std.specs.Prelude.{ℕ, ◌+◌, ◌-◌, ◌*◌, ◌/◌, ◌%◌, Bool, false, cond, ◌&&◌, ◌||◌, List, ◌++◌, ltb, leb, eqb, length, drop, replicate}
 use Rattle.base.specs.Index.{or_else, first_below, tabulate}
 use Rattle.model.specs.declared.Statement.{Statement}
 use Rattle.model.specs.declared.Segment.{Segment}

@@ -1,5 +1,5 @@
 -- Document 01, "Model file": a statement's 6 bytes. "Statement: operation, one byte a, four bytes b."
-use Rattle.std.specs.Prelude.{ℕ, Bool, cond, not, ◌&&◌, ◌||◌, List, leb, eqb}
+use Rattle.std.specs.Prelude.{ℕ, cond, not, ◌&&◌, ◌||◌, List, leb, eqb}
 use Rattle.base.specs.Index.{or_else}
 use Rattle.model.specs.declared.Op.{Op}
 use Rattle.model.specs.declared.Op.TheVariants.{Set, Add, Copy, AddVariable, SubVariable, Notify}

@@ -7,7 +7,9 @@ ghost use Rattle.io.specs.Counts.{IsPrefixLen};
 ghost use Rattle.buffers.specs.Write.{Writes};
 ghost use Rattle.transcript_print.specs.Text.{replay_text};
 
-use libc::{STDIN_FILENO, STDOUT_FILENO};
+use std::env::FillError;
+use std::io::{Read, Result};
+use std::rt::Env;
 
 // What the program prints of a file and calls, at the front of out; how many bytes. Only reading and writing are outside of this.
 fn answer(file: &[u8], kinds: &[u8], labels: &[u64], out: &mut [u8]) -> usize
@@ -17,20 +19,21 @@ fn answer(file: &[u8], kinds: &[u8], labels: &[u64], out: &mut [u8]) -> usize
     transcript_print::replay_text(file, kinds, labels, out)
 }
 
-// The kinds and labels of the arguments, as far as there is room; how many. A letter, 19 digits and one byte more tell any argument.
-fn read_calls(kinds: &mut [u8], labels: &mut [u64]) -> usize
+// The kinds and labels of the arguments, as far as there is room; how many. A letter, 19 digits and one byte more tell any argument: of a
+// longer one nothing is read.
+fn read_calls<R: Env>(rt: &R, kinds: &mut [u8], labels: &mut [u64]) -> usize
     requires { length labels.old ≤ length kinds.old }
     ensures prefix_len { IsPrefixLen result kinds.new }
     ensures prefix_len_2 { IsPrefixLen result labels.new }
 {
-    let count = os::arg_count();
     let mut text = [0u8; 21];
     let mut n = 0;
     while n < labels.len() {
-        if count <= n + 1 {
-            return n;
-        }
-        let k = os::arg(n + 1, &mut text);
+        let k = match rt.arg(n + 1, &mut text) {
+            Ok(k) => k,
+            Err(FillError::TooLong) => 0,
+            Err(FillError::NotPresent) => return n,
+        };
         kinds[n] = transcript_print::kind_of(&text[..k]);
         labels[n] = transcript_print::label_of(&text[..k]);
         n += 1;
@@ -39,13 +42,13 @@ fn read_calls(kinds: &mut [u8], labels: &mut [u64]) -> usize
 }
 
 // One read of all, one write of all. One call more than 1,024 tells that there are too many.
-fn main() {
-    let mut file = io::large_buffer();
-    let n = io::read_full(STDIN_FILENO, &mut file);
+fn main(rt: HostRuntime) -> Result<()> {
+    let mut file = Vec::new(rt.alloc());
+    rt.stdin().take(65536).read_to_end(&mut file)?;
     let mut kinds = [0u8; 1025];
     let mut labels = [0u64; 1025];
-    let k = read_calls(&mut kinds, &mut labels);
+    let k = read_calls(&rt, &mut kinds, &mut labels);
     let mut out = [0u8; 131072];
-    let m = answer(&file[..n], &kinds[..k], &labels[..k], &mut out);
-    io::write_all(STDOUT_FILENO, &out[..m]);
+    let m = answer(&file, &kinds[..k], &labels[..k], &mut out);
+    rt.write_all(&out[..m])
 }

@@ -1,6 +1,6 @@
 -- Document 01, "Tables": distance. "the least advance over all paths in the segment graph, 0 to itself".
 -- First what it is, by paths; then the form that computes it, which is proved to be that.
-use Rattle.std.specs.Prelude.{ℕ, zero, suc, ◌<◌, ◌≡◌, Bool, true, false, cond, List, [], ltb, eqb, get_or}
+use Rattle.std.specs.Prelude.{ℕ, zero, suc, ◌<◌, ◌≡◌, cond, List, [], ltb, eqb, get_or}
 use Rattle.base.specs.Index.{tabulate}
 use Rattle.clock.specs.declared.Wait.TheVariants as wait
 use Rattle.clock.specs.declared.Bound.{Bound}

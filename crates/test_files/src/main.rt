@@ -5,32 +5,21 @@
 mod models;
 mod runs;
 
-// The file that argument i names, opened for reading; below 0 where it is not.
-fn open_arg(i: usize) -> i32 {
-    let mut path = io::buffer();
-    let length = os::arg(i, &mut path);
-    if os::errno() != 0 {
-        os::fail(b"path");
-        return -1;
+use std::fs::File;
+use std::io::{Error, ErrorKind, Result};
+use std::{env, fs};
+
+// The file that argument i names, opened for reading; an error where it is not.
+fn open_arg(rt: &HostRuntime, i: usize) -> Result<File> {
+    match env::args(rt)?.nth(i) {
+        Some(path) => fs::open(rt, path),
+        None => Err(Error::from(ErrorKind::NotFound)),
     }
-    let fd = os::open_read(&path[..length]);
-    if fd < 0 {
-        os::fail(&path[..length]);
-    }
-    fd
 }
 
-fn main() {
-    let fd = open_arg(1);
-    if fd < 0 {
-        return;
-    }
-    models::all_files(fd);
-    libc::close(fd);
-    let fd = open_arg(2);
-    if fd < 0 {
-        return;
-    }
-    runs::all_runs(fd);
-    libc::close(fd);
+fn main(rt: HostRuntime) -> Result<()> {
+    let mut files = open_arg(&rt, 1)?;
+    models::all_files(&rt, &mut files)?;
+    let mut runs = open_arg(&rt, 2)?;
+    runs::all_runs(&rt, &mut runs)
 }

@@ -1,10 +1,7 @@
 -- `buffers::copy_in` meets its contract. The invariant: the first i bytes are copied, and the rest of the buffer is as it was.
-use Prim.Native.Nat.{◌≤◌, ◌-◌}
-use mathlib.Core.Path.{◌≡◌, refl}
-use mathlib.Core.List.{◌++◌}
+use mathlib.Core.Path.{refl}
 use native.Mathlib.Omega.{arith}
-use lib.ListN.{length, take, drop, length-set}
-use borrow.Author.Rules.{rules}
+use lib.ListN.{length-set}
 use Rattle.buffers.proofs.WriteLaws.{copied_more, writes-all, writes_short}
 use Rattle.buffers.proofs.copy_in.Goals as goal
 

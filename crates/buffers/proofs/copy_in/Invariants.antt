@@ -1,11 +1,8 @@
 -- `buffers::copy_in` meets its contract. The invariant: the first i bytes are copied, and the rest of the buffer is as it was.
 use Prim.Native.Nat.{◌≤◌, ◌-◌}
-use mathlib.Core.Path.{◌≡◌, refl}
+use mathlib.Core.Path.{◌≡◌}
 use mathlib.Core.List.{◌++◌}
-use native.Mathlib.Omega.{arith}
-use lib.ListN.{length, take, drop, length-set}
-use borrow.Author.Rules.{rules}
-use Rattle.buffers.proofs.WriteLaws.{copied_more, writes-all, writes_short}
+use lib.ListN.{length, take, drop}
 use Rattle.buffers.proofs.copy_in.Given as goal
 
 abbrev pub invariant-loop-i : goal.invariant-loop-i

@@ -1,5 +1,4 @@
 -- `buffers::put_byte` meets its contract. One byte, or none where there is no room.
-use borrow.Author.Rules.{rules}
 use Rattle.buffers.proofs.PutLaws.{puts-byte, puts-full}
 use Rattle.buffers.proofs.put_byte.Goals as goal
 

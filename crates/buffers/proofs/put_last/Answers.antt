@@ -1,6 +1,5 @@
 -- `buffers::put_last` meets its contract. The number, then the line feed.
 use native.Mathlib.Omega.{arith}
-use borrow.Author.Rules.{rules}
 use Rattle.buffers.specs.Line.{rest_of}
 use Rattle.buffers.proofs.PutLaws.{puts_then}
 use Rattle.buffers.proofs.put_last.Goals as goal

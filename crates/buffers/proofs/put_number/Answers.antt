@@ -1,6 +1,5 @@
 -- `buffers::put_number` meets its contract. A space, then the digits: at most 20, since n is below 10 ^ 20.
 use native.Mathlib.Omega.{arith}
-use borrow.Author.Rules.{rules}
 use Rattle.buffers.proofs.PutLaws.{puts_then}
 use Rattle.buffers.proofs.DigitsLaws.{digits_of-length}
 use Rattle.buffers.proofs.put_number.Goals as goal

@@ -1,10 +1,7 @@
 -- `buffers::put_word` meets its contract. The invariant: the first i bytes of the word are put.
 use Prim.Native.Nat.{◌≤◌, ◌-◌}
-use native.Mathlib.Omega.{arith}
 use lib.ListN.{length, take}
-use borrow.Author.Rules.{rules}
 use Rattle.buffers.specs.Put.{Puts}
-use Rattle.buffers.proofs.PutLaws.{puts_none, puts-more, puts-all}
 use Rattle.buffers.proofs.put_word.Given as goal
 
 abbrev pub invariant-loop-i : goal.invariant-loop-i

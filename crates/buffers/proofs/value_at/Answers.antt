@@ -1,7 +1,6 @@
 -- `buffers::value_at` meets its contract: 0 past the end.
 use mathlib.Core.Path.{sym}
 use lib.ListN.{get_or-eq_default}
-use borrow.Author.Rules.{rules}
 use Rattle.buffers.proofs.value_at.Goals as goal
 
 pub returns : goal.returns

@@ -1,5 +1,4 @@
 -- `clock::after_units` meets its contract: so many units on, at delta 0.
-use Rattle.std.proofs.Common.{rules}
 use Rattle.clock.proofs.WaitLaws.{over-units}
 use Rattle.clock.proofs.after_units.Goals as goal
 

@@ -1,5 +1,5 @@
 -- `clock::least_of` meets its contract: b where it is before a, else a.
-use Rattle.std.proofs.Common.{sym, ◌∙◌, rules}
+use Rattle.std.proofs.Common.{sym, ◌∙◌}
 use Rattle.clock.proofs.LeastLaws.{least-before, least_other}
 use Rattle.clock.proofs.least_of.Goals as goal
 

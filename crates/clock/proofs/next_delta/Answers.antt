@@ -1,5 +1,5 @@
 -- `clock::next_delta` meets its contract: ready below the last delta, else overrun.
-use Rattle.std.proofs.Common.{arith, rules}
+use Rattle.std.proofs.Common.{arith}
 use Rattle.clock.proofs.WaitLaws.{event-ready, event-overrun}
 use Rattle.clock.proofs.next_delta.Goals as goal
 

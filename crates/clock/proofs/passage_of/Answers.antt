@@ -1,5 +1,5 @@
 -- `clock::passage_of` meets its contract: a notification for an event, else by the units.
-use Rattle.std.proofs.Common.{sym, rules}
+use Rattle.std.proofs.Common.{sym}
 use Rattle.clock.proofs.PassageLaws.{passage-event}
 use Rattle.clock.proofs.passage_of.Goals as goal
 

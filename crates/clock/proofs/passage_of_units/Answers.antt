@@ -1,5 +1,5 @@
 -- `clock::passage_of_units` meets its contract: a zero wait for no units, else a timed wait.
-use Rattle.std.proofs.Common.{sym, arith, rules}
+use Rattle.std.proofs.Common.{sym, arith}
 use Rattle.clock.proofs.PassageLaws.{passage-none, passage-units}
 use Rattle.clock.proofs.passage_of_units.Goals as goal
 

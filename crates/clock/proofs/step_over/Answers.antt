@@ -1,5 +1,5 @@
 -- `clock::step_over` meets its contract, by the case of the passage.
-use Rattle.std.proofs.Common.{◌∙◌, arith, rules}
+use Rattle.std.proofs.Common.{◌∙◌, arith}
 use Rattle.clock.proofs.WaitLaws.{over-notification, over_zero}
 use Rattle.clock.proofs.step_over.Goals as goal
 

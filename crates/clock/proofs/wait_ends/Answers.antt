@@ -1,5 +1,5 @@
 -- `clock::wait_ends` meets its contract: the step over the wait's passage.
-use Rattle.std.proofs.Common.{◌∙◌, rules}
+use Rattle.std.proofs.Common.{◌∙◌}
 use Rattle.clock.proofs.WaitLaws.{wait-over}
 use Rattle.clock.proofs.wait_ends.Goals as goal
 

@@ -1,7 +1,6 @@
 -- `masks::has` meets its contract: a word has 64 bits.
 use mathlib.Core.Path.{sym}
 use native.Mathlib.Omega.{arith}
-use borrow.Author.Rules.{rules}
 use Rattle.masks.proofs.MaskLaws.{bit_at-past, bit_at-has}
 use Rattle.masks.proofs.has.Goals as goal
 

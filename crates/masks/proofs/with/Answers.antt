@@ -1,6 +1,5 @@
 -- `masks::with` meets its contract: none from 64 on.
 use native.Mathlib.Omega.{arith}
-use borrow.Author.Rules.{rules}
 use Rattle.masks.proofs.MaskLaws.{with_bit-past, with_bit-below}
 use Rattle.masks.proofs.with.Goals as goal
 

@@ -1,6 +1,4 @@
 -- `masks::with_if` meets its contract, case by case.
-use mathlib.Core.Path.{refl, ◌∙◌}
-use borrow.Author.Rules.{rules}
 use Rattle.masks.proofs.with_if.Goals as goal
 
 pub returns-then-on : goal.returns-then-on

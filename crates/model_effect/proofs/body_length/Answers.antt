@@ -1,5 +1,5 @@
 -- `model_effect::body_length` meets its contract.
-use Rattle.std.proofs.Common.{arith, rules}
+use Rattle.std.proofs.Common.{arith}
 use Rattle.model_effect.proofs.LengthLaws.{statements-length}
 use Rattle.model_effect.proofs.StatementLaws.{body_of-length}
 use Rattle.model_effect.proofs.body_length.Goals as goal

@@ -1,5 +1,4 @@
 -- `model_effect::effect_in` meets its contract: the statements, the events, then the closer on the variables after them.
-use Rattle.std.proofs.Common.{rules}
 use Rattle.model_effect.proofs.EffectLaws.{effect-held}
 use Rattle.model_effect.proofs.effect_in.Goals as goal
 

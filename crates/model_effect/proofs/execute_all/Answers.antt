@@ -1,6 +1,5 @@
 -- `model_effect::execute_all` meets its contract. The invariant: the first j statements are done.
-use Rattle.std.proofs.Common.{◌≡◌, ◌-◌, ◌≤◌, length, take, add-one, arith, take_all, rules}
-use Rattle.model.specs.Statement.{execute}
+use Rattle.std.proofs.Common.{add-one, arith, take_all}
 use Rattle.model.specs.Values.{no_statement, body_of}
 use Rattle.model_effect.proofs.StatementLaws.{execute-none, execute-more}
 use Rattle.model_effect.proofs.execute_all.Goals as goal

@@ -1,8 +1,7 @@
 -- `model_effect::execute_all` meets its contract. The invariant: the first j statements are done.
-use Rattle.std.proofs.Common.{◌≡◌, ◌-◌, ◌≤◌, length, take, add-one, arith, take_all, rules}
+use Rattle.std.proofs.Common.{◌≡◌, ◌-◌, ◌≤◌, take}
 use Rattle.model.specs.Statement.{execute}
-use Rattle.model.specs.Values.{no_statement, body_of}
-use Rattle.model_effect.proofs.StatementLaws.{execute-none, execute-more}
+use Rattle.model.specs.Values.{body_of}
 use Rattle.model_effect.proofs.execute_all.Given as goal
 
 abbrev pub invariant-loop-j : goal.invariant-loop-j

@@ -1,6 +1,5 @@
 -- `model_effect::listed` meets its contract. The invariant: what the first j statements notify stands at the front.
-use Rattle.std.proofs.Common.{◌≡◌, ◌-◌, ◌<◌, ◌≤◌, length, take, ap, ◌∙◌, add-one, arith, take_all, rules}
-use Rattle.model.specs.Effect.{held_events}
+use Rattle.std.proofs.Common.{◌<◌, length, take, ap, ◌∙◌, add-one, arith, take_all}
 use Rattle.model.specs.Statement.{notified_by}
 use Rattle.model.specs.Values.{no_statement, body_of}
 use Rattle.model.specs.declared.Events.{Events}

@@ -1,5 +1,4 @@
 -- `model_effect::mapped_closer` meets its contract, by the kind of closer.
-use Rattle.std.proofs.Common.{rules}
 use Rattle.model_effect.proofs.mapped_closer.Goals as goal
 
 pub returns-in-End : goal.returns-in-End

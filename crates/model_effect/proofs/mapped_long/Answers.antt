@@ -1,5 +1,5 @@
 -- `model_effect::mapped_long` meets its contract: itself below the ports and above them, else its port.
-use Rattle.std.proofs.Common.{sym, arith, rules}
+use Rattle.std.proofs.Common.{sym, arith}
 use Rattle.model_effect.proofs.PortLaws.{mapped-below, mapped-above, mapped-port}
 use Rattle.model_effect.proofs.mapped_long.Goals as goal
 

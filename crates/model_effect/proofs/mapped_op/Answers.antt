@@ -1,5 +1,4 @@
 -- `model_effect::mapped_op` meets its contract, operation by operation.
-use Rattle.std.proofs.Common.{rules}
 use Rattle.model_effect.proofs.mapped_op.Goals as goal
 
 pub returns-in-Set : goal.returns-in-Set

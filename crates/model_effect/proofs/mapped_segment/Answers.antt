@@ -1,6 +1,5 @@
 -- `model_effect::mapped_segment` meets its contract. The invariant: the first j statements are mapped.
-use Rattle.std.proofs.Common.{◌≡◌, ◌-◌, ◌≤◌, ap, arith, rules}
-use Rattle.base.specs.Index.{store_to}
+use Rattle.std.proofs.Common.{ap, arith}
 use Rattle.base.proofs.IndexLaws.{store_to-none, store_to-more}
 use Rattle.model.specs.declared.Op.{Op}
 use Rattle.model_effect.proofs.LengthLaws.{statements-length}

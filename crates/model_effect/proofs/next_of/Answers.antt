@@ -1,5 +1,5 @@
 -- `model_effect::next_of` meets its contract: no test, below the limit, not below it.
-use Rattle.std.proofs.Common.{arith, rules}
+use Rattle.std.proofs.Common.{arith}
 use Rattle.model_effect.proofs.EffectLaws.{next_of-untested, next_of-below, next_of-above}
 use Rattle.model_effect.proofs.next_of.Goals as goal
 

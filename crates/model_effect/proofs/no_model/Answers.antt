@@ -1,5 +1,4 @@
 -- `model_effect::no_model` meets its contract.
-use Rattle.std.proofs.Common.{rules}
 use Rattle.model_effect.proofs.no_model.Goals as goal
 
 pub returns : goal.returns

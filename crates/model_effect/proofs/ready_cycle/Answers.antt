@@ -1,5 +1,5 @@
 -- `model_effect::ready_cycle` meets its contract. State by state.
-use Rattle.std.proofs.Common.{refl, rules}
+use Rattle.std.proofs.Common.{refl}
 use Rattle.model_effect.proofs.ready_cycle.Goals as goal
 
 pub returns-in-Ready : goal.returns-in-Ready

@@ -1,5 +1,5 @@
 -- `model_effect::subtracted` meets its contract.
-use Rattle.std.proofs.Common.{◌≡◌, ◌+◌, ◌-◌, ◌%◌, ◌^◌, arith, rules}
+use Rattle.std.proofs.Common.{◌≡◌, ◌+◌, ◌-◌, ◌%◌, ◌^◌, arith}
 use Rattle.model_effect.proofs.subtracted.Goals as goal
 
 pub returns : goal.returns

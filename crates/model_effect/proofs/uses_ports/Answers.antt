@@ -1,6 +1,6 @@
 -- `model_effect::uses_ports` meets its contract. The invariant: the ports before p are unused.
-use Rattle.std.proofs.Common.{◌≡◌, ℕ, ◌-◌, ◌<◌, ◌≤◌, false, arith, rules, below_none, below_more}
-use Rattle.model_effect.proofs.PortLaws.{port_used, port_used-some, port_used-none, uses_ports-here, uses_ports-end}
+use Rattle.std.proofs.Common.{arith, below_none, below_more}
+use Rattle.model_effect.proofs.PortLaws.{port_used-some, port_used-none, uses_ports-here, uses_ports-end}
 use Rattle.model_effect.proofs.uses_ports.Goals as goal
 
 pub loop-p-init : goal.loop-p-init

@@ -1,5 +1,5 @@
 -- `model_effect::value` meets its contract: 0 past the 64 places.
-use Rattle.std.proofs.Common.{sym, arith, rules}
+use Rattle.std.proofs.Common.{sym, arith}
 use lib.ListN.{get_or-eq_default}
 use Rattle.model_effect.proofs.LengthLaws.{variables_length}
 use Rattle.model_effect.proofs.value.Goals as goal

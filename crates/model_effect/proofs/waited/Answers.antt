@@ -1,5 +1,5 @@
 -- `model_effect::waited` meets its contract.
-use Rattle.std.proofs.Common.{refl, rules}
+use Rattle.std.proofs.Common.{refl}
 use Rattle.model_effect.proofs.waited.Goals as goal
 
 pub returns-in-Ready : goal.returns-in-Ready

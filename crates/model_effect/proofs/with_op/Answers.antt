@@ -1,5 +1,5 @@
 -- `model_effect::with_op` meets its contract: one event more, or none.
-use Rattle.std.proofs.Common.{refl, rules}
+use Rattle.std.proofs.Common.{refl}
 use Rattle.model_effect.proofs.VariantLaws.{with_op-other}
 use Rattle.model_effect.proofs.with_op.Goals as goal
 

@@ -1,5 +1,5 @@
 -- `model_effect::with_value` meets its contract: past the 64 places nothing is set.
-use Rattle.std.proofs.Common.{sym, arith, rules}
+use Rattle.std.proofs.Common.{sym, arith}
 use lib.Seq.{set_out}
 use Rattle.model_effect.proofs.LengthLaws.{variables_length}
 use Rattle.model_effect.proofs.with_value.Goals as goal

@@ -1,10 +1,7 @@
 -- `model_reach::all_rounds` meets its contract: a round for each segment.
-use Prim.Native.Nat.{◌≤◌, ◌-◌}
 use mathlib.Core.Path.{◌≡◌, refl, ap, ◌∙◌}
 use native.Mathlib.Omega.{arith}
 use lib.ListN.{length}
-use borrow.Author.Rules.{rules}
-use Rattle.model_reach.specs.Store.{rounds_to}
 use Rattle.model_reach.proofs.StoreLaws.{rounds_to-length, rounds_to-none, rounds_to-more}
 use Rattle.model_reach.proofs.all_rounds.Goals as goal
 

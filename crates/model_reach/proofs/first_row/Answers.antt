@@ -1,7 +1,6 @@
 -- `model_reach::first_row` meets its contract, closer by closer.
 use mathlib.Core.Path.{refl}
 use mathlib.Core.Logic.{⊎_elim}
-use borrow.Author.Rules.{rules}
 use Rattle.model_reach.specs.Store.{first_row}
 use Rattle.model_reach.proofs.first_row.Goals as goal
 

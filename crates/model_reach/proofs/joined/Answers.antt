@@ -1,6 +1,5 @@
 -- `model_reach::joined` meets its contract, case by case.
 use mathlib.Core.Path.{sym, ◌∙◌}
-use borrow.Author.Rules.{rules}
 use Rattle.model_reach.proofs.StoreLaws.{joined-over, joined-left}
 use Rattle.model_reach.proofs.joined.Goals as goal
 

@@ -1,6 +1,5 @@
 -- `model_reach::lack` meets its contract: the segments that lack a port, then those that reach one of them.
 use mathlib.Core.Path.{refl, ◌∙◌}
-use borrow.Author.Rules.{rules}
 use Rattle.model_reach.specs.Store.{lack_of}
 use Rattle.model_reach.proofs.lack.Goals as goal
 

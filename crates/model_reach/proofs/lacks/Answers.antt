@@ -1,12 +1,8 @@
 -- `model_reach::lacks` meets its contract. The invariant: the first s segments have their names and their first rows.
-use Prim.Native.Nat.{◌≤◌, ◌-◌}
 use mathlib.Core.Path.{◌≡◌, refl, ap, ◌∙◌}
 use native.Mathlib.Omega.{arith}
-use lib.ListN.{replicate}
-use borrow.Author.Rules.{rules}
 use Rattle.base.proofs.IndexLaws.{store_to-none, store_to-more}
 use Rattle.model.specs.declared.Segment.{Segment}
-use Rattle.model.specs.Values.{segment_at}
 use Rattle.model_reach.specs.Store.{ports_of, ports_to, first_row, first_rows}
 use Rattle.model_reach.proofs.ReadLaws.{segments-length, segment_at-read}
 use Rattle.model_reach.proofs.StoreLaws.{lacks_by-holds}

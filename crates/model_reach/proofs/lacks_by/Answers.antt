@@ -2,7 +2,6 @@
 use Prim.Native.Nat.{ℕ}
 use mathlib.Core.Path.{sym, ap, ◌∙◌}
 use mathlib.Core.List.{List}
-use borrow.Author.Rules.{rules}
 use Rattle.model_reach.specs.Store.{lacks_to}
 use Rattle.model_reach.proofs.StoreLaws.{lacks_by-none, lacks_by-some}
 use Rattle.model_reach.proofs.lacks_by.Goals as goal

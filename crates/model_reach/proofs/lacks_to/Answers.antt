@@ -1,9 +1,7 @@
 -- `model_reach::lacks_to` meets its contract: a word for each thread.
-use Prim.Native.Nat.{◌≤◌, ◌-◌}
 use mathlib.Core.Path.{◌≡◌, ap, ◌∙◌}
 use native.Mathlib.Omega.{arith}
 use lib.ListN.{length}
-use borrow.Author.Rules.{rules}
 use Rattle.base.proofs.IndexLaws.{store_to-none, store_to-more}
 use Rattle.base.proofs.ListLaws.{get_d_any}
 use Rattle.model.specs.declared.Start.{Start}

@@ -1,9 +1,6 @@
 -- `model_reach::meeting` meets its contract: a bit for each word.
-use Prim.Native.Nat.{◌≤◌, ◌-◌}
 use mathlib.Core.Path.{◌≡◌, refl}
 use native.Mathlib.Omega.{arith}
-use borrow.Author.Rules.{rules}
-use Rattle.masks.specs.Mask.{mask_of}
 use Rattle.masks.proofs.MaskLaws.{mask_of-start, mask_of-more}
 use Rattle.model_reach.specs.Store.{meets}
 use Rattle.model_reach.proofs.meeting.Goals as goal

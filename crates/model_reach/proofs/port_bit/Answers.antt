@@ -1,6 +1,5 @@
 -- `model_reach::port_bit` meets its contract: a number below 128 is no port.
 use native.Mathlib.Omega.{arith}
-use borrow.Author.Rules.{rules}
 use Rattle.model_reach.proofs.StoreLaws.{port_bit-none, port_bit-some}
 use Rattle.model_reach.proofs.port_bit.Goals as goal
 

@@ -1,10 +1,5 @@
 -- `model_reach::ports_of` meets its contract: the statements, one after the other, and the test variable.
-use Prim.Native.Nat.{◌≤◌, ◌-◌, min}
-use mathlib.Core.Path.{◌≡◌}
 use native.Mathlib.Omega.{arith}
-use lib.ListN.{take}
-use borrow.Author.Rules.{rules}
-use Rattle.model_reach.specs.Store.{ports_in}
 use Rattle.model_reach.proofs.ReadLaws.{statements-length}
 use Rattle.model_reach.proofs.StoreLaws.{ports_in-none, ports_in-more, ports_of-made}
 use Rattle.model_reach.proofs.ports_of.Goals as goal

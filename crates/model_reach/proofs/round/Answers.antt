@@ -1,9 +1,7 @@
 -- `model_reach::round` meets its contract: each row is joined where it has k.
-use Prim.Native.Nat.{◌≤◌, ◌-◌}
 use mathlib.Core.Path.{◌≡◌, refl, ap, ◌∙◌}
 use native.Mathlib.Omega.{arith}
 use lib.ListN.{length, get_or}
-use borrow.Author.Rules.{rules}
 use Rattle.base.proofs.IndexLaws.{store_to-none, store_to-more, store_to-length}
 use Rattle.model_reach.specs.Store.{joined, round_to}
 use Rattle.model_reach.proofs.round.Goals as goal

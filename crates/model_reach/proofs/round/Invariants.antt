@@ -1,11 +1,8 @@
 -- `model_reach::round` meets its contract: each row is joined where it has k.
 use Prim.Native.Nat.{◌≤◌, ◌-◌}
-use mathlib.Core.Path.{◌≡◌, refl, ap, ◌∙◌}
-use native.Mathlib.Omega.{arith}
+use mathlib.Core.Path.{◌≡◌}
 use lib.ListN.{length, get_or}
-use borrow.Author.Rules.{rules}
-use Rattle.base.proofs.IndexLaws.{store_to-none, store_to-more, store_to-length}
-use Rattle.model_reach.specs.Store.{joined, round_to}
+use Rattle.model_reach.specs.Store.{round_to}
 use Rattle.model_reach.proofs.round.Given as goal
 
 abbrev pub invariant-loop-r : goal.invariant-loop-r

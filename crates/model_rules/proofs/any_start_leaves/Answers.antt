@@ -1,17 +1,15 @@
 -- `model_rules::any_start_leaves` meets its contract. The invariant: none of the first k threads starts outside the model.
-use Prim.Native.Nat.{ℕ, ◌≤◌, ◌<◌, ◌-◌}
+use Prim.Native.Nat.{ℕ, ◌≤◌, ◌<◌}
 use mathlib.Core.Bool.{true, false}
 use mathlib.Core.List.{List}
 use mathlib.Core.Path.{◌≡◌, ap, ◌∙◌}
 use native.Mathlib.Omega.{arith}
 use lib.ListN.{length, get_or}
 use borrow.Author.Count.{below_none, below_more}
-use borrow.Author.Rules.{rules}
 use Rattle.model.specs.declared.Model.{Model}
 use Rattle.model.specs.declared.Start.{Start}
 use Rattle.model_rules.proofs.FaultLaws.{start_leaves, start_leaves-above, start_leaves-below, any_start_leaves-here, any_start_leaves-end, both_below, not-both-below}
 use Rattle.model_rules.proofs.any_start_leaves.Goals.{In-loop-k}
-use Rattle.model_rules.proofs.any_start_leaves.Invariants.{Held}
 use Rattle.model_rules.proofs.any_start_leaves.Goals as goal
 
 -- a turn: a thread, and a place

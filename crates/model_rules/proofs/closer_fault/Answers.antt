@@ -1,5 +1,4 @@
 -- `model_rules::closer_fault` meets its contract, closer by closer.
-use mathlib.Core.Path.{refl}
 use borrow.Author.Rules.{rules}
 use Rattle.base.specs.Index.{or_else}
 use Rattle.model.specs.Rules.{closer_fault}

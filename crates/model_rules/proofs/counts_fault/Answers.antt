@@ -1,8 +1,6 @@
 -- `model_rules::counts_fault` meets its contract.
-use mathlib.Core.Path.{◌∙◌}
 use native.Mathlib.Omega.{arith}
 use lib.Dec.{leb}
-use borrow.Author.Rules.{rules}
 use Rattle.model.specs.Rules.{counts_fault}
 use Rattle.model_rules.proofs.FaultLaws.{unless-both-then}
 use Rattle.model_rules.proofs.counts_fault.Goals as goal

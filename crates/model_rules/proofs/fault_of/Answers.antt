@@ -1,6 +1,5 @@
 -- `model_rules::fault_of` meets its contract: its targets, its own faults.
 use mathlib.Core.Path.{refl}
-use borrow.Author.Rules.{rules}
 use Rattle.model_rules.specs.Asked.{fault_of}
 use Rattle.model_rules.proofs.fault_of.Goals as goal
 

@@ -1,14 +1,8 @@
 -- `model_rules::first_fault` meets its contract. The invariant: the first i segments have no fault.
 use Prim.Native.Nat.{◌≤◌, ◌-◌}
-use mathlib.Core.Path.{◌≡◌, sym, ◌∙◌}
-use native.Mathlib.Numerals.{add-one}
-use native.Mathlib.Omega.{arith}
-use borrow.Author.Rules.{rules}
+use mathlib.Core.Path.{◌≡◌}
 use Rattle.base.specs.Index.{first_below}
-use Rattle.base.proofs.IndexLaws.{first_below-none, first_below-more, first_below-here}
-use Rattle.model_effect.proofs.LengthLaws.{segments-length}
 use Rattle.model_rules.specs.Asked.{places_used, fault_at}
-use Rattle.model_rules.proofs.FaultLaws.{fault_at-read, first_rest}
 use Rattle.model_rules.proofs.first_fault.Given as goal
 
 abbrev pub invariant-loop-i : goal.invariant-loop-i

@@ -1,5 +1,4 @@
 -- `model_rules::head_fault` meets its contract.
-use borrow.Author.Rules.{rules}
 use Rattle.model.specs.Rules.{head_fault}
 use Rattle.model_rules.proofs.head_fault.Goals as goal
 

@@ -1,6 +1,5 @@
 -- `model_rules::lack_fault` meets its contract.
 use mathlib.Core.Path.{refl}
-use borrow.Author.Rules.{rules}
 use Rattle.model_rules.proofs.lack_fault.Goals as goal
 
 pub returns : goal.returns

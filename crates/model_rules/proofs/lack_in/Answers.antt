@@ -1,19 +1,17 @@
 -- `model_rules::lack_in` meets its contract. The invariant: none of the first k threads lacks a port.
-use Prim.Native.Nat.{ℕ, ◌≤◌, ◌<◌, ◌-◌}
-use mathlib.Core.Bool.{Bool, false}
+use Prim.Native.Nat.{ℕ, ◌<◌}
+use mathlib.Core.Bool.{Bool}
 use mathlib.Core.List.{List}
-use mathlib.Core.Path.{◌≡◌, refl, sym, ap, ◌∙◌}
+use mathlib.Core.Path.{◌≡◌, sym, ap, ◌∙◌}
 use native.Mathlib.Omega.{arith}
 use lib.ListN.{length, get_or}
 use Rattle.masks.specs.Mask.{bit_at}
 use borrow.Author.Count.{below_none, below_more}
-use borrow.Author.Rules.{rules}
 use Rattle.model.specs.declared.Model.{Model}
 use Rattle.model.specs.declared.Start.{Start}
 use Rattle.model_rules.specs.Asked.{Linked}
 use Rattle.model_rules.proofs.FaultLaws.{start_lacks, start_lacks-read, lack_fault-here, lack_fault-end, both_below, not-both-below}
 use Rattle.model_rules.proofs.lack_in.Goals.{In-loop-k}
-use Rattle.model_rules.proofs.lack_in.Invariants.{Held}
 use Rattle.model_rules.proofs.lack_in.Goals as goal
 
 -- a turn: a thread, and a place

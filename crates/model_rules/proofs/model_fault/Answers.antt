@@ -1,6 +1,5 @@
 -- `model_rules::model_fault` meets its contract: all but 18, then 18.
 use mathlib.Core.Path.{refl, sym, ◌∙◌}
-use borrow.Author.Rules.{rules}
 use Rattle.model_rules.proofs.FaultLaws.{fault-here, fault-later}
 use Rattle.model_rules.proofs.RuleLaws.{model_fault-parts, parts-linked}
 use Rattle.model_rules.proofs.model_fault.Goals as goal

@@ -1,7 +1,5 @@
 -- `model_rules::next_fault` meets its contract: all of 5, then all of 7.
-use mathlib.Core.Path.{refl}
 use native.Mathlib.Omega.{arith}
-use borrow.Author.Rules.{rules}
 use Rattle.model.specs.Rules.{choice_fault, test_fault}
 use Rattle.model_rules.proofs.FaultLaws.{unless-both, unless-both-then}
 use Rattle.model_rules.proofs.next_fault.Goals as goal

@@ -1,7 +1,6 @@
 -- `model_rules::op_fault` meets its contract, operation by operation.
 use mathlib.Core.Path.{refl, ◌∙◌}
 use mathlib.Core.Logic.{⊎_elim}
-use borrow.Author.Rules.{rules}
 use Rattle.model.specs.Rules.{op_fault}
 use Rattle.model_rules.proofs.op_fault.Goals as goal
 

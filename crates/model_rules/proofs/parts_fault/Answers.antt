@@ -1,6 +1,5 @@
 -- `model_rules::parts_fault` meets its contract: the head, the segments, the counts, the targets.
 use mathlib.Core.Path.{refl, sym, ◌∙◌}
-use borrow.Author.Rules.{rules}
 use Rattle.model_rules.specs.Asked.{parts_fault}
 use Rattle.model_rules.proofs.FaultLaws.{fault-here, fault-later, segments_fault-asked, targets_fault-asked}
 use Rattle.model_rules.proofs.parts_fault.Goals as goal

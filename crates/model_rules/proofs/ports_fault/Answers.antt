@@ -1,11 +1,7 @@
 -- `model_rules::ports_fault` meets its contract. The invariant: the ports before p keep the rule.
-use Prim.Native.Nat.{ℕ, ◌≤◌, ◌<◌, ◌-◌}
-use mathlib.Core.Path.{◌≡◌}
-use mathlib.Core.Bool.{false}
 use native.Mathlib.Omega.{arith}
 use borrow.Author.Count.{below_none, below_more}
-use borrow.Author.Rules.{rules}
-use Rattle.model_rules.proofs.FaultLaws.{port_wrong, port_wrong-is, ports_fault-here, ports_fault-none}
+use Rattle.model_rules.proofs.FaultLaws.{port_wrong-is, ports_fault-here, ports_fault-none}
 use mathlib.Core.Path.{ap}
 use mathlib.Core.Bool.{not}
 use Rattle.model_rules.proofs.ports_fault.Goals as goal

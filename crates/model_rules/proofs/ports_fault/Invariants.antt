@@ -2,10 +2,7 @@
 use Prim.Native.Nat.{ℕ, ◌≤◌, ◌<◌, ◌-◌}
 use mathlib.Core.Path.{◌≡◌}
 use mathlib.Core.Bool.{false}
-use native.Mathlib.Omega.{arith}
-use borrow.Author.Count.{below_none, below_more}
-use borrow.Author.Rules.{rules}
-use Rattle.model_rules.proofs.FaultLaws.{port_wrong, port_wrong-is, ports_fault-here, ports_fault-none}
+use Rattle.model_rules.proofs.FaultLaws.{port_wrong}
 use Rattle.model_rules.proofs.ports_fault.Given as goal
 
 abbrev pub invariant-loop-p : goal.invariant-loop-p

@@ -1,7 +1,6 @@
 -- `model_rules::segment_fault` meets its contract: the number of statements, the closer, the statements.
 use mathlib.Core.Path.{sym, ◌∙◌}
 use native.Mathlib.Omega.{arith}
-use borrow.Author.Rules.{rules}
 use borrow.Author.Tests.{le-leb, lt-leb}
 use Rattle.model.specs.Rules.{segment_fault}
 use Rattle.model_rules.proofs.FaultLaws.{unless-kept, unless-broken, fault-here, fault-later}

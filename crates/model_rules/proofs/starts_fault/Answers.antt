@@ -1,19 +1,16 @@
 -- `model_rules::starts_fault` meets its contract. The invariant: none of the first k threads has a fault.
-use Prim.Native.Nat.{ℕ, ◌≤◌, ◌<◌, ◌-◌}
+use Prim.Native.Nat.{ℕ, ◌<◌}
 use mathlib.Core.List.{List}
 use mathlib.Core.Path.{◌≡◌, sym, ap, ◌∙◌}
 use native.Mathlib.Omega.{arith}
 use native.Mathlib.Numerals.{add-one}
 use lib.ListN.{length, get_or}
-use borrow.Author.Rules.{rules}
-use Rattle.base.specs.Index.{first_below}
 use Rattle.base.proofs.IndexLaws.{first_below-none, first_below-more}
 use Rattle.model.specs.declared.Model.{Model}
 use Rattle.model.specs.declared.Start.{Start}
 use Rattle.model.specs.Rules.{ports_fault}
 use Rattle.model_rules.proofs.FaultLaws.{start_fault, start_fault-read, starts_fault-here, starts_fault-end, both_below, not-both-below}
 use Rattle.model_rules.proofs.starts_fault.Goals.{In-loop-k}
-use Rattle.model_rules.proofs.starts_fault.Invariants.{Held}
 use Rattle.model_rules.proofs.starts_fault.Goals as goal
 
 -- a turn: a thread, and a place
