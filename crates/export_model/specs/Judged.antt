@@ -1,7 +1,7 @@
 -- Numbers that hold a model, judged: "Held values are refused with 2 to 8 as the reader would refuse their file". "Held so", an operation
 -- outside 1 to 6, a notify with b not 0 and what a closer's kind forbids can occur, and numbers that no byte has. "The writer refuses with
 -- 17 (for a mapped number) and 18 too".
-use Rattle.std.specs.Prelude.{ℕ, ◌+◌, ◌-◌, Bool, cond, not, ◌&&◌, ◌||◌, List, ◌++◌, ltb, leb, eqb, length, replicate}
+use Rattle.std.specs.Prelude.{ℕ, ◌+◌, ◌-◌, cond, not, ◌||◌, List, ◌++◌, ltb, leb, eqb, length, replicate}
 use Rattle.base.specs.Index.{any_below, or_else, first_below, tabulate}
 use Rattle.model.specs.declared.Segment.{Segment}
 use Rattle.model.specs.declared.Model.{Model}
