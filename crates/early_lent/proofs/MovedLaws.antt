@@ -3,6 +3,7 @@
 --     stored-length     a slice keeps its length
 --     Moves     what is used of a call: it reads and writes the threads' records alone, and 11 comes first
 --     moved_asked, moved_back, moved-held     the answer and the state, the records that the slice is left with, and the values that are held
+--     moved_all     these three, of what the functions of the code leave
 --     request_of-moves, call_of-moves     by the whole table; a request is a call that holds nothing
 --     lent-short, lent-enough, held-short, held-enough     the exits of `request_of`, `request_of_rows`, `call_of` and `call_of_rows`
 use Prim.Native.Nat.{ℕ, zero, suc, ◌<◌, ◌≤◌}
@@ -172,6 +173,15 @@ module _ (m : Model) (site : Site) (held : List ℕ) (Q : List Thread → Called
 
   pub moved-held : (called_unless_short m site before (length ts) held (Q before.at)).held ≡ (Q ts).held
   moved-held = lent-right.kept
+
+-- a call that moves n records out, asks the core, and moves them back: what it answers, the records that it leaves, and the values that are held
+pub moved_all :
+    (m : Model) (site : Site) (held : List ℕ) (Q : List Thread → Called) → Moves m site held Q → (ts : List Thread) (n : ℕ) (none before : Threads) (ts' us : List Thread) (done : Done) (held' : List ℕ) →
+    n ≡ moved_of (length ts) m.t → none ≡ no_threads → (before ≡ loaded ts n none) × (ts' ≡ ts) → done ≡ done_of (unless_short m site before (length ts) (Q before.at).left) →
+    held' ≡ (called_unless_short m site before (length ts) held (Q before.at)).held → us ≡ stored ts' n done.threads →
+    (done.asked ≡ asked_of (Q ts).left) × (us ≡ (Q ts).left.threads) × (held' ≡ (Q ts).held)
+moved_all m site held Q laws ts n none before ts' us done held' count zeros (moved, same) made kept back =
+    rw (back, same, made, kept, moved, zeros, count) (moved_asked m site held Q laws ts, moved_back m site held Q laws ts, moved-held m site held Q laws ts)
 
 -- a request, which holds nothing
 abbrev pub holding_none : Requested → Called

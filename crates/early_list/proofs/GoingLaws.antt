@@ -21,7 +21,6 @@ use Rattle.early.specs.declared.Answer.{Answer}
 use Rattle.early.specs.declared.Answer.TheVariants.{Granted, Refused}
 use Rattle.early.specs.declared.Call.{Call}
 use Rattle.early.specs.declared.After.{After}
-use Rattle.early.specs.Request.{Listed}
 use Rattle.early.specs.Call.{Called, called_with, call_fit, call_of, Served, served_by, call_at}
 use Rattle.early_laws.proofs.CallLaws.{Fitting, call_of-fitting, call_of-held-length}
 use Rattle.early_answer.specs.After.{after_of}

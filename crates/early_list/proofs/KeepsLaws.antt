@@ -2,7 +2,7 @@
 --     closed-fit     after a segment has run, by a log that has places for all that is logged and counted then
 --     call-keeps     after a call
 use Prim.Native.Nat.{ℕ, ◌<◌, ◌≤◌}
-use mathlib.Core.Path.{◌≡◌, refl, ap, ◌∙◌}
+use mathlib.Core.Path.{◌≡◌, ap, ◌∙◌}
 use mathlib.Core.Bool.{Bool, true, false}
 use mathlib.Core.List.{List}
 use native.Mathlib.Omega.{arith}
@@ -13,7 +13,7 @@ use Rattle.clock.specs.declared.Bound.TheVariants.{At}
 use Rattle.model.specs.declared.Model.{Model}
 use Rattle.model.specs.declared.Thread.{Thread}
 use Rattle.model.specs.Limits.{is_up_to_horizon}
-use Rattle.model.specs.Record.{thread_at, ready_cycle, cycle_of, is_running}
+use Rattle.model.specs.Record.{thread_at, ready_cycle, cycle_of}
 use Rattle.model.specs.Footprint.{has, listed_in}
 use Rattle.plain.specs.Wake.{floor_of}
 use Rattle.plain_laws.proofs.RecordLaws.{running-cycle}
@@ -27,7 +27,7 @@ use Rattle.early.specs.Request.{granted_to}
 use Rattle.early.specs.Call.{held_at, is_unfit_held, Called, running_from, stored_over, effect_held, finished_from, call_of}
 use Rattle.early_laws.proofs.LogLaws.{In, with_pairs-kept, with_pairs-new, log_of-site_of, drop_before-only}
 use Rattle.early_laws.proofs.CountedLaws.{Grown, grown-none, grown-pairs, with_running-grown, with_running-new}
-use Rattle.early_laws.proofs.FitLaws.{Fit, is_fit_thread→, is_unfit_threads→, is_unfit_places→, →is_unfit_places, is_unfit→, →is_unfit, site_of-fit}
+use Rattle.early_laws.proofs.FitLaws.{is_fit_thread→, is_unfit_threads→, is_unfit_places→, →is_unfit_places, is_unfit→, →is_unfit, site_of-fit}
 use Rattle.early_laws.proofs.GrantLaws.{site_after-log, is_full-none}
 use Rattle.early_laws.proofs.RequestLaws.{Grantable}
 use Rattle.early_laws.proofs.CallLaws.{Fitting, Finishable, Asked, refused, done, granted, finished, call_of-asked, call_of-held-length, running-fit}

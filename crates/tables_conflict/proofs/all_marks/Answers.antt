@@ -1,8 +1,6 @@
 -- `tables_conflict::all_marks` meets its contract: a row for each segment.
-use Prim.Native.Nat.{◌≤◌, ◌-◌}
 use mathlib.Core.Path.{◌≡◌}
 use native.Mathlib.Omega.{arith}
-use borrow.Author.Rules.{rules}
 use Rattle.base.proofs.IndexLaws.{store_to-none, store_to-more}
 use Rattle.tables_conflict.specs.Mask.{rows_to}
 use Rattle.tables_conflict.proofs.all_marks.Goals as goal

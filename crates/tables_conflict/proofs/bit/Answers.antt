@@ -1,6 +1,5 @@
 -- `tables_conflict::bit` meets its contract: none from 64 on.
 use native.Mathlib.Omega.{arith}
-use borrow.Author.Rules.{rules}
 use Rattle.tables_conflict.proofs.MaskLaws.{bit_of-none, bit_of-some}
 use Rattle.tables_conflict.proofs.bit.Goals as goal
 

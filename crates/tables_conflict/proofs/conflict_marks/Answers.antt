@@ -1,6 +1,4 @@
 -- `tables_conflict::conflict_marks` meets its contract: all unset, or the marks.
-use native.Mathlib.Omega.{arith}
-use borrow.Author.Rules.{rules}
 use Rattle.tables_conflict.proofs.MarkLaws.{held-few, conflict_marks-made}
 use Rattle.tables_conflict.proofs.conflict_marks.Goals as goal
 

@@ -1,7 +1,6 @@
 -- `tables_conflict::conflict_number` meets its contract: 11, or 0.
 use mathlib.Core.Path.{sym, ◌∙◌}
 use native.Mathlib.Omega.{arith}
-use borrow.Author.Rules.{rules}
 use Rattle.tables.proofs.OutcomeLaws.{conflict-unfit, conflict-held}
 use Rattle.tables_conflict.proofs.conflict_number.Goals as goal
 

@@ -1,6 +1,5 @@
 -- `tables_conflict::marked_segments` meets its contract: none, or N.
 use mathlib.Core.Path.{sym, ◌∙◌}
-use borrow.Author.Rules.{rules}
 use Rattle.tables.proofs.OutcomeLaws.{if_held-yes, if_held-no, conflict-held}
 use Rattle.tables_conflict.proofs.MarkLaws.{numbered-held}
 use Rattle.tables_conflict.proofs.marked_segments.Goals as goal

@@ -1,10 +1,6 @@
 -- `tables_conflict::masks_of` meets its contract: the statements, one after the other, and the test variable.
-use Prim.Native.Nat.{◌≤◌, ◌-◌}
-use mathlib.Core.Path.{◌≡◌}
 use native.Mathlib.Omega.{arith}
-use borrow.Author.Rules.{rules}
 use Rattle.model_effect.proofs.LengthLaws.{statements-length}
-use Rattle.tables_conflict.specs.Mask.{masks_to}
 use Rattle.tables_conflict.proofs.MaskLaws.{masks_to-none, masks_to-more, masks_of-made}
 use Rattle.tables_conflict.proofs.masks_of.Goals as goal
 

@@ -1,6 +1,5 @@
 -- `tables_conflict::one_mask` meets its contract.
 use mathlib.Core.Path.{refl}
-use borrow.Author.Rules.{rules}
 use Rattle.tables_conflict.proofs.one_mask.Goals as goal
 
 pub returns : goal.returns

@@ -1,7 +1,6 @@
 -- `tables_conflict::op_masks` meets its contract, operation by operation.
 use mathlib.Core.Path.{refl, ◌∙◌}
 use mathlib.Core.Logic.{⊎_elim}
-use borrow.Author.Rules.{rules}
 use Rattle.tables_conflict.specs.Mask.{op_masks}
 use Rattle.tables_conflict.proofs.op_masks.Goals as goal
 

@@ -1,9 +1,6 @@
 -- `tables_conflict::row_marks` meets its contract: a mark for each column.
 use Prim.Native.Nat.{◌≤◌, ◌-◌}
 use mathlib.Core.Path.{◌≡◌}
-use native.Mathlib.Omega.{arith}
-use borrow.Author.Rules.{rules}
-use Rattle.base.proofs.IndexLaws.{store_to-none, store_to-more}
 use Rattle.tables_conflict.specs.Mask.{row_to}
 use Rattle.tables_conflict.proofs.row_marks.Given as goal
 

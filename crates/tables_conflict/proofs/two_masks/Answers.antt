@@ -1,6 +1,5 @@
 -- `tables_conflict::two_masks` meets its contract.
 use mathlib.Core.Path.{refl}
-use borrow.Author.Rules.{rules}
 use Rattle.tables_conflict.proofs.two_masks.Goals as goal
 
 pub returns : goal.returns

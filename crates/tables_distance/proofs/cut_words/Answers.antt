@@ -1,5 +1,7 @@
 -- `tables_distance::cut_words` meets its contract: a store, or none, for each place.
+use Prim.Native.Nat.{◌+◌}
 use mathlib.Core.Path.{◌≡◌, refl, ap, ◌∙◌}
+use Rattle.tables_distance.specs.Store.{cut_to}
 use Rattle.tables_distance.proofs.cut_words.Goals.{then-words-i-ge-CUT_WORD, else-words-i-ge-CUT_WORD}
 use native.Mathlib.Omega.{arith}
 use lib.ListN.{length}
@@ -14,7 +16,7 @@ pub loop-i-preserved : goal.loop-i-preserved
 loop-i-preserved c =
     let x = c.args in
     let l = c.loop-i in
-    let e : _ ≡ _ = elim c.if-words-i-ge-CUT_WORD.branch [
+    let e : c.if-words-i-ge-CUT_WORD.words ≡ cut_to x.words.now (l.i + 1) = elim c.if-words-i-ge-CUT_WORD.branch [
       | then-words-i-ge-CUT_WORD w ↦ w.words-is ∙ cut_to-stored x.words.now l.i _ l.invariant.2 (omega arith)
       | else-words-i-ge-CUT_WORD w ↦ w.words-is ∙ cut_to-left x.words.now l.i _ l.invariant.2 (omega arith)
     ] in

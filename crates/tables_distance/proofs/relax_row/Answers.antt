@@ -1,5 +1,7 @@
 -- `tables_distance::relax_row` meets its contract: a store, or none, for each column.
+use Prim.Native.Nat.{◌+◌}
 use mathlib.Core.Path.{◌≡◌, refl, ap, ◌∙◌}
+use Rattle.tables_distance.specs.Store.{relaxed_to}
 use Rattle.tables_distance.proofs.relax_row.Goals.{then-c-words, else-c-words}
 use native.Mathlib.Omega.{arith}
 use lib.ListN.{length}
@@ -14,7 +16,7 @@ pub loop-j-preserved : goal.loop-j-preserved
 loop-j-preserved c =
     let x = c.args in
     let l = c.loop-j in
-    let e : _ ≡ _ = elim c.if-c-words.branch [
+    let e : c.if-c-words.words ≡ relaxed_to x.a x.p x.q x.words.now (l.j + 1) = elim c.if-c-words.branch [
       | then-c-words w ↦ w.words-is ∙ relaxed_to-stored x.a x.p x.q x.words.now l.j _ _ l.invariant.2 c.sum_word-c.ensures (omega arith)
       | else-c-words w ↦ w.words-is ∙ relaxed_to-left x.a x.p x.q x.words.now l.j _ _ l.invariant.2 c.sum_word-c.ensures (omega arith)
     ] in

@@ -1,5 +1,7 @@
 -- `tables_distance::round` meets its contract: each row relaxed, or left where there is no way to k.
+use Prim.Native.Nat.{◌+◌}
 use mathlib.Core.Path.{◌≡◌, refl, ap, ◌∙◌}
+use Rattle.tables_distance.specs.Store.{round_to}
 use Rattle.tables_distance.proofs.round.Goals.{then-a-lt-CUT_WORD, else-a-lt-CUT_WORD}
 use native.Mathlib.Omega.{arith}
 use lib.ListN.{length}
@@ -37,7 +39,7 @@ pub loop-i-preserved : goal.loop-i-preserved
 loop-i-preserved c =
     let x = c.args in
     let l = c.loop-i in
-    let e : _ ≡ _ = elim c.if-a-lt-CUT_WORD.branch [
+    let e : c.if-a-lt-CUT_WORD.words ≡ round_to x.n x.k x.words.now (l.i + 1) = elim c.if-a-lt-CUT_WORD.branch [
       | then-a-lt-CUT_WORD w ↦ round_to-relaxed x.n x.k x.words.now l.i l.p _ _ _ _ l.invariant.3 l.invariant.2 refl refl (omega arith) (w.words-is ∙ w.relax_row.ensures)
       | else-a-lt-CUT_WORD w ↦ w.words-is ∙ round_to-left x.n x.k x.words.now l.i l.p _ _ l.invariant.3 l.invariant.2 refl (omega arith)
     ] in
