@@ -43,7 +43,7 @@ use Rattle.early_laws.proofs.CallLaws.{call_of-refused, call_by_rows-refused}
 use Rattle.early_answer.specs.After.{after_of}
 use Rattle.early_request.specs.Fresh.{fresh_of}
 use Rattle.early_lent.specs.declared.Lent.{Lent}
-use Rattle.early_lent.specs.Answered.{asked_of, lent_of, request_first}
+use Rattle.early_lent.specs.Answered.{lent_of, request_first}
 use Rattle.early_lent.proofs.MovedLaws.{Moves, call_of-moves}
 use Rattle.early_lent.proofs.RowsLaws.{request_by_rows-moves, call_by_rows-moves}
 use Rattle.replay.specs.declared.Replayed.{Replayed}

@@ -1,0 +1,9 @@
+-- `export_step::may_ask` meets its contract.
+use mathlib.Core.Path.{refl}
+use Rattle.export_step.proofs.may_ask.Goals as goal
+
+pub returns-then-are_held : goal.returns-then-are_held
+returns-then-are_held c = rw (← c.are_held.ensures, c.if-are_held.true) refl
+
+pub returns : goal.returns
+returns c = rw (← c.are_held.ensures, c.if-are_held.false) refl

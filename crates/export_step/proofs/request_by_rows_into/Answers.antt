@@ -1,0 +1,25 @@
+-- `export_step::request_by_rows_into` meets its contract.
+use lib.ListN.{length}
+use Rattle.early_laws.proofs.ByRowsLaws.{free-same}
+use Rattle.export_step.specs.Step.{keeps, rows_by}
+use Rattle.export_step.proofs.StepLaws.{request-refused, request-answered, rows_right}
+use Rattle.export_step.proofs.request_by_rows_into.Goals as goal
+
+pub returns-then-read-ne0 : goal.returns-then-read-ne0
+returns-then-read-ne0 c =
+    let x = c.args in
+    let o = c.with_state-read in
+    record { free = free-same x.row.now; requests = request-refused x.file.now (rows_by x.file.now (length x.row.now) (keeps x.variables.now x.log.now x.records.now) x.thread) (keeps x.variables.now x.log.now x.records.now) x.answer.now o.result o.ensures.number c.if-read-ne0.true }
+
+pub returns : goal.returns
+returns c =
+    let x = c.args in
+    let o = c.with_state-read in
+    let h = c.if-read-ne0.false in
+    let a = c.put_answer.ensures in
+    let l = c.rows_on-after in
+    record {
+      free = l.ensures.free;
+      requests = request-answered x.file.now (rows_by x.file.now (length x.row.now) (keeps x.variables.now x.log.now x.records.now) x.thread) (keeps x.variables.now x.log.now x.records.now) x.answer.now o.result o.ensures.number h _ l.result
+          (rows_right x.file.now (keeps x.variables.now x.log.now x.records.now) x.thread o.result (o.ensures.read h) h (length x.row.now) l.result l.ensures.left) _ _ _ a.number c.put_after.ensures a.words;
+    }
