@@ -1,0 +1,6 @@
+-- `rewrite::answer` meets its contract.
+use Rattle.buffers.proofs.WriteLaws.{counts-text}
+use Rattle.rewrite.proofs.answer.Goals as goal
+
+pub returns : goal.returns
+returns c = record { writes = c.rewrite_text.ensures.text; prefix_len = counts-text c.rewrite_text.ensures.text c.rewrite_text.auto.out }
