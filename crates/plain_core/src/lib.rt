@@ -104,6 +104,8 @@ fn result(
 }
 
 // The cycles of a model that keeps the file rules, one after the other. A ready word at or past the limit is not run.
+// Not folded into its caller: what the judgement of the model needs of the stack is free again when the cycles begin.
+#[inline(never)]
 fn cycles(m: Model, budget: u64) -> PlainRun
     requires { model_fault m ≡ 0 }
     ensures { result ≡ reported m (run_for m budget (last_step m) (start_of m)) }
