@@ -3,7 +3,7 @@ use Rattle.std.proofs.Common.{length, ◌-◌, ◌≡◌, ◌≤◌}
 use Rattle.test_files.proofs.runs.read_calls.Given as goal
 
 abbrev pub invariant-loop-n : goal.invariant-loop-n
-invariant-loop-n g l = 
+invariant-loop-n g l =
     (l.n ≤ length l.labels) × (length l.kinds ≡ length l.initial.kinds) × (length l.labels ≡ length l.initial.labels) × (length l.text ≡ 21)
 
 abbrev pub decreases-loop-n : goal.decreases-loop-n
