@@ -1,7 +1,7 @@
 // A stored file is a list of parts, each a length of two bytes and its bytes.
 #![tactic(auto)]
 
-ghost use Rattle.std.specs.Prelude.{◌<◌, ◌≡◌, IfOk};
+ghost use Rattle.std.specs.Prelude.{◌<◌, ◌≡◌, IfOk, length};
 ghost use Rattle.io.specs.Counts.{IsPrefixLen};
 
 use std::io::{Read, Result};
@@ -9,9 +9,11 @@ use std::io::{Read, Result};
 // No part is so long: what the length is where the file has ended.
 const ENDED: usize = 65536;
 
-// Reads until the buffer is full or the file has ended, and answers how many bytes came to its front.
+// Reads until the buffer is full or the file has ended, and answers how many bytes came to its front. Here and below the one error is the
+// reader's own; what came before it may stand in the buffer, which keeps its length.
 fn read_full<R: Read>(file: &mut R, buffer: &mut [u8]) -> Result<usize>
-    ensures { IfOk result (λ n. IsPrefixLen n buffer.new) }
+    ensures ok { IfOk result (λ n. IsPrefixLen n buffer.new) }
+    ensures kept { length buffer.new ≡ length buffer.old }
 {
     let mut done = 0;
     while done < buffer.len() {
@@ -35,7 +37,8 @@ pub fn read_length<R: Read>(file: &mut R) -> Result<usize> {
 
 // Reads n bytes to the front of the buffer, and answers how many came: none where there is no room for them.
 pub fn read_part<R: Read>(file: &mut R, buffer: &mut [u8], n: usize) -> Result<usize>
-    ensures { IfOk result (λ k. IsPrefixLen k buffer.new) }
+    ensures ok { IfOk result (λ k. IsPrefixLen k buffer.new) }
+    ensures kept { length buffer.new ≡ length buffer.old }
 {
     if buffer.len() < n {
         return Ok(0);
@@ -45,7 +48,8 @@ pub fn read_part<R: Read>(file: &mut R, buffer: &mut [u8], n: usize) -> Result<u
 
 // Reads the next part to the front of the buffer, and answers its length; 0 where there is none.
 pub fn next_part<R: Read>(file: &mut R, buffer: &mut [u8]) -> Result<usize>
-    ensures { IfOk result (λ n. IsPrefixLen n buffer.new) }
+    ensures ok { IfOk result (λ n. IsPrefixLen n buffer.new) }
+    ensures kept { length buffer.new ≡ length buffer.old }
 {
     let n = read_length(file)?;
     read_part(file, buffer, n)

@@ -1,6 +1,6 @@
 // Stored runs of `replayrun`: a name, a model file, and a count of arguments with the arguments. Of each the name is written, and
 // what the program prints.
-ghost use Rattle.std.specs.Prelude.{◌≤◌, length, IfOk};
+ghost use Rattle.std.specs.Prelude.{◌≤◌, ◌≡◌, length, IfOk};
 ghost use Rattle.io.specs.Counts.{IsPrefixLen};
 
 use std::io::{Read, Result};
@@ -12,11 +12,13 @@ fn answer(file: &[u8], kinds: &[u8], labels: &[u64], out: &mut [u8]) -> usize
     transcript_print::replay_text(file, kinds, labels, out)
 }
 
-// The kinds and labels of the next arguments, as far as there is room; how many.
+// The kinds and labels of the next arguments, as far as there is room; how many. The one error is the reader's own: the buffers keep their lengths.
 fn read_calls<F: Read>(runs: &mut F, kinds: &mut [u8], labels: &mut [u64]) -> Result<usize>
     requires { length labels.old ≤ length kinds.old }
     ensures prefix_len { IfOk result (λ n. IsPrefixLen n kinds.new) }
     ensures prefix_len_2 { IfOk result (λ n. IsPrefixLen n labels.new) }
+    ensures kept { length kinds.new ≡ length kinds.old }
+    ensures kept_labels { length labels.new ≡ length labels.old }
 {
     let count = parts::read_length(runs)?;
     let mut text = [0u8; 21];
