@@ -6,7 +6,10 @@ ghost use Rattle.buffers.specs.Write.{Writes};
 ghost use Rattle.sheet_file.specs.Report.{printed};
 ghost use Rattle.plainrun.specs.Program.{budget};
 
-use std::io::{Read, Result};
+// Standard input and output.
+const STDIN: i32 = 0;
+
+const STDOUT: i32 = 1;
 
 // What the program prints of a file, at the front of out; how many bytes. Only reading and writing are outside of this.
 fn answer(file: &[u8], out: &mut [u8]) -> usize
@@ -17,10 +20,10 @@ fn answer(file: &[u8], out: &mut [u8]) -> usize
 }
 
 // One read of all, one write of all.
-fn main(rt: HostRuntime) -> Result<()> {
-    let mut file = Vec::new(rt.alloc());
-    rt.stdin().take(65536).read_to_end(&mut file)?;
+fn main() {
+    let mut file = io::large_buffer();
+    let n = io::read_full(STDIN, &mut file);
     let mut out = [0u8; 8192];
-    let m = answer(&file, &mut out);
-    rt.write_all(&out[..m])
+    let m = answer(&file[..n], &mut out);
+    io::write_all(STDOUT, &out[..m]);
 }

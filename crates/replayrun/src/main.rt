@@ -8,8 +8,12 @@ ghost use Rattle.buffers.specs.Write.{Writes};
 ghost use Rattle.transcript_print.specs.Text.{replay_text};
 
 use std::env::FillError;
-use std::io::{Read, Result};
 use std::rt::Env;
+
+// Standard input and output.
+const STDIN: i32 = 0;
+
+const STDOUT: i32 = 1;
 
 // What the program prints of a file and calls, at the front of out; how many bytes. Only reading and writing are outside of this.
 fn answer(file: &[u8], kinds: &[u8], labels: &[u64], out: &mut [u8]) -> usize
@@ -42,13 +46,13 @@ fn read_calls<R: Env>(rt: &R, kinds: &mut [u8], labels: &mut [u64]) -> usize
 }
 
 // One read of all, one write of all. One call more than 1,024 tells that there are too many.
-fn main(rt: HostRuntime) -> Result<()> {
-    let mut file = Vec::new(rt.alloc());
-    rt.stdin().take(65536).read_to_end(&mut file)?;
+fn main(rt: HostRuntime) {
+    let mut file = io::large_buffer();
+    let n = io::read_full(STDIN, &mut file);
     let mut kinds = [0u8; 1025];
     let mut labels = [0u64; 1025];
     let k = read_calls(&rt, &mut kinds, &mut labels);
     let mut out = [0u8; 131072];
-    let m = answer(&file, &kinds[..k], &labels[..k], &mut out);
-    rt.write_all(&out[..m])
+    let m = answer(&file[..n], &kinds[..k], &labels[..k], &mut out);
+    io::write_all(STDOUT, &out[..m]);
 }

@@ -5,7 +5,10 @@ ghost use Rattle.io.specs.Counts.{IsPrefixLen};
 ghost use Rattle.buffers.specs.Write.{Writes};
 ghost use Rattle.writer_print.specs.Again.{again};
 
-use std::io::{Read, Result};
+// Standard input and output.
+const STDIN: i32 = 0;
+
+const STDOUT: i32 = 1;
 
 // What the program prints of a file, at the front of out; how many bytes. Only reading and writing are outside of this.
 fn answer(file: &[u8], out: &mut [u8]) -> usize
@@ -16,10 +19,10 @@ fn answer(file: &[u8], out: &mut [u8]) -> usize
 }
 
 // One read of all, one write of all. No file that is accepted has more than 13,934 bytes.
-fn main(rt: HostRuntime) -> Result<()> {
-    let mut file = Vec::new(rt.alloc());
-    rt.stdin().take(65536).read_to_end(&mut file)?;
+fn main() {
+    let mut file = io::large_buffer();
+    let n = io::read_full(STDIN, &mut file);
     let mut out = [0u8; 16384];
-    let m = answer(&file, &mut out);
-    rt.write_all(&out[..m])
+    let m = answer(&file[..n], &mut out);
+    io::write_all(STDOUT, &out[..m]);
 }
