@@ -17,19 +17,19 @@ pub loop-i-preserved-then-not-is_before : goal.loop-i-preserved-then-not-is_befo
 loop-i-preserved-then-not-is_before c =
     let x = c.args in
     let l = c.loop-i in
-    (omega arith, omega arith, least_in-heard x.events.now x.times.now x.deltas.now x.n _ _ l.i _ (omega arith) (omega arith) l.invariant.2 _ c.if-event-e.true (sym (ap not c.is_before.ensures) ∙ (ap not c.if-not-is_before.true)) c.least_of-best.ensures)
+    (omega arith, omega arith, least_in-heard x.events.now x.times.now x.deltas.now x.n _ _ l.i _ (omega arith) (omega arith) l.invariant.2 _ (omega arith) (sym (ap not c.is_before.ensures) ∙ (ap not c.if-not-is_before.true)) c.least_of-best.ensures)
 
 pub loop-i-preserved-else-not-is_before : goal.loop-i-preserved-else-not-is_before
 loop-i-preserved-else-not-is_before c =
     let x = c.args in
     let l = c.loop-i in
-    (omega arith, omega arith, least_in-before x.events.now x.times.now x.deltas.now x.n _ _ l.i _ (omega arith) (omega arith) l.invariant.2 c.if-event-e.true (sym (ap not c.is_before.ensures) ∙ (ap not c.if-not-is_before.false)))
+    (omega arith, omega arith, least_in-before x.events.now x.times.now x.deltas.now x.n _ _ l.i _ (omega arith) (omega arith) l.invariant.2 (omega arith) (sym (ap not c.is_before.ensures) ∙ (ap not c.if-not-is_before.false)))
 
 pub loop-i-preserved : goal.loop-i-preserved
 loop-i-preserved c =
     let x = c.args in
     let l = c.loop-i in
-    (omega arith, omega arith, least_in-other x.events.now x.times.now x.deltas.now x.n _ _ l.i _ (omega arith) (omega arith) l.invariant.2 c.if-event-e.false)
+    (omega arith, omega arith, least_in-other x.events.now x.times.now x.deltas.now x.n _ _ l.i _ (omega arith) (omega arith) l.invariant.2 (omega arith))
 
 pub returns : goal.returns
 returns c = let e : c.loop-i.i ≡ 0 = omega arith in rw e at c.loop-i.invariant.2
