@@ -78,7 +78,8 @@ fn lower_row(notes: &[u16], k: usize, words: &[u64], p: usize, r: usize, reach: 
     while q < k {
         let x = wide_note(notes[q]);
         let way = early_ahead::limit_of_word(buffers::word_at(words, p + x / 32));
-        if way < NEVER {
+        let leads = way < NEVER;
+        if leads {
             let i = r * 32 + x % 32;
             reach[i] = early_ahead::lesser_of(reach[i], way);
         }

@@ -5,7 +5,7 @@ use native.Mathlib.Omega.{arith}
 use Rattle.early_limits.specs.Limit.{limit_of_word}
 use Rattle.early_reach.specs.Store.{Places, row_lowered}
 use Rattle.early_reach.proofs.StoreLaws.{row_lowered-none, row_lowered-more, row_lowered-never}
-use Rattle.early_reach.proofs.lower_row.Goals.{then-way-lt-NEVER, else-way-lt-NEVER}
+use Rattle.early_reach.proofs.lower_row.Goals.{then-leads, else-leads}
 use Rattle.early_reach.proofs.lower_row.Goals as goal
 
 pub loop-q-init : goal.loop-q-init
@@ -16,11 +16,11 @@ loop-q-preserved c =
     let x = c.args in
     let l = c.loop-q in
     let way = c.limit_of_word-way.ensures ∙ ap limit_of_word c.word_at.ensures in
-    let placed : Places (row_lowered x.notes.now (l.q + 1) x.words.now x.p x.r) x.reach.now c.if-way-lt-NEVER.reach = elim c.if-way-lt-NEVER.branch [
-      | then-way-lt-NEVER w ↦ rw w.reach-is
+    let placed : Places (row_lowered x.notes.now (l.q + 1) x.words.now x.p x.r) x.reach.now c.if-leads.reach = elim c.if-leads.branch [
+      | then-leads w ↦ rw w.reach-is
           (row_lowered-more x.notes.now x.words.now x.p x.r x.reach.now l.reach l.q _ _ _ _ l.invariant.1 (omega arith) (omega arith) c.wide_note-x.ensures.0
           refl way w.lesser_of.ensures)
-      | else-way-lt-NEVER w ↦ rw w.reach-is
+      | else-leads w ↦ rw w.reach-is
           (row_lowered-never x.notes.now x.words.now x.p x.r x.reach.now l.reach l.q _ _ l.invariant.1 l.invariant.2 c.wide_note-x.ensures.0 way (omega arith))
     ] in
     (omega arith, placed, l.invariant.2)
