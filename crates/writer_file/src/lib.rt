@@ -30,17 +30,12 @@ fn put_head(out: &mut [u8], at: usize, horizon: Time, v: u8, e: u8) -> usize
 fn put_segments(out: &mut [u8], at: usize, m: Model) -> usize
     ensures { Puts out.old at out.new result (joined m.n 0 (λ i. segment_bytes (segment_at m i))) }
 {
-    let n = buffers::wide(m.n);
-    let mut to = buffers::least(at, out.len());
-    let mut i = 0;
-    while i < n {
-        if i < 64 {
-            let g = m.segments[i];
-            to = writer_segment::put_segment(out, to, g);
-        } else {
-            to = writer_segment::put_front(out, to, 0, Closer::End);
-        }
-        i += 1;
+    let mut to = at.min(out.len());
+    for i in 0..usize::from(m.n) {
+        to = match m.segments.get(i) {
+            Some(g) => writer_segment::put_segment(out, to, *g),
+            None => writer_segment::put_front(out, to, 0, Closer::End),
+        };
     }
     to
 }
@@ -57,12 +52,9 @@ fn put_start(out: &mut [u8], at: usize, first: u8) -> usize
 fn put_eight(out: &mut [u8], at: usize, ports: [u8; 8]) -> usize
     ensures { Puts out.old at out.new result (joined 8 0 (λ p. bytes_of 1 (port_of ports p))) }
 {
-    let mut to = buffers::least(at, out.len());
-    let mut i = 0;
-    while i < 8 {
-        let x = ports[i];
-        to = writer_segment::put_one(out, to, x);
-        i += 1;
+    let mut to = at.min(out.len());
+    for x in &ports {
+        to = writer_segment::put_one(out, to, *x);
     }
     to
 }
@@ -75,33 +67,27 @@ fn put_ports(out: &mut [u8], at: usize, ports: [u8; 8]) -> usize
         let a = writer_segment::put_frame(out, at, 12, 5);
         return put_eight(out, a, ports);
     }
-    buffers::least(at, out.len())
+    at.min(out.len())
 }
 
 // A thread's record, then that of its ports.
 fn put_thread(out: &mut [u8], at: usize, s: Start) -> usize
     ensures { Puts out.old at out.new result (start_bytes s) }
 {
-    let ports = s.ports;
     let a = put_start(out, at, s.first);
-    put_ports(out, a, ports)
+    put_ports(out, a, s.ports)
 }
 
 // A model's threads. Past its 32 places each begins at segment 0 and uses no port.
 fn put_starts(out: &mut [u8], at: usize, m: Model) -> usize
     ensures { Puts out.old at out.new result (joined m.t 0 (λ k. start_bytes (start_at m k))) }
 {
-    let t = buffers::wide(m.t);
-    let mut to = buffers::least(at, out.len());
-    let mut k = 0;
-    while k < t {
-        if k < 32 {
-            let s = m.starts[k];
-            to = put_thread(out, to, s);
-        } else {
-            to = put_start(out, to, 0);
-        }
-        k += 1;
+    let mut to = at.min(out.len());
+    for k in 0..usize::from(m.t) {
+        to = match m.starts.get(k) {
+            Some(s) => put_thread(out, to, *s),
+            None => put_start(out, to, 0),
+        };
     }
     to
 }
@@ -110,8 +96,7 @@ fn put_starts(out: &mut [u8], at: usize, m: Model) -> usize
 pub fn put_file(m: Model, out: &mut [u8]) -> usize
     ensures { Puts out.old 0 out.new result (file_of m) }
 {
-    let horizon = m.horizon;
-    let a = put_head(out, 0, horizon, m.v, m.e);
+    let a = put_head(out, 0, m.horizon, m.v, m.e);
     let b = put_segments(out, a, m);
     let c = put_starts(out, b, m);
     writer_segment::put_frame(out, c, 4, 4)
@@ -131,18 +116,12 @@ fn start_size(ports: [u8; 8]) -> usize
 fn starts_size(m: Model) -> usize
     ensures { (result ≡ length (joined m.t 0 (λ k. start_bytes (start_at m k)))) × (result ≤ 4335) }
 {
-    let t = buffers::wide(m.t);
     let mut size = 0;
-    let mut i = 0;
-    while i < t {
-        if i < 32 {
-            let s = m.starts[i];
-            let ports = s.ports;
-            size += start_size(ports);
-        } else {
-            size += 5;
-        }
-        i += 1;
+    for i in 0..usize::from(m.t) {
+        size += match m.starts.get(i) {
+            Some(s) => start_size(s.ports),
+            None => 5,
+        };
     }
     size
 }
@@ -151,16 +130,12 @@ fn starts_size(m: Model) -> usize
 pub fn size_of(m: Model) -> usize
     ensures { result ≡ length (file_of m) }
 {
-    let n = buffers::wide(m.n);
     let mut size = 14 + starts_size(m);
-    let mut i = 0;
-    while i < n {
-        if i < 64 {
-            size += 17 + 6 * buffers::wide(m.segments[i].n);
-        } else {
-            size += 17;
-        }
-        i += 1;
+    for i in 0..usize::from(m.n) {
+        size += match m.segments.get(i) {
+            Some(g) => 17 + 6 * usize::from(g.n),
+            None => 17,
+        };
     }
     size
 }

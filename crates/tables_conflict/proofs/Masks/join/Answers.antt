@@ -1,7 +1,7 @@
--- `tables_conflict::join_masks` meets its contract.
+-- `tables_conflict::Masks::join` meets its contract.
 use mathlib.Core.Path.{refl}
 use Rattle.tables_conflict.specs.Mask.{join_masks}
-use Rattle.tables_conflict.proofs.join_masks.Goals as goal
+use Rattle.tables_conflict.proofs.Masks.join.Goals as goal
 
 pub returns : goal.returns
 unfolding join_masks
