@@ -7,6 +7,10 @@ use Rattle.plain_words.proofs.ReachLaws.{widened-as}
 pub min-lesser : (a b : ℕ) → min a b ≡ lesser_of a b
 min-lesser a b = grind arith
 
+-- the other one first
+pub min-lesser-other : (a b : ℕ) → min a b ≡ lesser_of b a
+min-lesser-other a b = grind arith
+
 pub max-greater : (a b : ℕ) → max a b ≡ greater_of a b
 max-greater a b = grind arith
 
