@@ -38,44 +38,38 @@ pub fn written_length(w: Written) -> usize
 pub fn wide(x: u8) -> usize
     ensures { (result ≡ x) × (result < 256) }
 {
-    x as usize
+    usize::from(x)
 }
 
 pub fn long_byte(x: u8) -> u64
     ensures { result ≡ x }
 {
-    x as u64
+    u64::from(x)
 }
 
 pub fn long_word(x: u32) -> u64
     ensures { result ≡ x }
 {
-    x as u64
+    u64::from(x)
 }
 
 pub fn least(a: usize, b: usize) -> usize
     ensures { result ≡ min a b }
 {
-    if a < b { a } else { b }
+    a.min(b)
 }
 
 // A word of 64 bits, and one of 32; 0 past the end.
 pub fn word_at(words: &[u64], i: usize) -> u64
     ensures { result ≡ get_or words.now i 0 }
 {
-    if i < words.len() {
-        return words[i];
-    }
-    0
+    words.get(i).copied().unwrap_or(0)
 }
 
 pub fn value_at(values: &[u32], i: usize) -> u32
     ensures { result ≡ get_or values.now i 0 }
 {
-    if i < values.len() {
-        return values[i];
-    }
-    0
+    values.get(i).copied().unwrap_or(0)
 }
 
 // One byte, where there is room. Each put writes from a place on, as far as there is room, and answers where the next byte goes.
@@ -92,11 +86,9 @@ pub fn put_byte(out: &mut [u8], at: usize, byte: u8) -> usize
 pub fn put_word(out: &mut [u8], at: usize, word: &[u8]) -> usize
     ensures { Puts out.old at out.new result word.now }
 {
-    let mut to = least(at, out.len());
-    let mut i = 0;
-    while i < word.len() {
-        to = put_byte(out, to, word[i]);
-        i += 1;
+    let mut to = at.min(out.len());
+    for byte in word {
+        to = put_byte(out, to, *byte);
     }
     to
 }
@@ -106,7 +98,7 @@ fn digit(d: u64) -> u8
     requires { d < 10 }
     ensures { result ≡ 48 + d }
 {
-    48 + d as u8
+    b'0' + d as u8
 }
 
 // The digits of n / 10, then the last digit.
@@ -143,10 +135,6 @@ pub fn copy_in(text: &[u8], out: &mut [u8]) -> usize
     if out.len() < text.len() {
         return 0;
     }
-    let mut i = 0;
-    while i < text.len() {
-        out[i] = text[i];
-        i += 1;
-    }
-    i
+    out[..text.len()].copy_from_slice(text);
+    text.len()
 }

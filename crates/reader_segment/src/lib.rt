@@ -19,14 +19,7 @@ struct Decoded(u8, Op);
 pub fn wide(x: u8) -> u32
     ensures { (result ≡ x) × (result < 256) }
 {
-    x as u32
-}
-
-fn small(x: usize) -> u8
-    requires { x < 256 }
-    ensures { result ≡ x }
-{
-    x as u8
+    u32::from(x)
 }
 
 // Document 01: "Little-endian." The bytes are there.
@@ -34,7 +27,7 @@ fn word_within(s: &[u8], at: usize) -> u32
     requires { at + 2 ≤ length s.now }
     ensures { (result ≡ word_at s.now at) × (result < 65536) }
 {
-    wide(s[at]) + wide(s[at + 1]) * 256
+    u32::from(s[at]) + u32::from(s[at + 1]) * 256
 }
 
 fn long_within(s: &[u8], at: usize) -> u32
@@ -48,13 +41,11 @@ fn long_within(s: &[u8], at: usize) -> u32
 pub fn word_at(s: &[u8], at: usize) -> u32
     ensures { (result ≡ word_at s.now at) × (result < 65536) }
 {
-    if at >= s.len() {
-        return 0;
+    match s.len().saturating_sub(at) {
+        0 => 0,
+        1 => u32::from(s[at]),
+        _ => word_within(s, at),
     }
-    if s.len() - at == 1 {
-        return wide(s[at]);
-    }
-    word_within(s, at)
 }
 
 // Four bytes.
@@ -62,13 +53,11 @@ pub fn long_at(s: &[u8], at: usize) -> u32
     ensures { result ≡ long_at s.now at }
 {
     let low = word_at(s, at);
-    if at >= s.len() {
-        return low;
+    if s.len().saturating_sub(at) <= 2 {
+        low
+    } else {
+        low + word_at(s, at + 2) * 65536
     }
-    if s.len() - at <= 2 {
-        return low;
-    }
-    low + word_at(s, at + 2) * 65536
 }
 
 // Document 01: "Bytes 6 and 7 are next segments A and B. Byte 8 is a test variable, or 255 for none. Bytes 9 to 12 are a limit."
@@ -89,8 +78,7 @@ fn closer_from(s: &[u8]) -> Closer
     requires { 13 ≤ length s.now }
     ensures { result ≡ closer_from s.now }
 {
-    let kind = s[0];
-    match kind {
+    match s[0] {
         1 => Closer::Time(Delay(long_within(s, 2)), next_from(s)),
         2 => Closer::Event(s[1], next_from(s)),
         0 | 3..=255 => Closer::End,
@@ -102,14 +90,7 @@ fn rest_is_zero(s: &[u8]) -> bool
     requires { 13 ≤ length s.now }
     ensures { result ≡ rest_is_zero s.now }
 {
-    let mut i = 0;
-    while i < 12 {
-        if s[i + 1] != 0 {
-            return false;
-        }
-        i += 1;
-    }
-    true
+    s[1..13].iter().all(|x| *x == 0)
 }
 
 // 5 where the bytes break a rule that a declared closer cannot.
@@ -117,8 +98,7 @@ fn closer_shape_fault(s: &[u8]) -> u8
     requires { 13 ≤ length s.now }
     ensures { result ≡ closer_shape_fault s.now }
 {
-    let kind = s[0];
-    match kind {
+    match s[0] {
         0 => model_rules::unless(rest_is_zero(s), 5),
         1 => model_rules::unless(s[1] == 0, 5),
         2 => model_rules::unless(long_within(s, 2) == 0, 5),
@@ -143,10 +123,9 @@ fn decode(s: &[u8]) -> Decoded
     requires { 6 ≤ length s.now }
     ensures { result ≡ decoded_from s.now }
 {
-    let kind = s[0];
     let a = s[1];
     let b = long_within(s, 2);
-    match kind {
+    match s[0] {
         1 => Decoded(0, Op::Set(a, b)),
         2 => Decoded(0, Op::Add(a, b)),
         3 => Decoded(0, Op::Copy(a, b)),
@@ -166,8 +145,7 @@ fn statement_fault(v: u8, e: u8, s: &[u8]) -> u8
     if x.0 != 0 {
         return x.0;
     }
-    let op = x.1;
-    model_rules::op_fault(v, e, op)
+    model_rules::op_fault(v, e, x.1)
 }
 
 // Document 01: "then n statements of 6 bytes".
@@ -176,29 +154,22 @@ fn statements_fault(v: u8, e: u8, r: &[u8]) -> u8
     ensures { result ≡ statements_bytes_fault (statement_count r.now) v e r.now }
 {
     let n = (r.len() - 17) / 6;
-    let mut j = 0;
-    while j < n {
+    for j in 0..n {
         let at = 17 + 6 * j;
         let fault = statement_fault(v, e, &r[at..]);
         if fault != 0 {
             return fault;
         }
-        j += 1;
     }
     0
 }
 
 // Document 01: "segment, length 17 + 6n, n from 0 to 32".
+#[tactic(auto, unfolding(reader::specs::Record::length_fits))]
 pub fn segment_length_fits(size: usize) -> bool
     ensures { result ≡ length_fits segment_kind size }
 {
-    if size < 17 {
-        return false;
-    }
-    if 209 < size {
-        return false;
-    }
-    (size - 17) % 6 == 0
+    17 <= size && size <= 209 && (size - 17) % 6 == 0
 }
 
 // A segment's record: 3, then "the closer's 5 and 7, then 6 and 7 of each statement".
@@ -243,16 +214,13 @@ pub fn segment_from(r: &[u8]) -> Segment
     let n = count_in(r);
     let mut g = Segment {
         closer: closer_in(r),
-        n: small(n),
+        n: n as u8,
         statements: [Statement { op: Op::Set(0, 0) }; 32],
     };
-    let mut j = 0;
-    while j < n {
+    for j in 0..n {
         let at = 17 + 6 * j;
         let x = decode(&r[at..]);
-        let op = x.1;
-        g.statements[j] = Statement { op };
-        j += 1;
+        g.statements[j] = Statement { op: x.1 };
     }
     g
 }
@@ -261,32 +229,26 @@ pub fn segment_from(r: &[u8]) -> Segment
 fn bound_of(x: Next) -> u32
     ensures { result ≡ bound_of x }
 {
-    let a = wide(x.a);
-    let b = wide(x.b);
-    if a < b {
-        return b + 1;
-    }
-    a + 1
+    u32::from(x.a.max(x.b)) + 1
 }
 
 // The least N that the next segments of a record are below.
 pub fn target_bound(r: &[u8]) -> u32
     ensures { result ≡ target_bound (closer_in r.now) }
 {
-    let closer = closer_in(r);
-    match closer {
+    match closer_in(r) {
         Closer::End => 0,
-        Closer::Time(_, x) => bound_of(x),
-        Closer::Event(_, x) => bound_of(x),
+        Closer::Time(_, x) | Closer::Event(_, x) => bound_of(x),
     }
 }
 
 // Whether a statement's bytes can name a port: "128 to 135 may stand wherever a variable is named". Operations 1 and 2 take b as it stands.
+#[tactic(auto, unfolding(crate::specs::Parts::op_names))]
 fn op_names(s: &[u8]) -> bool
     requires { 6 ≤ length s.now }
     ensures { result ≡ op_names s.now }
 {
-    (128 <= s[1]) | ((3 <= s[0]) & (128 <= s[2]))
+    128 <= s[1] || (3 <= s[0] && 128 <= s[2])
 }
 
 // Whether a closer can test a port; 255 is no test.
@@ -295,7 +257,7 @@ fn test_names(closer: Closer) -> bool
 {
     match closer {
         Closer::End => false,
-        Closer::Time(_, x) | Closer::Event(_, x) => (128 <= x.test) & !(x.test == 255),
+        Closer::Time(_, x) | Closer::Event(_, x) => 128 <= x.test && x.test != 255,
     }
 }
 
@@ -303,14 +265,11 @@ fn test_names(closer: Closer) -> bool
 pub fn record_names(r: &[u8]) -> bool
     ensures { result ≡ record_names r.now }
 {
-    let n = count_in(r);
-    let mut j = 0;
-    while j < n {
+    for j in 0..count_in(r) {
         let at = 17 + 6 * j;
         if op_names(&r[at..]) {
             return true;
         }
-        j += 1;
     }
     test_names(closer_in(r))
 }

@@ -1,5 +1,4 @@
 -- `reader_segment::test_names` meets its contract, closer by closer.
-use mathlib.Core.Path.{refl}
 use mathlib.Core.Logic.{⊎_elim}
 use borrow.Author.Rules.{rules}
 use Rattle.reader_segment.specs.Parts.{test_names}
@@ -9,6 +8,10 @@ pub returns-in-End : goal.returns-in-End
 unfolding test_names
 returns-in-End c = search rules
 
-pub returns-in-Time : goal.returns-in-Time
+pub returns-then-x-ge128 : goal.returns-then-x-ge128
 unfolding test_names
-returns-in-Time c = ⊎_elim (λ w. rw w.1 refl) (λ w. rw w.1 refl) c.in-Time.is
+returns-then-x-ge128 c = ⊎_elim (λ w. rw w.1 (search rules)) (λ w. rw w.1 (search rules)) c.in-Time.is
+
+pub returns-else-x-ge128 : goal.returns-else-x-ge128
+unfolding test_names
+returns-else-x-ge128 c = ⊎_elim (λ w. rw w.1 (search rules)) (λ w. rw w.1 (search rules)) c.in-Time.is
