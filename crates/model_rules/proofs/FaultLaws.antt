@@ -1,22 +1,23 @@
 -- The exits of the functions that look for a first fault, and of those that look for a target that leaves the model.
---     unless-kept, unless-broken, unless-zero, unless-both, unless-both-then, unless-either     a rule's number; that of two rules together
+--     unless-kept, unless-broken, unless-zero, unless-both, unless-either     a rule's number; that of two rules together
 --     fault-here, fault-later     the first of two faults
 --     segment_at-read, start_at-read     what the code reads is what the definitions name; segment_at-past, start_at-past
+--     segment_at-taken, start_at-taken, statement_fault-taken, closer-taken     the same in the part of a list that the code goes over
 --     statements_fault-here, statements_fault-none     the loop over statements
---     fault_at-read, first_rest, segments_fault-asked, targets_fault-asked     what is asked of a segment
---     both_below, not-both-below, any_start_leaves-here, any_start_leaves-end     the loop over threads
+--     placed_fault-here, placed_fault-end     a loop over those that there are places for
+--     segment_leaves-here, segment_leaves-end, any_start_leaves-here, any_start_leaves-end     whether one leaves the model
+--     ports_fault-here, ports_fault-none, lack_fault-here, lack_fault-end     the loops over ports, and over what threads lack
 use Prim.Native.Nat.{ℕ, ◌<◌, ◌≤◌, min}
 use mathlib.Core.Path.{◌≡◌, refl, ap, sym, ◌∙◌}
 use mathlib.Core.Bool.{Bool, true, false, not, ◌&&◌, ◌||◌}
 use native.Mathlib.Omega.{arith}
 use native.Mathlib.Decide.{dec_lt, dec_le}
 use mathlib.Core.List.{List}
-use lib.Dec.{ltb, leb, eqb, ltb→lt}
+use lib.Dec.{ltb, leb, eqb}
 use lib.ListN.{length, get_or, take, get_or-eq_default, length-take}
 use lib.Seq.{get_or-take}
-use borrow.Author.Tests.{lt-ltb, le-ltb, le-leb, lt-leb, ltb-false}
+use borrow.Author.Tests.{lt-ltb, le-ltb, le-leb, lt-leb}
 use Rattle.base.specs.Index.{or_else, first_below}
-use Rattle.base.proofs.BoolLaws.{true→T, and→both}
 use Rattle.base.proofs.IndexLaws.{any_below-empty, any_below-here, or_else-none, or_else-some, first_below-here, first_below-same}
 use Rattle.base.proofs.ListLaws.{get_d_any}
 use Rattle.model.specs.declared.Segment.{Segment}
@@ -24,8 +25,8 @@ use Rattle.model.specs.declared.Statement.{Statement}
 use Rattle.model.specs.declared.Start.{Start}
 use Rattle.model.specs.declared.Model.{Model}
 use Rattle.model.specs.Port.{unused, port_of}
-use Rattle.model.specs.Values.{no_statement, no_segment, no_start, segment_at, start_at, ports_at}
-use Rattle.model.specs.Rules.{unless, op_fault, statements_fault, leaves_model, any_segment_leaves, any_start_leaves, ports_fault, starts_fault, lack_fault}
+use Rattle.model.specs.Values.{no_statement, no_segment, no_start, segment_at, start_at}
+use Rattle.model.specs.Rules.{unless, op_fault, statements_fault, leaves_model, any_segment_leaves, any_start_leaves, ports_fault, lack_fault}
 use Rattle.model.specs.Reach.{lacks_from}
 use Rattle.masks.specs.Mask.{bit_at}
 use Rattle.model_reach.specs.Lacks.{HoldsLacks}
@@ -46,19 +47,9 @@ pub unless-both : (a b : Bool) (x : ℕ) → (x ≡ 0 → ⊥) → or_else (unle
 unless-both true b x n = or_else-none 0 (unless b x) refl
 unless-both false b x n = or_else-some x (unless b x) n
 
--- and a third after them
-pub unless-both-then : (a b : Bool) (x y : ℕ) → (x ≡ 0 → ⊥) → or_else (unless (a && b) x) y ≡ or_else (unless a x) (or_else (unless b x) y)
-unless-both-then true b x y n = sym (or_else-none 0 (or_else (unless b x) y) refl)
-unless-both-then false b x y n = or_else-some x y n ∙ sym (or_else-some x (or_else (unless b x) y) n)
-
 pub unless-either : (a b : Bool) (x : ℕ) → (x ≡ 0 → ⊥) → or_else (unless (not a) x) (unless (not b) x) ≡ unless (not (a || b)) x
 unless-either true b x n = or_else-some x (unless (not b) x) n
 unless-either false b x n = or_else-none 0 (unless (not b) x) refl
-
--- a rule that gives a number is broken, and the number is its own
-pub unless-said : (t : Bool) (x n : ℕ) → (n ≡ 0 → ⊥) → n ≡ unless t x → (t ≡ false) × (n ≡ x)
-unless-said true x n h e = absurd (h e)
-unless-said false x n h e = (refl, e)
 
 pub fault-here : (a b x : ℕ) → x ≡ a → (x ≡ 0 → ⊥) → x ≡ or_else a b
 fault-here a b x e n = e ∙ sym (or_else-some a b (λ z. n (e ∙ z)))
@@ -143,13 +134,6 @@ module _ (n most : ℕ) (f : ℕ → ℕ) where
           let before : first_below most placed_fault ≡ 0 = rw same at (placed_fault-none k (omega arith) none) in
           rw (lt-leb n most (omega arith)) (sym full ∙ sym (first_below-here most n placed_fault (omega arith) before (λ z. let q = sym full ∙ z in omega arith)))
 
--- an index below two counts, or not
-pub both_below : (k a b : ℕ) → (ltb k a && ltb k b) ≡ true → (k < a) × (k < b)
-both_below k a b h = let (p, q) = and→both (ltb k a) (ltb k b) (true→T _ h) in (ltb→lt k a p, ltb→lt k b q)
-
-pub not-both-below : (k a b : ℕ) → (ltb k a && ltb k b) ≡ false → k < a → b ≤ k
-not-both-below k a b h l = ltb-false k b (rw (lt-ltb k a l) at h)
-
 -- the closer of the segment that the code reads
 pub closer-taken : (n : ℕ) (gs : List Segment) (i : ℕ) (d : Segment) → i < length (take n gs) → (get_or gs i no_segment).closer ≡ (get_or (take n gs) i d).closer
 closer-taken n gs i d h =
@@ -230,10 +214,6 @@ unfoldable pub port_wrong : ℕ → List ℕ → ℕ → Bool
 port_wrong v ps p = not (eqb (port_of ps p) unused || ltb (port_of ps p) v)
 
 module _ (v : ℕ) (ps : List ℕ) where
-  pub port_wrong-is : (p : ℕ) (t : Bool) → not (eqb (port_of ps p) 255 || ltb (port_of ps p) v) ≡ t → port_wrong v ps p ≡ t
-  unfolding port_wrong
-  port_wrong-is p t e = e
-
   pub port_wrong-at : (p : ℕ) → (port_of ps p ≡ 255 → ⊥) → v ≤ port_of ps p → port_wrong v ps p ≡ true
   unfolding port_wrong
   port_wrong-at p n l = grind arith
@@ -253,40 +233,6 @@ module _ (v : ℕ) (ps : List ℕ) where
   pub ports_fault-none : (p : ℕ) → 8 ≤ p → ((i : ℕ) → i < p → port_wrong v ps i ≡ false) → 0 ≡ ports_fault v ps
   unfolding ports_fault port_wrong
   ports_fault-none p h all = rw (any_below-empty 8 (port_wrong v ps) (λ i l. all i (omega arith))) refl
-
--- the faults of thread k: "33rd thread", its ports
-unfoldable pub start_fault : Model → ℕ → ℕ
-start_fault m k = or_else (unless (ltb k 32) 4) (ports_fault m.v (ports_at m k))
-
-module _ (m : Model) where
-  pub start_fault-read : (k : ℕ) (d : Start) (x : ℕ) → k < 32 → length m.starts ≡ 32 → x ≡ ports_fault m.v (get_or m.starts k d).ports → x ≡ start_fault m k
-  unfolding start_fault ports_at
-  start_fault-read k d x l e f =
-      f ∙ (ap (λ (s : Start). ports_fault m.v s.ports) (start_at-read m k d (omega arith)) ∙ sym (or_else-none (unless (ltb k 32) 4) _ (rw (lt-ltb k 32 l) refl)))
-
-  pub starts_fault-here : (k x : ℕ) → k < m.t → first_below k (start_fault m) ≡ 0 → x ≡ start_fault m k → (x ≡ 0 → ⊥) → x ≡ starts_fault m
-  unfolding starts_fault start_fault
-  starts_fault-here k x l h e n = e ∙ sym (first_below-here k m.t (start_fault m) l h (λ z. n (e ∙ z)))
-
-  pub starts_fault-end : (k : ℕ) → k ≤ m.t → (k < m.t → 32 ≤ k) → k ≤ 32 → first_below k (start_fault m) ≡ 0 → unless (leb m.t 32) 4 ≡ starts_fault m
-  unfolding starts_fault start_fault
-  starts_fault-end k h more few none = go (dec_lt k m.t)
-    where
-      all : k ≡ m.t → unless (leb m.t 32) 4 ≡ starts_fault m
-      all e = rw (le-leb m.t 32 (omega arith)) (sym none ∙ ap (λ (n : ℕ). first_below n (start_fault m)) e)
-
-      broken : 32 ≤ k → unless (ltb k 32) 4 ≡ 4
-      broken b = rw (le-ltb k 32 b) refl
-
-      at-32 : k < m.t → 32 ≤ k → unless (leb m.t 32) 4 ≡ starts_fault m
-      at-32 l b =
-          let e : k ≡ 32 = omega arith in
-          let f : start_fault m k ≡ 4 = or_else-some (unless (ltb k 32) 4) (ports_fault m.v (ports_at m k)) (λ z. absurd (omega (arith, broken b, z))) ∙ broken b in
-          rw (lt-leb m.t 32 (omega arith)) (sym f ∙ sym (first_below-here k m.t (start_fault m) l none (λ z. let q = sym f ∙ z in omega arith)))
-
-      go : Dec (k < m.t) → unless (leb m.t 32) 4 ≡ starts_fault m
-      go (yes l) = at-32 l (more l)
-      go (no l) = all (omega arith)
 
 -- whether thread k can reach a port that it leaves unused
 unfoldable pub start_lacks : Model → ℕ → Bool
