@@ -14,7 +14,7 @@ ghost use Rattle.writer.specs.Back.{ReadsBack};
 
 use buffers::Written;
 use clock::Time;
-use model::{Closer, Model, Start};
+use model::{Model, Start};
 
 // Document 01: "head, length 10".
 fn put_head(out: &mut [u8], at: usize, horizon: Time, v: u8, e: u8) -> usize
@@ -30,12 +30,11 @@ fn put_head(out: &mut [u8], at: usize, horizon: Time, v: u8, e: u8) -> usize
 fn put_segments(out: &mut [u8], at: usize, m: Model) -> usize
     ensures { Puts out.old at out.new result (joined m.n 0 (λ i. segment_bytes (segment_at m i))) }
 {
+    let none = model_effect::no_segment();
     let mut to = at.min(out.len());
     for i in 0..usize::from(m.n) {
-        to = match m.segments.get(i) {
-            Some(g) => writer_segment::put_segment(out, to, *g),
-            None => writer_segment::put_front(out, to, 0, Closer::End),
-        };
+        let g = m.segments.get(i).unwrap_or(&none);
+        to = writer_segment::put_segment(out, to, *g);
     }
     to
 }
@@ -82,12 +81,11 @@ fn put_thread(out: &mut [u8], at: usize, s: Start) -> usize
 fn put_starts(out: &mut [u8], at: usize, m: Model) -> usize
     ensures { Puts out.old at out.new result (joined m.t 0 (λ k. start_bytes (start_at m k))) }
 {
+    let none = model_effect::no_start();
     let mut to = at.min(out.len());
     for k in 0..usize::from(m.t) {
-        to = match m.starts.get(k) {
-            Some(s) => put_thread(out, to, *s),
-            None => put_start(out, to, 0),
-        };
+        let s = m.starts.get(k).copied().unwrap_or(none);
+        to = put_thread(out, to, s);
     }
     to
 }
@@ -116,12 +114,11 @@ fn start_size(ports: [u8; 8]) -> usize
 fn starts_size(m: Model) -> usize
     ensures { (result ≡ length (joined m.t 0 (λ k. start_bytes (start_at m k)))) × (result ≤ 4335) }
 {
+    let none = model_effect::no_start();
     let mut size = 0;
     for i in 0..usize::from(m.t) {
-        size += match m.starts.get(i) {
-            Some(s) => start_size(s.ports),
-            None => 5,
-        };
+        let s = m.starts.get(i).copied().unwrap_or(none);
+        size += start_size(s.ports);
     }
     size
 }
@@ -132,10 +129,8 @@ pub fn size_of(m: Model) -> usize
 {
     let mut size = 14 + starts_size(m);
     for i in 0..usize::from(m.n) {
-        size += match m.segments.get(i) {
-            Some(g) => 17 + 6 * usize::from(g.n),
-            None => 17,
-        };
+        let n = m.segments.get(i).map_or(0, |g| g.n);
+        size += 17 + 6 * usize::from(n);
     }
     size
 }
