@@ -17,6 +17,24 @@ struct Masks {
     uses: u64,
 }
 
+impl Masks {
+    fn join(self, other: Masks) -> Masks
+        ensures { result ≡ join_masks self other }
+    {
+        Masks {
+            writes: self.writes | other.writes,
+            uses: self.uses | other.uses,
+        }
+    }
+
+    // Document 01: "both access a variable which at least one writes".
+    fn clashes(self, other: Masks) -> bool
+        ensures { result ≡ clash self other }
+    {
+        self.uses & other.uses & (self.writes | other.writes) != 0
+    }
+}
+
 // Variable x as a bit; none for a port, which names no variable by itself, and none for 255.
 fn bit(x: u32) -> u64
     ensures { result ≡ bit_of x }
@@ -31,7 +49,7 @@ fn bit(x: u32) -> u64
 fn one_mask(a: u8) -> Masks
     ensures { result ≡ masks (bit_of a) (bit_of a) }
 {
-    let w = bit(a as u32);
+    let w = bit(u32::from(a));
     Masks { writes: w, uses: w }
 }
 
@@ -39,7 +57,7 @@ fn one_mask(a: u8) -> Masks
 fn two_masks(a: u8, b: u32) -> Masks
     ensures { result ≡ masks (bit_of a) (bit_or (bit_of a) (bit_of b)) }
 {
-    let w = bit(a as u32);
+    let w = bit(u32::from(a));
     Masks {
         writes: w,
         uses: w | bit(b),
@@ -62,16 +80,7 @@ fn test_mask(closer: Closer) -> u64
 {
     match closer {
         Closer::End => 0,
-        Closer::Time(_, x) | Closer::Event(_, x) => bit(x.test as u32),
-    }
-}
-
-fn join_masks(a: Masks, b: Masks) -> Masks
-    ensures { result ≡ join_masks a b }
-{
-    Masks {
-        writes: a.writes | b.writes,
-        uses: a.uses | b.uses,
+        Closer::Time(_, x) | Closer::Event(_, x) => bit(u32::from(x.test)),
     }
 }
 
@@ -80,27 +89,14 @@ fn masks_of(g: Segment) -> Masks
     ensures value { result ≡ masks_of g }
     ensures placed { g.n ≤ length g.statements }
 {
-    let n = g.n as usize;
     let mut a = Masks { writes: 0, uses: 0 };
-    let mut j = 0;
-    while j < n {
-        let x = g.statements[j];
-        let op = x.op;
-        a = join_masks(a, op_masks(op));
-        j += 1;
+    for x in &g.statements[..usize::from(g.n)] {
+        a = a.join(op_masks(x.op));
     }
-    let closer = g.closer;
     Masks {
         writes: a.writes,
-        uses: a.uses | test_mask(closer),
+        uses: a.uses | test_mask(g.closer),
     }
-}
-
-// Document 01: "both access a variable which at least one writes".
-fn clashes(a: Masks, b: Masks) -> bool
-    ensures { result ≡ clash a b }
-{
-    a.uses & b.uses & (a.writes | b.writes) != 0
 }
 
 fn masks_for(m: Model, n: usize) -> [Masks; 64]
@@ -109,11 +105,8 @@ fn masks_for(m: Model, n: usize) -> [Masks; 64]
     ensures placed { (i : ℕ) → i < n → (segment_at m i).n ≤ length (segment_at m i).statements }
 {
     let mut all = [Masks { writes: 0, uses: 0 }; 64];
-    let mut i = 0;
-    while i < n {
-        let g = m.segments[i];
-        all[i] = masks_of(g);
-        i += 1;
+    for (i, g) in m.segments[..n].iter().enumerate() {
+        all[i] = masks_of(*g);
     }
     all
 }
@@ -124,11 +117,8 @@ fn row_marks(all: [Masks; 64], n: usize, r: usize) -> [bool; 64]
 {
     let mut out = [false; 64];
     let a = all[r];
-    let mut s = 0;
-    while s < n {
-        let b = all[s];
-        out[s] = clashes(a, b);
-        s += 1;
+    for (s, b) in all[..n].iter().enumerate() {
+        out[s] = a.clashes(*b);
     }
     out
 }
@@ -138,10 +128,8 @@ fn all_marks(all: [Masks; 64], n: usize) -> [[bool; 64]; 64]
     ensures { result ≡ rows_to all n n }
 {
     let mut out = [[false; 64]; 64];
-    let mut r = 0;
-    while r < n {
+    for r in 0..n {
         out[r] = row_marks(all, n, r);
-        r += 1;
     }
     out
 }

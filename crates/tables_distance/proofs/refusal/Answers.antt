@@ -4,14 +4,10 @@ use mathlib.Core.Path.{refl, sym, ◌∙◌}
 use native.Mathlib.Omega.{arith}
 use borrow.Author.Tests.{lt-ltb, le-ltb}
 use Rattle.tables.proofs.OutcomeLaws.{if_held-yes, if_held-no}
-use Rattle.tables_distance.proofs.StoreLaws.{square-small}
 use Rattle.tables_distance.proofs.refusal.Goals as goal
 
 pub returns-then-model_fault-ne0 : goal.returns-then-model_fault-ne0
 returns-then-model_fault-ne0 c = sym (if_held-no c.args.m _ 11 (λ e. omega arith))
-
-pub overflow_mul-n : goal.overflow_mul-n
-overflow_mul-n c = let h = square-small c.args.m (sym c.model_fault.ensures ∙ c.if-model_fault-ne0.false) in omega arith
 
 pub returns-then-size-n : goal.returns-then-size-n
 returns-then-size-n c =
