@@ -34,7 +34,7 @@ FAULTS = [
     (EARLY, "a hazard of the segments that threads are in now alone", "early_hazard/src/lib.rt", "        if conflicts_at(marked, own, names, ports, s) {", "        if conflicts_at(marked, own, names, ports, s) && s * k == p {"),
     (EARLY, "the first notification logged, not the least", "early_log/src/lib.rt", "best = clock::least_of(Bound::At(c), best);", "best = Bound::At(c);"),
     (EARLY, "a notification in the cycle of the wait is lost", "early_log/src/lib.rt", "            if c >= since {", "            if c > since {"),
-    (EARLY, "a forecast equal to the logged cycle", "early_deliver/src/lib.rt", "o.limits, t, e) < early_ahead::limit_of(c) {", "o.limits, t, e) <= early_ahead::limit_of(c) {"),
+    (EARLY, "a forecast equal to the logged cycle", "early_deliver/src/lib.rt", "if soonest < early_ahead::limit_of(c) {", "if soonest <= early_ahead::limit_of(c) {"),
     (EARLY, "96 counted in", "early_answer/src/lib.rt", "    if places <= 96 {", "    if places < 96 {"),
     (EARLY, "notifications at the floor dropped", "early_log/src/lib.rt", "    x.cycle < f\n", "    x.cycle <= f\n"),
     (EARLY, "equal cycles are no hazard", "early_ahead/src/lib.rt", "        return j < i;\n", "        return false;\n"),
