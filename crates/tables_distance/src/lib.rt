@@ -3,6 +3,7 @@
 
 ghost use Rattle.std.specs.Prelude.{◌≡◌, cond, ◌+◌, ◌*◌, ◌≤◌, ◌<◌, ltb, length};
 ghost use Rattle.clock.specs.Advance.{advance_of};
+ghost use Rattle.refusal.specs.Number.{number_told};
 ghost use Rattle.model.specs.Refusal.{accepted, unfit, short_table};
 ghost use Rattle.model.specs.Rules.{model_fault};
 ghost use Rattle.tables.specs.Word.{stored, HoldsDistances};
@@ -11,6 +12,7 @@ ghost use Rattle.tables_distance.specs.Store.{far, held_word, sum_word, steps_of
 
 use clock::{Delay, Wait};
 use model::{CUT_WORD, Closer, Model};
+use refusal::Refusal;
 
 // Document 01: "'never' as all ones".
 const NEVER: u64 = u64::MAX;
@@ -166,29 +168,27 @@ fn fill(m: Model, words: &mut [u64])
     cut_words(words, n * n);
 }
 
-// 11 if the model breaks the file rules, then 16 for a buffer of fewer than N × N words.
-fn refusal(m: Model, size: usize) -> u8
-    ensures { result ≡ if_held m (cond (ltb size (m.n * m.n)) short_table accepted) unfit }
+// Unfit if the model breaks the file rules, then a short table for a buffer of fewer than N × N words.
+fn refusal(m: Model, size: usize) -> Result<(), Refusal>
+    ensures { number_told result ≡ if_held m (cond (ltb size (m.n * m.n)) short_table accepted) unfit }
 {
-    if model_rules::model_fault(m) != 0 {
-        return 11;
+    if model_rules::model_fault(m).is_err() {
+        return Err(Refusal::Unfit);
     }
     let n = m.n as usize;
     if size < n * n {
-        return 16;
+        return Err(Refusal::ShortTable);
     }
-    0
+    Ok(())
 }
 
 // The distances of a held model, N × N words, each the least over all paths. On a refusal no word is written.
-pub fn distances(m: Model, words: &mut [u64]) -> u8
-    ensures number { result ≡ distances_number m words.old }
+pub fn distances(m: Model, words: &mut [u64]) -> Result<(), Refusal>
+    ensures number { number_told result ≡ distances_number m words.old }
     ensures buffer { words.new ≡ distances_buffer m words.old }
-    ensures least { result ≡ accepted → HoldsDistances m words.new }
+    ensures least { number_told result ≡ accepted → HoldsDistances m words.new }
 {
-    let number = refusal(m, words.len());
-    if number == 0 {
-        fill(m, words);
-    }
-    number
+    refusal(m, words.len())?;
+    fill(m, words);
+    Ok(())
 }
