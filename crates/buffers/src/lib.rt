@@ -1,7 +1,8 @@
 // Bytes and words in lent buffers: parts of a text put from a place on, a text written whole or not at all, words read with 0 past the end.
 #![tactic(auto)]
 
-ghost use Rattle.std.specs.Prelude.{◌+◌, ◌<◌, ◌≤◌, min, ◌≡◌, [], ◌∷◌, get_or};
+ghost use Rattle.std.specs.Prelude.{◌+◌, ◌<◌, ◌≤◌, min, ◌≡◌, [], ◌∷◌, length, get_or};
+ghost use Rattle.std.proofs.lemmas.List.Edits.{sets};
 ghost use Rattle.buffers.specs.Digits.{digits_of};
 ghost use Rattle.buffers.specs.Line.{rest_of};
 ghost use Rattle.buffers.specs.Put.{Puts};
@@ -137,4 +138,12 @@ pub fn copy_in(text: &[u8], out: &mut [u8]) -> usize
     }
     out[..text.len()].copy_from_slice(text);
     text.len()
+}
+
+// Values from place `at` on.
+pub fn put<T: Copy>(out: &mut [T], at: usize, from: &[T])
+    requires { at + length from.now ≤ length out.old }
+    ensures { out.new ≡ sets out.old at from.now }
+{
+    out[at..at + from.len()].copy_from_slice(from);
 }

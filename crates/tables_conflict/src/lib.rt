@@ -3,12 +3,14 @@
 
 ghost use Rattle.std.specs.Prelude.{◌≡◌, ℕ, ◌≤◌, ◌<◌, length};
 ghost use Rattle.std.specs.Int.Bits.{bit_or};
+ghost use Rattle.refusal.specs.Number.{number_told};
 ghost use Rattle.model.specs.Values.{segment_at};
 ghost use Rattle.tables.specs.Outcome.{if_held, conflict_number, conflict_marks};
 ghost use Rattle.masks.specs.Mask.{bit_of};
 ghost use Rattle.tables_conflict.specs.Mask.{masks, op_masks, test_mask, join_masks, masks_of, clash, masks_for, row_to, rows_to};
 
 use model::{Closer, Model, Op, Segment};
+use refusal::Refusal;
 
 // The variables that a segment writes, and those that it writes, reads or tests: variable v is bit v.
 #[derive(Clone, Copy)]
@@ -134,27 +136,27 @@ fn all_marks(all: [Masks; 64], n: usize) -> [[bool; 64]; 64]
     out
 }
 
-// The number beside a held model's marks: 11 if it breaks the file rules.
-pub fn conflict_number(m: Model) -> u8
-    ensures { result ≡ conflict_number m }
+// Whether a held model has marks: unfit if it breaks the file rules.
+pub fn conflict_number(m: Model) -> Result<(), Refusal>
+    ensures { number_told result ≡ conflict_number m }
 {
-    if model_rules::model_fault(m) != 0 {
-        return 11;
+    if model_rules::model_fault(m).is_err() {
+        return Err(Refusal::Unfit);
     }
-    0
+    Ok(())
 }
 
-// How many segments have marks: none where the number is not 0.
+// How many segments have marks: none of an unfit model.
 fn marked_segments(m: Model) -> usize
     ensures { result ≡ if_held m m.n 0 }
 {
-    if conflict_number(m) != 0 {
+    if conflict_number(m).is_err() {
         return 0;
     }
-    m.n as usize
+    usize::from(m.n)
 }
 
-// Document 01: "a table of 64 rows of 64 marks, handed on by value". All unset where the number is not 0.
+// Document 01: "a table of 64 rows of 64 marks, handed on by value". All unset for an unfit model.
 pub fn conflict_marks(m: Model) -> [[bool; 64]; 64]
     ensures { result ≡ conflict_marks m }
 {

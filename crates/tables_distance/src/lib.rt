@@ -3,6 +3,7 @@
 
 ghost use Rattle.std.specs.Prelude.{◌≡◌, cond, ◌+◌, ◌*◌, ◌≤◌, ◌<◌, ltb, length};
 ghost use Rattle.clock.specs.Advance.{advance_of};
+ghost use Rattle.refusal.specs.Number.{number_told};
 ghost use Rattle.model.specs.Refusal.{accepted, unfit, short_table};
 ghost use Rattle.model.specs.Rules.{model_fault};
 ghost use Rattle.tables.specs.Word.{stored, HoldsDistances};
@@ -11,6 +12,7 @@ ghost use Rattle.tables_distance.specs.Store.{far, held_word, sum_word, steps_of
 
 use clock::{Delay, Wait};
 use model::{CUT_WORD, Closer, Model};
+use refusal::Refusal;
 
 // Document 01: "'never' as all ones".
 const NEVER: u64 = u64::MAX;
@@ -70,12 +72,11 @@ fn direct_word(g: Steps, r: usize, s: usize) -> u64
     }
 }
 
-// Row r, which begins at place p: ways of at most one step.
-fn direct_row(words: &mut [u64], n: usize, r: usize, p: usize, g: Steps)
-    requires { p + n ≤ length words.old }
-    ensures { words.new ≡ direct_to g r p words.old n }
+// Row r: ways of at most one step.
+fn direct_row(row: &mut [u64], r: usize, g: Steps)
+    ensures { row.new ≡ direct_to g r 0 row.old (length row.old) }
 {
-    for (s, w) in words[p..p + n].iter_mut().enumerate() {
+    for (s, w) in row.iter_mut().enumerate() {
         *w = direct_word(g, r, s);
     }
 }
@@ -108,7 +109,8 @@ fn relax_row(words: &mut [u64], n: usize, a: u64, p: usize, q: usize)
     }
 }
 
-// One round: every row, with ways over place k.
+// One round: every row, with ways over place k. The words and N stay two parameters, here and below: a struct of both would have to be lent
+// anew for each call, and is no plainer.
 fn round(words: &mut [u64], n: usize, k: usize)
     requires { (k < n) × (n * n ≤ length words.old) }
     ensures { words.new ≡ round_to n k words.old n }
@@ -151,7 +153,7 @@ fn direct_rows(m: Model, words: &mut [u64], n: usize)
     ensures { words.new ≡ direct_rows m words.old n }
 {
     for (r, g) in m.segments[..n].iter().enumerate() {
-        direct_row(words, n, r, r * n, steps_of(g.closer));
+        direct_row(&mut words[r * n..r * n + n], r, steps_of(g.closer));
     }
 }
 
@@ -166,29 +168,27 @@ fn fill(m: Model, words: &mut [u64])
     cut_words(words, n * n);
 }
 
-// 11 if the model breaks the file rules, then 16 for a buffer of fewer than N × N words.
-fn refusal(m: Model, size: usize) -> u8
-    ensures { result ≡ if_held m (cond (ltb size (m.n * m.n)) short_table accepted) unfit }
+// Unfit if the model breaks the file rules, then a short table for a buffer of fewer than N × N words.
+fn refusal(m: Model, size: usize) -> Result<(), Refusal>
+    ensures { number_told result ≡ if_held m (cond (ltb size (m.n * m.n)) short_table accepted) unfit }
 {
-    if model_rules::model_fault(m) != 0 {
-        return 11;
+    if model_rules::model_fault(m).is_err() {
+        return Err(Refusal::Unfit);
     }
     let n = m.n as usize;
     if size < n * n {
-        return 16;
+        return Err(Refusal::ShortTable);
     }
-    0
+    Ok(())
 }
 
 // The distances of a held model, N × N words, each the least over all paths. On a refusal no word is written.
-pub fn distances(m: Model, words: &mut [u64]) -> u8
-    ensures number { result ≡ distances_number m words.old }
+pub fn distances(m: Model, words: &mut [u64]) -> Result<(), Refusal>
+    ensures number { number_told result ≡ distances_number m words.old }
     ensures buffer { words.new ≡ distances_buffer m words.old }
-    ensures least { result ≡ accepted → HoldsDistances m words.new }
+    ensures least { number_told result ≡ accepted → HoldsDistances m words.new }
 {
-    let number = refusal(m, words.len());
-    if number == 0 {
-        fill(m, words);
-    }
-    number
+    refusal(m, words.len())?;
+    fill(m, words);
+    Ok(())
 }
