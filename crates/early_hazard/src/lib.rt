@@ -31,10 +31,12 @@ fn conflicts_at(asker: &Asker<'_>, ports: [u8; 8], s: usize) -> bool
     requires { s < 64 }
     ensures { result ≡ conflicts_by asker.now.marked asker.now.own asker.now.names.now ports s }
 {
-    asker.marked[s] || asker.own.uses != 0 && {
-        let other = early_ports::footprint_of(asker.names, ports, s);
-        early_ports::crosses(asker.own, other)
-    }
+    asker.marked[s]
+        || asker.own.uses != 0
+            && {
+                let other = early_ports::footprint_of(asker.names, ports, s);
+                early_ports::crosses(asker.own, other)
+            }
 }
 
 // Whether thread j, no sooner than b, could run a segment that conflicts before the asker, by its row of distances.
