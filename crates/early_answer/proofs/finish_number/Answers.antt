@@ -13,11 +13,11 @@ returns-then-t-k c = let x = c.args in finish-thread x.t x.threads.at x.k (omega
 pub returns-in_default : goal.returns-in_default
 returns-in_default c =
     let x = c.args in
-    let i = c.wide-i in
-    finish-other x.t x.threads.at x.k (omega arith) (ap (λ j. is_running (get_or x.threads.at j no_thread).state) (sym i.ensures.0) ∙ is_running-other (get_or x.threads.at i.result no_thread).state c.in_default.not-Running)
+    let i = c.from-i in
+    finish-other x.t x.threads.at x.k (omega arith) (ap (λ j. is_running (get_or x.threads.at j no_thread).state) (sym i.ensures) ∙ is_running-other (get_or x.threads.at i.result no_thread).state c.in_default.not-Running)
 
 pub returns : goal.returns
 returns c =
     let x = c.args in
-    let i = c.wide-i in
-    finish-running x.t x.threads.at x.k (omega arith) (ap (λ j. is_running (get_or x.threads.at j no_thread).state) (sym i.ensures.0) ∙ is_running-self _ _ c.in-Running.is)
+    let i = c.from-i in
+    finish-running x.t x.threads.at x.k (omega arith) (ap (λ j. is_running (get_or x.threads.at j no_thread).state) (sym i.ensures) ∙ is_running-self _ _ c.in-Running.is)
