@@ -1,11 +1,11 @@
--- `early_answer::finish_number` meets its contract. 10, 19, or 0.
+-- `early_answer::decide_finish` meets its contract. 10, 19, or 0.
 use mathlib.Core.Path.{ap, sym, ◌∙◌}
 use native.Mathlib.Omega.{arith}
 use lib.ListN.{get_or}
 use Rattle.model.specs.Record.{no_thread, is_running}
 use Rattle.early_answer.proofs.AnsweredLaws.{finish-thread, finish-other, finish-running}
 use Rattle.early_answer.proofs.VariantLaws.{is_running-self, is_running-other}
-use Rattle.early_answer.proofs.finish_number.Goals as goal
+use Rattle.early_answer.proofs.decide_finish.Goals as goal
 
 pub returns-then-t-k : goal.returns-then-t-k
 returns-then-t-k c = let x = c.args in finish-thread x.t x.threads.at x.k (omega arith)
