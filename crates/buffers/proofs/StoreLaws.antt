@@ -1,13 +1,15 @@
--- Runs of stores: none past the end, one run after another, one store for each element of a list or for each index.
+-- Runs of stores: none past the end, one run after another, one store for each element of a list or for each index, a part written over.
 -- Assumes nothing.
 use Prim.Native.Nat.{ℕ, suc, ◌+◌, ◌≤◌, ◌<◌}
-use mathlib.Core.Path.{◌≡◌, refl, ap, ◌∙◌}
+use mathlib.Core.Path.{◌≡◌, refl, sym, ap, ◌∙◌}
 use mathlib.Core.List.{List, [], ◌∷◌, ◌++◌, append-nil}
 use native.Mathlib.Omega.{arith}
 use native.Mathlib.Nat.{add-zero, zero-add}
 use native.Mathlib.Numerals.{add-one}
 use lib.ListN.{length, get_or, take, drop, set, replicate, length-replicate, drop_of_length-le}
-use lib.Seq.{sets, sets-eq, set_out, take-suc, length-take-le}
+use borrow.Rule.Slice.PartMut.{put_mid}
+use Rattle.std.proofs.lemmas.Slice.{put_mid-paste}
+use lib.Seq.{sets, take-length, sets-eq, set_out, take-suc, length-take-le}
 use Rattle.base.specs.Index.{tabulate}
 use Rattle.base.proofs.IndexLaws.{tabulate-length, tabulate-more}
 
@@ -53,3 +55,8 @@ module _ {A : Type 0} where
       let k : length l ≡ n = length-replicate n d in
       let z : drop (0 + length t) l ≡ [] = drop_of_length-le l {i = 0 + length t} (omega arith) in
       (rw p at e) ∙ sets-eq t l 0 (omega arith) ∙ ap (λ (r : List A). t ++ r) z ∙ append-nil t
+
+  -- a part of a list written over is a run of stores
+  pub put_mid-sets : (at k : ℕ) (out ys xs : List A) → ys ≡ xs → length xs ≡ k → at + length xs ≤ length out → put_mid at k out ys ≡ sets out at xs
+  put_mid-sets at k out ys xs e n h =
+      put_mid-paste at k out ys xs (length xs) e n refl ∙ ap (λ (l : List A). take at out ++ l ++ drop (at + length xs) out) (take-length xs) ∙ sym (sets-eq xs out at h)

@@ -62,6 +62,10 @@ module _ (text out : List ℕ) where
   writes-all end i g e p =
       record { answer = e ∙ sym (length_in-room g); buffer = p ∙ rw (e, take-length text) (sym (placed_in-room g)) }
 
+  -- copied whole
+  pub writes_room : length text ≤ length out → Writes out (text ++ drop (length text) out) (length text) text
+  writes_room h = record { answer = sym (length_in-room h); buffer = sym (placed_in-room h) }
+
   pub writes_short : length out < length text → Writes out out 0 text
   writes_short g = record { answer = length_in-short g; buffer = placed_in-short g }
 

@@ -1,7 +1,8 @@
 // Bytes and words in lent buffers: parts of a text put from a place on, a text written whole or not at all, words read with 0 past the end.
 #![tactic(auto)]
 
-ghost use Rattle.std.specs.Prelude.{◌+◌, ◌<◌, ◌≤◌, min, ◌≡◌, [], ◌∷◌, get_or};
+ghost use Rattle.std.specs.Prelude.{◌+◌, ◌<◌, ◌≤◌, min, ◌≡◌, [], ◌∷◌, length, get_or};
+ghost use Rattle.std.proofs.lemmas.List.Edits.{sets};
 ghost use Rattle.buffers.specs.Digits.{digits_of};
 ghost use Rattle.buffers.specs.Line.{rest_of};
 ghost use Rattle.buffers.specs.Put.{Puts};
@@ -38,44 +39,38 @@ pub fn written_length(w: Written) -> usize
 pub fn wide(x: u8) -> usize
     ensures { (result ≡ x) × (result < 256) }
 {
-    x as usize
+    usize::from(x)
 }
 
 pub fn long_byte(x: u8) -> u64
     ensures { result ≡ x }
 {
-    x as u64
+    u64::from(x)
 }
 
 pub fn long_word(x: u32) -> u64
     ensures { result ≡ x }
 {
-    x as u64
+    u64::from(x)
 }
 
 pub fn least(a: usize, b: usize) -> usize
     ensures { result ≡ min a b }
 {
-    if a < b { a } else { b }
+    a.min(b)
 }
 
 // A word of 64 bits, and one of 32; 0 past the end.
 pub fn word_at(words: &[u64], i: usize) -> u64
     ensures { result ≡ get_or words.now i 0 }
 {
-    if i < words.len() {
-        return words[i];
-    }
-    0
+    words.get(i).copied().unwrap_or(0)
 }
 
 pub fn value_at(values: &[u32], i: usize) -> u32
     ensures { result ≡ get_or values.now i 0 }
 {
-    if i < values.len() {
-        return values[i];
-    }
-    0
+    values.get(i).copied().unwrap_or(0)
 }
 
 // One byte, where there is room. Each put writes from a place on, as far as there is room, and answers where the next byte goes.
@@ -92,11 +87,9 @@ pub fn put_byte(out: &mut [u8], at: usize, byte: u8) -> usize
 pub fn put_word(out: &mut [u8], at: usize, word: &[u8]) -> usize
     ensures { Puts out.old at out.new result word.now }
 {
-    let mut to = least(at, out.len());
-    let mut i = 0;
-    while i < word.len() {
-        to = put_byte(out, to, word[i]);
-        i += 1;
+    let mut to = at.min(out.len());
+    for byte in word {
+        to = put_byte(out, to, *byte);
     }
     to
 }
@@ -106,7 +99,7 @@ fn digit(d: u64) -> u8
     requires { d < 10 }
     ensures { result ≡ 48 + d }
 {
-    48 + d as u8
+    b'0' + d as u8
 }
 
 // The digits of n / 10, then the last digit.
@@ -143,10 +136,14 @@ pub fn copy_in(text: &[u8], out: &mut [u8]) -> usize
     if out.len() < text.len() {
         return 0;
     }
-    let mut i = 0;
-    while i < text.len() {
-        out[i] = text[i];
-        i += 1;
-    }
-    i
+    out[..text.len()].copy_from_slice(text);
+    text.len()
+}
+
+// Values from place `at` on.
+pub fn put<T: Copy>(out: &mut [T], at: usize, from: &[T])
+    requires { at + length from.now ≤ length out.old }
+    ensures { out.new ≡ sets out.old at from.now }
+{
+    out[at..at + from.len()].copy_from_slice(from);
 }

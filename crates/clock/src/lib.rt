@@ -8,28 +8,28 @@ ghost use Rattle.clock.specs.Wait.{step_over, wait_ends, held_step};
 ghost use Rattle.clock.specs.Advance.{is_bound_before, least};
 
 // Document 01: "Times, deltas and thread numbers are counted separately".
-#[derive(Clone, Copy)]
+#[derive(Clone, Copy, PartialEq, Eq, PartialOrd, Ord)]
 pub struct Time(pub u64);
 
-#[derive(Clone, Copy)]
+#[derive(Clone, Copy, PartialEq, Eq, PartialOrd, Ord)]
 pub struct Delta(pub u32);
 
-#[derive(Clone, Copy)]
+#[derive(Clone, Copy, PartialEq, Eq, PartialOrd, Ord)]
 pub struct ThreadNo(pub u8);
 
 // A number of units of time.
-#[derive(Clone, Copy)]
+#[derive(Clone, Copy, PartialEq, Eq, PartialOrd, Ord)]
 pub struct Delay(pub u32);
 
-// Term: cycle.
-#[derive(Clone, Copy)]
+// Term: cycle. Compared in the order of the fields: time first.
+#[derive(Clone, Copy, PartialEq, Eq, PartialOrd, Ord)]
 pub struct Cycle {
     pub time: Time,
     pub delta: Delta,
 }
 
 // Term: stamp.
-#[derive(Clone, Copy)]
+#[derive(Clone, Copy, PartialEq, Eq, PartialOrd, Ord)]
 pub struct Stamp {
     pub cycle: Cycle,
     pub thread: ThreadNo,
@@ -52,7 +52,7 @@ pub enum Passage {
     TimedWait(Delay),
 }
 
-// Where the end of a wait leaves a thread.
+// Where the end of a wait leaves a thread. Not a Result: an overrun is a state that the thread stays in, and no error.
 #[derive(Clone, Copy)]
 pub enum Step {
     Ready(Cycle),
@@ -60,6 +60,7 @@ pub enum Step {
 }
 
 // A cycle whose delta is not cut, or never. A distance is one too.
+// Not an Option: Never comes after every cycle, and None would come before them.
 #[derive(Clone, Copy)]
 pub enum Bound {
     Never,
@@ -70,16 +71,13 @@ pub enum Bound {
 pub fn is_before(a: Cycle, b: Cycle) -> bool
     ensures { result ≡ is_before a b }
 {
-    if a.time.0 == b.time.0 {
-        return a.delta.0 < b.delta.0;
-    }
-    a.time.0 < b.time.0
+    a < b
 }
 
 pub fn is_same(a: Cycle, b: Cycle) -> bool
     ensures { result ≡ is_same a b }
 {
-    (a.time.0 == b.time.0) & (a.delta.0 == b.delta.0)
+    a == b
 }
 
 // Where a wait that is over at c leads: begun at c for a time, notified at c for an event.
@@ -95,17 +93,14 @@ fn passage_of(w: Wait) -> Passage
 {
     match w {
         Wait::Event => Passage::DeltaNotification,
-        Wait::Time(k) => passage_of_units(k),
+        Wait::Time(k) => {
+            if k.0 == 0 {
+                Passage::ZeroWait
+            } else {
+                Passage::TimedWait(k)
+            }
+        }
     }
-}
-
-fn passage_of_units(k: Delay) -> Passage
-    ensures { result ≡ passage_of (Wait.Time k) }
-{
-    if k.0 == 0 {
-        return Passage::ZeroWait;
-    }
-    Passage::TimedWait(k)
 }
 
 // Document 02: "the step of a cycle over a wait or a wake [..] as cases".
@@ -113,8 +108,7 @@ fn step_over(p: Passage, c: Cycle) -> Step
     ensures { result ≡ held_step (step_over p c) }
 {
     match p {
-        Passage::DeltaNotification => next_delta(c),
-        Passage::ZeroWait => next_delta(c),
+        Passage::DeltaNotification | Passage::ZeroWait => next_delta(c),
         Passage::TimedWait(k) => after_units(k, c),
     }
 }
@@ -124,13 +118,13 @@ pub fn next_delta(c: Cycle) -> Step
     ensures { result ≡ wait_ends Wait.Event c }
 {
     if c.delta.0 < 1023 {
-        let t = c.time;
-        return Step::Ready(Cycle {
-            time: t,
+        Step::Ready(Cycle {
+            time: c.time,
             delta: Delta(c.delta.0 + 1),
-        });
+        })
+    } else {
+        Step::Overrun(c)
     }
-    Step::Overrun(c)
 }
 
 // A timed wait begun at c.
@@ -138,7 +132,7 @@ fn after_units(k: Delay, c: Cycle) -> Step
     ensures { result ≡ held_step (step_over (Passage.TimedWait k) c) }
 {
     Step::Ready(Cycle {
-        time: Time(std::num::wrapping_add_u64(c.time.0, k.0 as u64)),
+        time: Time(c.time.0.wrapping_add(u64::from(k.0))),
         delta: Delta(0),
     })
 }
@@ -159,8 +153,5 @@ pub fn is_bound_before(a: Bound, b: Bound) -> bool
 pub fn least_of(a: Bound, b: Bound) -> Bound
     ensures { result ≡ least a b }
 {
-    if is_bound_before(b, a) {
-        return b;
-    }
-    a
+    if is_bound_before(b, a) { b } else { a }
 }

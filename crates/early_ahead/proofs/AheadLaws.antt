@@ -117,7 +117,3 @@ module _ (reach : List ℕ) (crew : Crew) (xs : List ℕ) (t : ℕ) where
   pub earliest_limits-all : (n : ℕ) (ys : List ℕ) → n ≡ t → ys ≡ after_rounds reach crew t n xs → ys ≡ earliest_limits reach crew t xs
   unfolding earliest_limits
   earliest_limits-all n ys h e = rw h at e
-
--- two lists of 32 limits
-pub same-limits : (xs ys : List ℕ) → length xs ≡ 32 → length ys ≡ 32 → ((k : ℕ) → k < 32 → get_or xs k 0 ≡ get_or ys k 0) → xs ≡ ys
-same-limits xs ys h l e = ext_get_or 0 xs ys (h ∙ sym l) (λ k b. e k (omega arith))

@@ -2,7 +2,7 @@
 --     sum_of-more     a sum is no sooner than its first part
 --     is_sooner_limit-kept     what is not sooner stays so when it grows
 --     lesser-never, lesser-again, lesser_below-most, lesser_below-past     never and repeats do not count in a least
-use Prim.Native.Nat.{ℕ, zero, suc, ◌+◌, ◌*◌, ◌/◌, ◌%◌, ◌≤◌, ◌<◌}
+use Prim.Native.Nat.{ℕ, zero, suc, min, max, ◌+◌, ◌*◌, ◌/◌, ◌%◌, ◌≤◌, ◌<◌}
 use mathlib.Core.Path.{◌≡◌, refl, ap, sym, ◌∙◌}
 use mathlib.Core.Bool.{false, ◌&&◌, or-false}
 use native.Mathlib.Omega.{arith}
@@ -25,6 +25,10 @@ module _ (k x : ℕ) where
   unfolding at_most
   at_most-full h = rw (le-ltb x k h) refl
 
+  pub at_most-min : min x k ≡ at_most k x
+  unfolding at_most
+  at_most-min = cond-case (λ (z : ℕ). min x k ≡ z) (ltb x k) (λ t. omega (arith, ltb→lt x k t)) (λ t. omega (arith, nltb→le x k t))
+
   pub at_most-≤ : (at_most k x ≤ k) × (at_most k x ≤ x)
   unfolding at_most
   at_most-≤ =
@@ -38,13 +42,9 @@ module _ (k x : ℕ) where
   at_most-below i h l = cond-case (λ (z : ℕ). i < z) (ltb x k) (λ t. l) (λ t. h)
 
 module _ (since x : ℕ) where
-  pub raised_limit-since : x < since → since ≡ raised_limit since x
+  pub raised_limit-max : max x since ≡ raised_limit since x
   unfolding raised_limit
-  raised_limit-since h = rw (lt-ltb x since h) refl
-
-  pub raised_limit-kept : since ≤ x → x ≡ raised_limit since x
-  unfolding raised_limit
-  raised_limit-kept h = rw (le-ltb x since h) refl
+  raised_limit-max = cond-case (λ (z : ℕ). max x since ≡ z) (ltb x since) (λ t. omega (arith, ltb→lt x since t)) (λ t. omega (arith, nltb→le x since t))
 
 module _ (c : Cycle) where
   pub limit_of_cycle-never : 70368744177664 ≤ c.time.0 → all_ones ≡ limit_of_cycle c
@@ -65,13 +65,13 @@ module _ (w : ℕ) where
   limit_of_word-at h = rw (lt-ltb (w / 1024) cut_time h) refl
 
 module _ (a b : ℕ) where
-  pub lesser-second : b < a → b ≡ lesser a b
-  unfolding lesser
-  lesser-second h = rw (lt-ltb b a h) refl
-
   pub lesser-first : a ≤ b → a ≡ lesser a b
   unfolding lesser
   lesser-first h = rw (le-ltb b a h) refl
+
+  pub lesser-min : min a b ≡ lesser a b
+  unfolding lesser
+  lesser-min = cond-case (λ (z : ℕ). min a b ≡ z) (ltb b a) (λ t. omega (arith, ltb→lt b a t)) (λ t. omega (arith, nltb→le b a t))
 
   pub lesser-≤ : lesser a b ≤ a
   unfolding lesser

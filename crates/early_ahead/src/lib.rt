@@ -11,7 +11,7 @@ use early_limits::{Crew, Limits};
 use model::CUT_TIME;
 
 // Document 01: "'never' as all ones".
-const NEVER: u64 = 18446744073709551615;
+const NEVER: u64 = u64::MAX;
 
 // A delta is below this.
 const UNIT: u64 = 65536;
@@ -19,20 +19,11 @@ const UNIT: u64 = 65536;
 // From here on a limit stands for never in a sum.
 const TOP: u64 = 4611686018427387904;
 
-fn delta_word(x: u32) -> u64
-    ensures { result ≡ x }
-{
-    x as u64
-}
-
 // x, or k where that is less.
 pub fn at_most(k: usize, x: u8) -> usize
     ensures { (result ≡ at_most k x) × (result ≤ k) }
 {
-    if buffers::wide(x) < k {
-        return buffers::wide(x);
-    }
-    k
+    usize::from(x).min(k)
 }
 
 // A cycle as a limit.
@@ -43,7 +34,7 @@ pub fn limit_of(c: Cycle) -> u64
     if t >= 70368744177664 {
         return NEVER;
     }
-    t * UNIT + delta_word(c.delta.0)
+    t * UNIT + u64::from(c.delta.0)
 }
 
 // Document 01: a distance, "Stored as time × 1,024 + delta in a 64-bit word", as a limit.
@@ -60,20 +51,14 @@ pub fn limit_of_word(w: u64) -> u64
 pub fn lesser_of(a: u64, b: u64) -> u64
     ensures { result ≡ lesser a b }
 {
-    if b < a {
-        return b;
-    }
-    a
+    a.min(b)
 }
 
 // Document 01: "a distance is added as the clock says": a time wait starts the delta anew.
 pub fn sum_of(a: u64, d: u64) -> u64
     ensures { result ≡ sum_of a d }
 {
-    if a >= TOP {
-        return NEVER;
-    }
-    if d >= TOP {
+    if a >= TOP || d >= TOP {
         return NEVER;
     }
     if d < UNIT {
@@ -86,45 +71,31 @@ pub fn sum_of(a: u64, d: u64) -> u64
 fn raised_limit(since: u64, x: u64) -> u64
     ensures { result ≡ raised_limit since x }
 {
-    if x < since {
-        return since;
-    }
-    x
+    x.max(since)
 }
 
 // Thread j at limit b, at a smaller stamp than thread i at c.
 pub fn is_sooner_limit(b: u64, j: usize, c: u64, i: usize) -> bool
     ensures { result ≡ is_sooner_limit b j c i }
 {
-    if b == c {
-        return j < i;
-    }
-    b < c
+    b < c || b == c && j < i
 }
 
 // The way from a segment to event e; never past the end.
 fn reach_at(reach: &[u64], segment: u8, e: u8) -> u64
     ensures { result ≡ get_or reach.now (segment * 32 + e) all_ones }
 {
-    let k = buffers::wide(segment) * 32 + buffers::wide(e);
-    if k < reach.len() {
-        return reach[k];
-    }
-    NEVER
+    let k = usize::from(segment) * 32 + usize::from(e);
+    if k < reach.len() { reach[k] } else { NEVER }
 }
 
 // Term: forecast of event e.
 pub fn forecast(reach: &[u64], segments: [u8; 32], xs: Limits, t: u8, e: u8) -> u64
     ensures { result ≡ forecast_at reach.now segments xs.at t e }
 {
-    let n = at_most(32, t);
     let mut least = NEVER;
-    let mut j = 0;
-    while j < n {
-        let x = xs.at[j];
-        let segment = segments[j];
-        least = lesser_of(least, sum_of(x, reach_at(reach, segment, e)));
-        j += 1;
+    for j in 0..usize::from(t).min(32) {
+        least = least.min(sum_of(xs.at[j], reach_at(reach, segments[j], e)));
     }
     least
 }
@@ -146,39 +117,26 @@ fn relaxed_by(
         return x;
     }
     let notified = raised_limit(since, forecast(reach, segments, xs, t, e));
-    lesser_of(x, sum_of(notified, 1))
+    x.min(sum_of(notified, 1))
 }
 
 // One more round, from the limits of the last.
 fn relaxed_limits(reach: &[u64], crew: Crew, xs: Limits, t: u8) -> Limits
     ensures { result.at ≡ relaxed_limits reach.now crew t xs.at }
 {
-    let n = at_most(32, t);
-    let segments = crew.segments;
     let mut out = xs;
-    let mut k = 0;
-    while k < n {
-        let x = xs.at[k];
-        let e = crew.events[k];
-        let since = crew.since[k];
-        out.at[k] = relaxed_by(reach, segments, xs, t, x, e, since);
-        k += 1;
+    for k in 0..usize::from(t).min(32) {
+        out.at[k] = relaxed_by(
+            reach,
+            crew.segments,
+            xs,
+            t,
+            xs.at[k],
+            crew.events[k],
+            crew.since[k],
+        );
     }
     out
-}
-
-// Whether a round changed nothing.
-fn is_same(a: Limits, b: Limits) -> bool
-    ensures { result ≡ true → a.at ≡ b.at }
-{
-    let mut k = 0;
-    while k < 32 {
-        if a.at[k] != b.at[k] {
-            return false;
-        }
-        k += 1;
-    }
-    true
 }
 
 // Term: earliest, of every thread. Once a round changes nothing, no later one does.
@@ -186,14 +144,12 @@ pub fn earliest(reach: &[u64], crew: Crew, xs: Limits, t: u8) -> Limits
     ensures { result.at ≡ earliest_limits reach.now crew t xs.at }
 {
     let mut x = xs;
-    let mut n = 0;
-    while n < t {
+    for _ in 0..t {
         let y = relaxed_limits(reach, crew, x, t);
-        if is_same(x, y) {
+        if x.at == y.at {
             return y;
         }
         x = y;
-        n += 1;
     }
     x
 }

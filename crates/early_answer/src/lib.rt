@@ -12,6 +12,7 @@ ghost use Rattle.early.specs.Log.{log_of, places_with};
 ghost use Rattle.early.specs.Request.{is_full_by, number_ready, refused_with};
 ghost use Rattle.early.specs.Call.{held_at, with_held, running_from, finish_number};
 ghost use Rattle.early_ports.specs.Cross.{ports_in, segment_with, conflicts_on};
+ghost use Rattle.refusal.specs.Number.{number_of, number_told};
 ghost use Rattle.early_row.specs.Lent.{is_by_steps, lent_of};
 ghost use Rattle.early_answer.specs.Answered.{thread_of, is_grant, is_finish, hazard_on, number_on, call_number_on, effect_from, grant_on, stored_in, effect_on, run_on, emptied_by, called_on, EnoughHeld, HasRoom};
 ghost use Rattle.early_answer.specs.After.{after_of};
@@ -21,6 +22,7 @@ use clock::{Bound, Cycle, Stamp, ThreadNo, Time};
 use early::{After, Answer, Call, Site};
 use early_row::Distances;
 use model::{Events, Ran, Segment, Start, State, Thread, Threads, Variables};
+use refusal::Refusal;
 
 // What calls on one model are answered by, made once: its horizon and counts, the starts of its threads, which segments conflict, what they
 // name, where distances come from, and the ways to the events.
@@ -68,7 +70,7 @@ fn is_full(t: u8, places: usize, threads: Threads, c: Cycle) -> bool
         || places > 96 && clock::is_bound_before(early_deliver::floor_of(threads, t), Bound::At(c))
 }
 
-// 14, 15 or 0, of a ready thread up to the horizon, whose pairs take so many places with the log.
+// 14 or 15, of a ready thread up to the horizon, whose pairs take so many places with the log.
 fn decide_ready(
     desk: &Desk<'_>,
     room: &mut [u64],
@@ -76,10 +78,10 @@ fn decide_ready(
     site: Site,
     threads: Threads,
     at: Stamp,
-) -> u8
+) -> Result<(), Refusal>
     requires { desk.now.t ≤ 32 }
     ensures kept { length room.new ≡ length room.old }
-    ensures number { (es : List ℕ) (l : List Notification) → places ≡ places_with l at.cycle es → (ws : List ℕ) → Shows desk.now.n desk.now.t ws (is_by_steps desk.now.from) (lent_of desk.now.from) (length room.old) threads.at → result ≡ number_ready (hazard_on desk.now.n desk.now.t (conflicts_on desk.now.marks desk.now.names.now desk.now.starts) ws desk.now.reach.now (log_of site) threads.at at.thread.0) (floor_below desk.now.t threads.at) es l at.cycle }
+    ensures number { (es : List ℕ) (l : List Notification) → places ≡ places_with l at.cycle es → (ws : List ℕ) → Shows desk.now.n desk.now.t ws (is_by_steps desk.now.from) (lent_of desk.now.from) (length room.old) threads.at → number_told result ≡ number_ready (hazard_on desk.now.n desk.now.t (conflicts_on desk.now.marks desk.now.names.now desk.now.starts) ws desk.now.reach.now (log_of site) threads.at at.thread.0) (floor_below desk.now.t threads.at) es l at.cycle }
 {
     let o = early_deliver::outlook_of(desk.reach, site, threads, desk.t);
     if early_hazard::hazard(
@@ -94,25 +96,25 @@ fn decide_ready(
         o.limits,
         at,
     ) {
-        return 14;
+        return Err(Refusal::HazardStands);
     }
     if is_full(desk.t, places, threads, at.cycle) {
-        return 15;
+        return Err(Refusal::LogFull);
     }
-    0
+    Ok(())
 }
 
-// The number of a thread that is not ready: 19 for one "already running", 12 for any other.
-fn unready_number(s: State) -> u8
-    ensures { result ≡ cond (is_running s) 19 12 }
+// The refusal of a thread that is not ready: 19 for one "already running", 12 for any other.
+fn unready(s: State) -> Refusal
+    ensures { number_of result ≡ cond (is_running s) 19 12 }
 {
     match s {
-        State::Ended(_) | State::Overrun(_) | State::Ready(_) | State::Waiting(_, _) => 12,
-        State::Running(_) => 19,
+        State::Ended(_) | State::Overrun(_) | State::Ready(_) | State::Waiting(_, _) => Refusal::NotReady,
+        State::Running(_) => Refusal::OutOfTurn,
     }
 }
 
-// The number of a request or a grant on a fit state, 0 where it is granted: by the counts of the model, its horizon and the places that the
+// The refusal of a request or a grant on a fit state: by the counts of the model, its horizon and the places that the
 // segment's pairs take with the log.
 fn decide(
     desk: &Desk<'_>,
@@ -121,21 +123,21 @@ fn decide(
     site: Site,
     threads: Threads,
     k: ThreadNo,
-) -> u8
+) -> Result<(), Refusal>
     requires { desk.now.t ≤ 32 }
     ensures kept { length room.new ≡ length room.old }
-    ensures number { (es : List ℕ) (l : List Notification) → (k.0 < desk.now.t → places ≡ places_with l (cycle_of (thread_at threads.at k.0).state) es) → (ws : List ℕ) → Shows desk.now.n desk.now.t ws (is_by_steps desk.now.from) (lent_of desk.now.from) (length room.old) threads.at → result ≡ number_on (desk.now.horizon.0 + 1) desk.now.n desk.now.t es (conflicts_on desk.now.marks desk.now.names.now desk.now.starts) ws desk.now.reach.now l (log_of site) threads.at k.0 }
+    ensures number { (es : List ℕ) (l : List Notification) → (k.0 < desk.now.t → places ≡ places_with l (cycle_of (thread_at threads.at k.0).state) es) → (ws : List ℕ) → Shows desk.now.n desk.now.t ws (is_by_steps desk.now.from) (lent_of desk.now.from) (length room.old) threads.at → number_told result ≡ number_on (desk.now.horizon.0 + 1) desk.now.n desk.now.t es (conflicts_on desk.now.marks desk.now.names.now desk.now.starts) ws desk.now.reach.now l (log_of site) threads.at k.0 }
 {
     if desk.t <= k.0 {
-        return 10;
+        return Err(Refusal::WrongThread);
     }
     let i = usize::from(k.0);
     let s = threads.at[i].state;
     let State::Ready(c) = s else {
-        return unready_number(s);
+        return Err(unready(s));
     };
     if desk.horizon.0 < c.time.0 {
-        return 13;
+        return Err(Refusal::PastHorizon);
     }
     let at = Stamp {
         cycle: c,
@@ -145,18 +147,18 @@ fn decide(
 }
 
 // Document 02, slip 7: 19 when "one not running is finished, checked after 10; no later number refuses a finish".
-fn finish_number(t: u8, threads: Threads, k: u8) -> u8
+fn decide_finish(t: u8, threads: Threads, k: u8) -> Result<(), Refusal>
     requires { t ≤ 32 }
-    ensures { result ≡ finish_number t threads.at k }
+    ensures { number_told result ≡ finish_number t threads.at k }
 {
     if t <= k {
-        return 10;
+        return Err(Refusal::WrongThread);
     }
     let i = usize::from(k);
     let State::Running(_) = threads.at[i].state else {
-        return 19;
+        return Err(Refusal::OutOfTurn);
     };
-    0
+    Ok(())
 }
 
 // Which thread a call is of, and which call it is.
@@ -180,7 +182,7 @@ fn is_finish(call: Call) -> bool
     matches!(call, Call::Finish(_))
 }
 
-// The number of a call on a fit state.
+// The refusal of a call on a fit state.
 fn decide_call(
     desk: &Desk<'_>,
     room: &mut [u64],
@@ -188,14 +190,14 @@ fn decide_call(
     site: Site,
     threads: Threads,
     call: Call,
-) -> u8
+) -> Result<(), Refusal>
     requires { desk.now.t ≤ 32 }
     ensures kept { length room.new ≡ length room.old }
-    ensures number { (es : List ℕ) (l : List Notification) → (thread_of call < desk.now.t → places ≡ places_with l (cycle_of (thread_at threads.at (thread_of call)).state) es) → (ws : List ℕ) → Shows desk.now.n desk.now.t ws (is_by_steps desk.now.from) (lent_of desk.now.from) (length room.old) threads.at → result ≡ call_number_on (desk.now.horizon.0 + 1) desk.now.n desk.now.t es (conflicts_on desk.now.marks desk.now.names.now desk.now.starts) ws desk.now.reach.now l (log_of site) threads.at call }
+    ensures number { (es : List ℕ) (l : List Notification) → (thread_of call < desk.now.t → places ≡ places_with l (cycle_of (thread_at threads.at (thread_of call)).state) es) → (ws : List ℕ) → Shows desk.now.n desk.now.t ws (is_by_steps desk.now.from) (lent_of desk.now.from) (length room.old) threads.at → number_told result ≡ call_number_on (desk.now.horizon.0 + 1) desk.now.n desk.now.t es (conflicts_on desk.now.marks desk.now.names.now desk.now.starts) ws desk.now.reach.now l (log_of site) threads.at call }
 {
     let k = thread_of(call);
     if is_finish(call) {
-        return finish_number(desk.t, threads, k);
+        return decide_finish(desk.t, threads, k);
     }
     decide(desk, room, places, site, threads, ThreadNo(k))
 }
@@ -369,9 +371,9 @@ pub fn called(
 {
     let k = thread_of(call);
     let places = places_of(desk.t, model_effect::listed(g), counted, threads, k);
-    let number = decide_call(desk, room, places, site, threads, call);
-    if number != 0 {
-        return refused(number, site, threads);
+    let decided = decide_call(desk, room, places, site, threads, call);
+    if let Err(r) = decided {
+        return refused(u8::from(r), site, threads);
     }
     if is_grant(call) {
         return start(site, threads, held, k);

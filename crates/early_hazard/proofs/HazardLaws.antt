@@ -25,20 +25,12 @@ use Rattle.early_ports.specs.Cross.{footprint_of, crosses, ports_in, conflicts_o
 use Rattle.early_ports.proofs.CrossLaws.{crosses-none, conflicts_on-past}
 use Rattle.early_limits.specs.Limit.{limit_of_cycle, limit_of_word, sum_of, is_sooner_limit, at_most}
 use Rattle.early_limits.specs.Ahead.{threatens_limit, hazard_at}
-use Rattle.early_ahead.proofs.LimitLaws.{at_most-less, at_most-full, at_most-≤, sum_of-more, is_sooner_limit-kept}
+use Rattle.early_ahead.proofs.LimitLaws.{at_most-≤, sum_of-more, is_sooner_limit-kept}
 use Rattle.early_hazard.specs.Store.{conflicts_by, threat_at}
 
 -- the places of a row are as many as before
 pub knows-kept : (n room room₀ : ℕ) (ws lent : List ℕ) (stepwise : Bool) → room ≡ room₀ → Knows n ws stepwise lent room₀ → Knows n ws stepwise lent room
 knows-kept n room room₀ ws lent stepwise e knows = rw e knows
-
--- x, and k at most, as the code asks for it
-pub at_most-min : (k x : ℕ) → min x k ≡ at_most k x
-at_most-min k x = go (dec_lt x k)
-  where
-    go : Dec (x < k) → min x k ≡ at_most k x
-    go (yes h) = let e = at_most-less k x h in omega arith
-    go (no h) = let e = at_most-full k x (omega arith) in omega arith
 
 pub any_below-more : (n : ℕ) (f : ℕ → Bool) → any_below n f ≡ false → f n ≡ false → any_below (n + 1) f ≡ false
 unfolding any_below

@@ -80,22 +80,6 @@ module _ (xs : List ℕ) where
   unfolding cleared
   cleared-all ys p k l = p.at k l ∙ rw (lt-ltb k 2048 l) refl
 
--- the lesser of two, and 64 at most, as the code asks for them
-pub lesser-min : (a b : ℕ) → min a b ≡ lesser a b
-unfolding lesser
-lesser-min a b = go (dec_lt b a)
-  where
-    go : Dec (b < a) → min a b ≡ cond (ltb b a) b a
-    go (yes h) = rw (lt-ltb b a h) (omega arith)
-    go (no h) = rw (le-ltb b a (omega arith)) (omega arith)
-
-pub at_most-min : (k x : ℕ) → min x k ≡ at_most k x
-at_most-min k x = go (dec_lt x k)
-  where
-    go : Dec (x < k) → min x k ≡ at_most k x
-    go (yes h) = let e = at_most-less k x h in omega arith
-    go (no h) = let e = at_most-full k x (omega arith) in omega arith
-
 -- one row
 
 cond_same : (l : Bool) (x : ℕ) → cond l x x ≡ x

@@ -70,7 +70,7 @@ pub fn fresh(m: Model) -> FreshState
     ensures { result ≡ fresh_of m }
 {
     let site = fresh_site();
-    if model_rules::model_fault(m) != 0 {
+    if model_rules::model_fault(m).is_err() {
         let threads = model_effect::no_threads();
         return FreshState {
             number: 11,

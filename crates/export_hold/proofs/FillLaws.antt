@@ -1,11 +1,11 @@
 -- Lists filled from the front by a loop: the elements so far, then the places that are left.
 --     filled_to-none, filled_to-more     none, one more
 --     segment_to-none, segment_to-more, segment_to-all     a segment with its first statements
---     start_held, start_held-made, filled_to-ports     a thread
---     model_held-made     a model by its parts
-use Prim.Native.Nat.{ℕ, suc, ◌+◌, ◌-◌, ◌<◌, ◌≤◌}
+--     start_held, start_held-made     a thread
+--     model_held-made     a model by its lists
+use Prim.Native.Nat.{ℕ, suc, ◌+◌, ◌-◌, ◌<◌}
 use mathlib.Core.Path.{◌≡◌, refl, sym, ap, ◌∙◌}
-use mathlib.Core.List.{List, [], ◌∷◌, ◌++◌, append-nil}
+use mathlib.Core.List.{List, [], ◌∷◌, ◌++◌}
 use native.Mathlib.Numerals.{add-one}
 use native.Mathlib.Omega.{arith}
 use lib.ListN.{set, replicate}
@@ -81,16 +81,19 @@ pub start_held-made :
     ports ≡ tabulate 8 0 (λ p. number_at xs (port_place n k p)) → record { first = first; ports = ports } ≡ start_held xs n k
 start_held-made xs n k first ports p q = rw (p, q) refl
 
--- eight of eight
-pub filled_to-ports : (f : ℕ → ℕ) (ports : List ℕ) (i : ℕ) → 8 ≤ i → i ≤ 8 → ports ≡ filled_to 8 0 f i → ports ≡ tabulate 8 0 f
-filled_to-ports f ports i h l e = let k : i ≡ 8 = omega arith in (rw k at e) ∙ append-nil (tabulate 8 0 f)
-
--- the whole model, part by part
+-- the whole model, by its horizon and its two lists
 pub model_held-made :
-    (xs : List ℕ) (n t h v e n' t' : ℕ) (segments : List Segment) (starts : List Start) → n ≡ count_n xs → t ≡ count_t xs →
-    h ≡ number_at xs 0 → v ≡ number_at xs 1 → e ≡ number_at xs 2 → n' ≡ count_n xs → t' ≡ count_t xs →
-    segments ≡ filled_to 64 no_segment (λ i. segment_held xs i) n →
-    starts ≡ filled_to 32 no_start (start_held xs n) t →
-    record { horizon = record { 0 = h }; v = v; e = e; n = n'; t = t'; segments = segments; starts = starts } ≡ model_held xs
+    (xs : List ℕ) (h : ℕ) (segments : List Segment) (starts : List Start) → h ≡ number_at xs 0 → segments ≡ filled_to 64 no_segment (λ i. segment_held xs i) (count_n xs) →
+    starts ≡ filled_to 32 no_start (start_held xs (count_n xs)) (count_t xs) →
+    record {
+      horizon = record { 0 = h };
+      v = number_at xs 1;
+      e = number_at xs 2;
+      n = count_n xs;
+      t = count_t xs;
+      segments = segments;
+      starts = starts;
+    }
+    ≡ model_held xs
 unfolding model_held
-model_held-made xs n t h v e n' t' segments starts is is' p q r a b c d = rw (p, q, r, a, b, rw is at c, rw (is, is') at d) refl
+model_held-made xs h segments starts p c d = rw (p, c, d) refl

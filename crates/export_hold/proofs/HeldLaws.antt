@@ -8,7 +8,7 @@
 use Prim.Native.Nat.{ℕ, ◌+◌, ◌<◌, ◌≤◌}
 use mathlib.Core.Path.{◌≡◌, refl}
 use mathlib.Core.Logic.{◌⊎◌, inl, inr}
-use mathlib.Core.Bool.{Bool, true, false, not, ◌||◌}
+use mathlib.Core.Bool.{Bool, true, false, cond, not, ◌||◌}
 use mathlib.Core.List.{List}
 use native.Mathlib.Decide.{dec_le}
 use native.Mathlib.Omega.{arith}
@@ -19,7 +19,7 @@ use Rattle.base.specs.Index.{any_below, tabulate}
 use Rattle.base.proofs.BoolLaws.{T→false, true→T, not-not, or→either, not-or→both, eq→eqb}
 use Rattle.base.proofs.IndexLaws.{any_below-none, or_else-zero, first_below-zero}
 use Rattle.model.specs.declared.Op.{Op}
-use Rattle.model.specs.declared.Op.TheVariants.{Set, Add, Copy, AddVariable, SubVariable}
+use Rattle.model.specs.declared.Op.TheVariants.{Set, Add, Copy, AddVariable, SubVariable, Notify}
 use Rattle.model.specs.declared.Next.{Next}
 use Rattle.model.specs.Port.{port_of}
 use Rattle.model.specs.Values.{no_model}
@@ -31,7 +31,15 @@ use Rattle.reader.specs.Closer.{closer_of}
 use Rattle.reader.specs.Statement.{op_of}
 use Rattle.export_model.specs.Numbers.{number_at, count_n, count_t, segment_place, statement_place, start_place, port_place, size_of, next_held, closer_held, op_held, statements_held}
 use Rattle.export_model.specs.Judged.{closer_numbers_fault, op_numbers_fault, segment_numbers_fault, ports_held, start_numbers_fault, count_numbers_fault, target_numbers_fault, parts_fault, numbers_fault, numbers_number, model_held, held_or}
-use Rattle.export_judge.proofs.JudgedLaws.{op_by, port_of-filled, segment_leaves, start_leaves}
+use Rattle.export_judge.proofs.JudgedLaws.{port_of-filled}
+
+-- whether a closer or a thread leaves the model
+module _ (xs : List ℕ) where
+  unfoldable segment_leaves : ℕ → Bool
+  segment_leaves i = leaves_model (count_n xs) (closer_held xs (segment_place i))
+
+  unfoldable start_leaves : ℕ → ℕ → Bool
+  start_leaves n k = not (ltb (number_at xs (start_place n k)) (count_n xs))
 
 -- a rule whose number does not stand is kept
 kept : (t : Bool) (x : ℕ) → 0 < x → unless t x ≡ 0 → T t
@@ -78,7 +86,11 @@ module _ (v e n kind w k : ℕ) (x : Next) where
 pub closer-event : (v e kind w k : ℕ) (x : Next) → e ≤ 32 → closer_fault v e (closer_of kind w k x) ≡ 0 → kind ≡ 2 → w < 256
 closer-event v e kind w k x l f h = let b = closer_fault-event v e w x (rw h at f) in omega arith
 
--- the first name of a statement without a fault
+-- the first name of a statement without a fault, by the tests of its operation
+abbrev op_by : ℕ → ℕ → (b1 b2 b3 b4 b5 : Bool) → Op
+op_by a b b1 b2 b3 b4 b5 =
+    cond b1 (Set a b) (cond b2 (Add a b) (cond b3 (Copy a b) (cond b4 (AddVariable a b) (cond b5 (SubVariable a b) (Notify a)))))
+
 pub op-name : (v e op a b : ℕ) → v ≤ 64 → e ≤ 32 → op_fault v e (op_of op a b) ≡ 0 → a < 256
 op-name v e op a b l m f = go (eqb op 1) (eqb op 2) (eqb op 3) (eqb op 4) (eqb op 5) f
   where

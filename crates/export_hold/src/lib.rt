@@ -10,13 +10,7 @@ ghost use Rattle.export_model.specs.Judged.{parts_fault, numbers_number, segment
 
 use clock::{Delay, Time};
 use model::{Closer, Model, Next, Op, Segment, Start, Statement};
-
-fn small(x: u32) -> u8
-    requires { x < 256 }
-    ensures { result ≡ x }
-{
-    x as u8
-}
+use std::array;
 
 // What comes after the closer at p.
 fn next_held(xs: &[u32], p: usize) -> Next
@@ -24,9 +18,9 @@ fn next_held(xs: &[u32], p: usize) -> Next
     ensures { result ≡ next_held xs.now p }
 {
     Next {
-        a: small(xs[p + 3]),
-        b: small(xs[p + 4]),
-        test: small(xs[p + 5]),
+        a: xs[p + 3] as u8,
+        b: xs[p + 4] as u8,
+        test: xs[p + 5] as u8,
         limit: xs[p + 6],
     }
 }
@@ -37,14 +31,11 @@ fn closer_held(xs: &[u32], i: usize) -> Closer
     ensures { result ≡ closer_held xs.now (segment_place i) }
 {
     let p = 5 + 104 * i;
-    let kind = xs[p];
-    if kind == 1 {
-        return Closer::Time(Delay(xs[p + 2]), next_held(xs, p));
+    match xs[p] {
+        1 => Closer::Time(Delay(xs[p + 2]), next_held(xs, p)),
+        2 => Closer::Event(xs[p + 1] as u8, next_held(xs, p)),
+        _ => Closer::End,
     }
-    if kind == 2 {
-        return Closer::Event(small(xs[p + 1]), next_held(xs, p));
-    }
-    Closer::End
 }
 
 // A statement by its operation, a and b.
@@ -52,7 +43,7 @@ fn op_held(op: u32, a: u32, b: u32) -> Op
     requires { a < 256 }
     ensures { result ≡ op_of op a b }
 {
-    let x = small(a);
+    let x = a as u8;
     match op {
         1 => Op::Set(x, b),
         2 => Op::Add(x, b),
@@ -72,16 +63,13 @@ fn segment_held(xs: &[u32], i: usize) -> Segment
     let n = xs[p + 7];
     let mut g = Segment {
         closer: closer_held(xs, i),
-        n: small(n),
+        n: n as u8,
         statements: [Statement { op: Op::Set(0, 0) }; 32],
     };
-    let size = export_judge::size_of(n);
-    let mut j = 0;
-    while j < size {
+    for j in 0..n as usize {
         let q = p + 8 + 3 * j;
         let op = op_held(xs[q], xs[q + 1], xs[q + 2]);
         g.statements[j] = Statement { op };
-        j += 1;
     }
     g
 }
@@ -91,10 +79,8 @@ fn segments_held(xs: &[u32], n: usize) -> [Segment; 64]
     ensures { result ≡ tabulate n 0 (λ i. segment_held xs.now i) ++ replicate (64 - n) no_segment }
 {
     let mut segments = [model_effect::no_segment(); 64];
-    let mut i = 0;
-    while i < n {
+    for i in 0..n {
         segments[i] = segment_held(xs, i);
-        i += 1;
     }
     segments
 }
@@ -104,13 +90,7 @@ fn ports_held(xs: &[u32], p: usize) -> [u8; 8]
     requires { (p + 8 ≤ length xs.now) × ((i : ℕ) → i < 8 → number_at xs.now (p + i) < 256) }
     ensures { result ≡ tabulate 8 0 (λ i. number_at xs.now (p + i)) }
 {
-    let mut ports = [0; 8];
-    let mut i = 0;
-    while i < 8 {
-        ports[i] = small(xs[p + i]);
-        i += 1;
-    }
-    ports
+    array::from_fn(|i| xs[p + i] as u8)
 }
 
 fn starts_held(xs: &[u32], n: usize, t: usize) -> [Start; 32]
@@ -118,14 +98,12 @@ fn starts_held(xs: &[u32], n: usize, t: usize) -> [Start; 32]
     ensures { result ≡ tabulate t 0 (λ k. record { first = number_at xs.now (start_place n k); ports = tabulate 8 0 (λ p. number_at xs.now (port_place n k p)) }) ++ replicate (32 - t) no_start }
 {
     let mut starts = [model_effect::no_start(); 32];
-    let mut k = 0;
-    while k < t {
+    for k in 0..t {
         let p = 5 + 104 * n + 9 * k;
         starts[k] = Start {
-            first: small(xs[p]),
+            first: xs[p] as u8,
             ports: ports_held(xs, p + 1),
         };
-        k += 1;
     }
     starts
 }
@@ -135,16 +113,15 @@ fn model_kept(xs: &[u32]) -> Model
     requires { (parts_fault xs.now ≡ 0) × (size_of (count_n xs.now) (count_t xs.now) ≤ length xs.now) × (number_at xs.now 1 ≤ 64) × (number_at xs.now 2 ≤ 32) × (count_n xs.now ≤ 64) × (count_t xs.now ≤ 32) }
     ensures { result ≡ model_held xs.now }
 {
-    let n = export_judge::size_of(xs[3]);
-    let t = export_judge::size_of(xs[4]);
+    let n = xs[3] as usize;
     Model {
-        horizon: Time(buffers::long_word(xs[0])),
-        v: small(xs[1]),
-        e: small(xs[2]),
-        n: small(xs[3]),
-        t: small(xs[4]),
+        horizon: Time(u64::from(xs[0])),
+        v: xs[1] as u8,
+        e: xs[2] as u8,
+        n: xs[3] as u8,
+        t: xs[4] as u8,
         segments: segments_held(xs, n),
-        starts: starts_held(xs, n, t),
+        starts: starts_held(xs, n, xs[4] as usize),
     }
 }
 
@@ -152,8 +129,8 @@ fn model_kept(xs: &[u32]) -> Model
 pub fn held_number(xs: &[u32]) -> u8
     ensures { result ≡ numbers_number xs.now }
 {
-    let n = export_judge::size_of(buffers::value_at(xs, 3));
-    let t = export_judge::size_of(buffers::value_at(xs, 4));
+    let n = buffers::value_at(xs, 3) as usize;
+    let t = buffers::value_at(xs, 4) as usize;
     if xs.len() < 5 + 104 * n + 9 * t {
         return 11;
     }

@@ -22,7 +22,7 @@ pub fn size_of(x: u32) -> usize
 fn is_name(v: u32, x: u32) -> bool
     ensures { result ≡ is_name v x }
 {
-    (x < v) | ((128 <= x) & (x < 136))
+    x < v || (128 <= x && x < 136)
 }
 
 // 4 where the horizon or a count is out of range.
@@ -30,11 +30,8 @@ fn head_fault(xs: &[u32]) -> u8
     requires { 5 ≤ length xs.now }
     ensures { result ≡ head_fault (number_at xs.now 0) (number_at xs.now 1) (number_at xs.now 2) }
 {
-    let h = buffers::long_word(xs[0]);
-    model_rules::unless(
-        ((1 <= h) & (h <= LARGEST_TIME)) & ((xs[1] <= 64) & (xs[2] <= 32)),
-        4,
-    )
+    let h = u64::from(xs[0]);
+    model_rules::unless(1 <= h && h <= LARGEST_TIME && xs[1] <= 64 && xs[2] <= 32, 4)
 }
 
 // Whether all of a closer but its kind is 0.
@@ -42,14 +39,7 @@ fn rest_is_zero(xs: &[u32], p: usize) -> bool
     requires { p + 104 ≤ length xs.now }
     ensures { result ≡ not (any_below 6 (λ i. not (eqb (number_at xs.now (p + 1 + i)) 0))) }
 {
-    let mut i = 0;
-    while i < 6 {
-        if xs[p + 1 + i] != 0 {
-            return false;
-        }
-        i += 1;
-    }
-    true
+    xs[p + 1..p + 7].iter().all(|x| *x == 0)
 }
 
 // 5 where the numbers break a rule that a declared closer cannot.
@@ -57,17 +47,13 @@ fn closer_form_fault(xs: &[u32], p: usize) -> u8
     requires { p + 104 ≤ length xs.now }
     ensures { result ≡ closer_form_fault (number_at xs.now p) (number_at xs.now (p + 1)) (number_at xs.now (p + 2)) (not (any_below 6 (λ i. not (eqb (number_at xs.now (p + 1 + i)) 0)))) }
 {
-    let kind = xs[p];
-    if kind == 0 {
-        return model_rules::unless(rest_is_zero(xs, p), 5);
-    }
-    if kind == 1 {
-        return model_rules::unless(xs[p + 1] == 0, 5);
-    }
-    if kind == 2 {
-        return model_rules::unless(xs[p + 2] == 0, 5);
-    }
-    5
+    let kept = match xs[p] {
+        0 => rest_is_zero(xs, p),
+        1 => xs[p + 1] == 0,
+        2 => xs[p + 2] == 0,
+        _ => false,
+    };
+    model_rules::unless(kept, 5)
 }
 
 // 5 where the delay is too long, or there is no test and B is not A or the limit not 0; then 7 where the event is not below
@@ -79,14 +65,13 @@ fn next_fault(xs: &[u32], p: usize, short: bool, named: bool) -> u8
     let test = xs[p + 5];
     let untested = test == 255;
     let choice = model_rules::unless(
-        short & (!untested | ((xs[p + 4] == xs[p + 3]) & (xs[p + 6] == 0))),
+        short && (!untested || (xs[p + 4] == xs[p + 3] && xs[p + 6] == 0)),
         5,
     );
     if choice != 0 {
         return choice;
     }
-    let tested = is_name(xs[1], test);
-    model_rules::unless(named & (untested | tested), 7)
+    model_rules::unless(named && (untested || is_name(xs[1], test)), 7)
 }
 
 // The closer's 5 and 7 as a value.
@@ -94,14 +79,11 @@ fn closer_value_fault(xs: &[u32], p: usize) -> u8
     requires { p + 104 ≤ length xs.now }
     ensures { result ≡ closer_fault (number_at xs.now 1) (number_at xs.now 2) (closer_held xs.now p) }
 {
-    let kind = xs[p];
-    if kind == 1 {
-        return next_fault(xs, p, buffers::long_word(xs[p + 2]) <= LARGEST_TIME, true);
+    match xs[p] {
+        1 => next_fault(xs, p, u64::from(xs[p + 2]) <= LARGEST_TIME, true),
+        2 => next_fault(xs, p, true, xs[p + 1] < xs[2]),
+        _ => 0,
     }
-    if kind == 2 {
-        return next_fault(xs, p, true, xs[p + 1] < xs[2]);
-    }
-    0
 }
 
 // The closer's 5 and 7.
@@ -120,20 +102,19 @@ fn closer_fault(xs: &[u32], p: usize) -> u8
 fn op_form_fault(op: u32, b: u32) -> u8
     ensures { result ≡ op_form_fault op b }
 {
-    model_rules::unless(((1 <= op) & (op <= 6)) & (!(op == 6) | (b == 0)), 6)
+    model_rules::unless(1 <= op && op <= 6 && (op != 6 || b == 0), 6)
 }
 
 // A statement's 7.
 fn op_value_fault(v: u32, e: u32, op: u32, a: u32, b: u32) -> u8
     ensures { result ≡ op_fault v e (op_of op a b) }
 {
-    if (op == 1) | (op == 2) {
-        return model_rules::unless(is_name(v, a), 7);
-    }
-    if (op == 3) | ((op == 4) | (op == 5)) {
-        return model_rules::unless(is_name(v, a) & is_name(v, b), 7);
-    }
-    model_rules::unless(a < e, 7)
+    let named = match op {
+        1 | 2 => is_name(v, a),
+        3..=5 => is_name(v, a) && is_name(v, b),
+        _ => a < e,
+    };
+    model_rules::unless(named, 7)
 }
 
 // A statement's 6 and 7.
@@ -147,13 +128,7 @@ fn op_fault(xs: &[u32], p: usize) -> u8
     if form != 0 {
         return form;
     }
-    op_value_fault(
-        buffers::value_at(xs, 1),
-        buffers::value_at(xs, 2),
-        op,
-        xs[p + 1],
-        b,
-    )
+    op_value_fault(xs[1], xs[2], op, xs[p + 1], b)
 }
 
 // The first fault of n statements of segment i.
@@ -161,13 +136,11 @@ fn statements_fault(xs: &[u32], i: usize, n: usize) -> u8
     requires { (segment_place i + 104 ≤ length xs.now) × (n ≤ 32) }
     ensures { result ≡ first_below n (λ j. op_numbers_fault xs.now (statement_place i j)) }
 {
-    let mut j = 0;
-    while j < n {
+    for j in 0..n {
         let fault = op_fault(xs, 5 + 104 * i + 8 + 3 * j);
         if fault != 0 {
             return fault;
         }
-        j += 1;
     }
     0
 }
@@ -178,7 +151,7 @@ fn segment_fault(xs: &[u32], i: usize) -> u8
     ensures { result ≡ segment_numbers_fault xs.now i }
 {
     let p = 5 + 104 * i;
-    let n = size_of(xs[p + 7]);
+    let n = xs[p + 7] as usize;
     if 32 < n {
         return 3;
     }
@@ -197,13 +170,11 @@ fn segments_fault(xs: &[u32], n: usize) -> u8
     requires { segment_place n ≤ length xs.now }
     ensures { result ≡ first_below n (λ i. segment_numbers_fault xs.now i) }
 {
-    let mut i = 0;
-    while i < n {
+    for i in 0..n {
         let fault = segment_fault(xs, i);
         if fault != 0 {
             return fault;
         }
-        i += 1;
     }
     0
 }
@@ -214,15 +185,8 @@ fn ports_fault(xs: &[u32], p: usize) -> u8
     ensures { result ≡ ports_fault (number_at xs.now 1) (tabulate 8 0 (λ i. number_at xs.now (p + i))) }
 {
     let v = xs[1];
-    let mut i = 0;
-    while i < 8 {
-        let x = xs[p + i];
-        if !((x == 255) | (x < v)) {
-            return 17;
-        }
-        i += 1;
-    }
-    0
+    let kept = xs[p..p + 8].iter().all(|x| *x == 255 || *x < v);
+    model_rules::unless(kept, 17)
 }
 
 // A thread's 4, then its ports' 17.
@@ -241,13 +205,11 @@ fn starts_fault(xs: &[u32], n: usize, t: usize) -> u8
     requires { (size_of n t ≤ length xs.now) × (n ≡ count_n xs.now) }
     ensures { result ≡ first_below t (λ k. start_numbers_fault xs.now k) }
 {
-    let mut k = 0;
-    while k < t {
+    for k in 0..t {
         let fault = start_fault(xs, n, k);
         if fault != 0 {
             return fault;
         }
-        k += 1;
     }
     0
 }
@@ -257,7 +219,7 @@ fn counts_fault(xs: &[u32], n: usize, t: usize) -> u8
     requires { (size_of n t ≤ length xs.now) × (n ≡ count_n xs.now) × (t ≡ count_t xs.now) }
     ensures { result ≡ count_numbers_fault xs.now }
 {
-    let none = model_rules::unless((1 <= n) & (1 <= t), 2);
+    let none = model_rules::unless(1 <= n && 1 <= t, 2);
     if none != 0 {
         return none;
     }
@@ -269,37 +231,22 @@ fn leaves_model(xs: &[u32], p: usize) -> bool
     requires { p + 104 ≤ length xs.now }
     ensures { result ≡ leaves_model (count_n xs.now) (closer_held xs.now p) }
 {
-    let kind = xs[p];
     let n = xs[3];
-    ((kind == 1) | (kind == 2)) & !((xs[p + 3] < n) & (xs[p + 4] < n))
+    matches!(xs[p], 1 | 2) && !(xs[p + 3] < n && xs[p + 4] < n)
 }
 
 fn any_segment_leaves(xs: &[u32], n: usize) -> bool
     requires { segment_place n ≤ length xs.now }
     ensures { result ≡ any_below n (λ i. leaves_model (count_n xs.now) (closer_held xs.now (segment_place i))) }
 {
-    let mut i = 0;
-    while i < n {
-        if leaves_model(xs, 5 + 104 * i) {
-            return true;
-        }
-        i += 1;
-    }
-    false
+    (0..n).any(|i| leaves_model(xs, 5 + 104 * i))
 }
 
 fn any_start_leaves(xs: &[u32], n: usize, t: usize) -> bool
     requires { size_of n t ≤ length xs.now }
     ensures { result ≡ any_below t (λ k. not (ltb (number_at xs.now (start_place n k)) (count_n xs.now))) }
 {
-    let mut k = 0;
-    while k < t {
-        if xs[3] <= xs[5 + 104 * n + 9 * k] {
-            return true;
-        }
-        k += 1;
-    }
-    false
+    (0..t).any(|k| xs[3] <= xs[5 + 104 * n + 9 * k])
 }
 
 // 8 where a next or first segment is not below N.
@@ -307,9 +254,10 @@ fn targets_fault(xs: &[u32], n: usize, t: usize) -> u8
     requires { (size_of n t ≤ length xs.now) × (n ≡ count_n xs.now) × (t ≡ count_t xs.now) }
     ensures { result ≡ target_numbers_fault xs.now }
 {
-    let next = any_segment_leaves(xs, n);
-    let first = any_start_leaves(xs, n, t);
-    model_rules::unless(!(next | first), 8)
+    model_rules::unless(
+        !(any_segment_leaves(xs, n) || any_start_leaves(xs, n, t)),
+        8,
+    )
 }
 
 // The first fault in file order, up to 8, in a slice that is long enough.

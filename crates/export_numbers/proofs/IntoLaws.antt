@@ -1,8 +1,9 @@
 -- The numbers of a model: how many there are, and that the loops store them all.
---     stored-length, joined-start, -more, -length, -put, -all     runs of stores
+--     stored-length, joined-start, -more, -length, -put     runs of stores
 --     closer_numbers-length, op_numbers-length, start_numbers-length, segment_numbers-length
 --     front_to-none, front_to-more, front_to-all     a segment with its first statements
---     read-statements, segments-each     what the code reads of a model that keeps the rules
+--     read-segment, read-start     what the code reads
+--     read-statements, segments-each     the same of a model that keeps the rules
 --     numbers_of-length, writes-model, writes-few, writes-none     the whole
 use Prim.Native.Nat.{ℕ, zero, suc, ◌+◌, ◌-◌, ◌*◌, ◌<◌, ◌≤◌}
 use mathlib.Core.Path.{◌≡◌, refl, sym, ap, ◌∙◌}
@@ -12,8 +13,8 @@ use native.Mathlib.Nat.{zero-add}
 use native.Mathlib.Numerals.{add-one}
 use native.Mathlib.Omega.{arith}
 use lib.Dec.{eqb}
-use lib.ListN.{length, get_or, set, drop, replicate, length-append, length-replicate}
-use lib.Seq.{sets, sets-eq, length-sets}
+use lib.ListN.{length, get_or, set, take, drop, replicate, length-append, length-replicate, length-take}
+use lib.Seq.{sets, sets-eq, length-sets, get_or-take}
 use borrow.Author.Tests.{eq-eqb, ne_eqb}
 use Rattle.base.specs.Index.{tabulate}
 use Rattle.model.specs.declared.Op.{Op}
@@ -28,7 +29,7 @@ use Rattle.model.specs.Rules.{model_fault}
 use Rattle.buffers.specs.Write.{Writes}
 use Rattle.buffers.proofs.StoreLaws.{sets_more}
 use Rattle.buffers.proofs.WriteLaws.{placed_in-room, placed_in-stored, length_in-room, writes_short}
-use Rattle.model_rules.proofs.FaultLaws.{segment_at-read}
+use Rattle.model_rules.proofs.FaultLaws.{segment_at-read, start_at-read}
 use Rattle.model_rules.proofs.RuleLaws.{model_fault-statements}
 use Rattle.writer.specs.Bytes.{joined}
 use Rattle.export_model.specs.Numbers.{size_of, segment_place, next_numbers, closer_numbers, op_numbers, segment_numbers, start_numbers, numbers_of}
@@ -40,9 +41,6 @@ stored-length l out xs i e = ap length e ∙ length-sets l i xs
 pub joined-start : (l : List ℕ) (p : ℕ) (f : ℕ → List ℕ) → l ≡ sets l p (joined 0 0 f)
 unfolding joined
 joined-start l p f = refl
-
-pub joined-all : (l out : List ℕ) (p q k t : ℕ) (f : ℕ → List ℕ) → p ≡ q → k ≡ t → out ≡ sets l p (joined k 0 f) → out ≡ sets l q (joined t 0 f)
-joined-all l out p q k t f g h e = rw (g, h) at e
 
 pub joined-more : (n i : ℕ) (f : ℕ → List ℕ) → joined (suc n) i f ≡ joined n i f ++ f (i + n)
 unfolding joined
@@ -149,10 +147,20 @@ module _ (g : Segment) where
       (omega (arith, length-replicate {A = ℕ} 104 0))))
       ∙ sym (segment_numbers-front few)
 
+-- what the code reads, of those that are counted
+pub read-segment : (m : Model) (n i : ℕ) (d : Segment) → n ≡ m.n → length m.segments ≡ 64 → i < length (take n m.segments) → (i < m.n) × (get_or (take n m.segments) i d ≡ segment_at m i)
+read-segment m n i d e size h =
+    let l : i < n = omega (arith, length-take n m.segments) in
+    (omega arith, get_or-take n m.segments i d l ∙ segment_at-read m i d (omega (arith, length-take n m.segments)))
+
+pub read-start : (m : Model) (n k : ℕ) (d : Start) → length m.starts ≡ 32 → k < length (take n m.starts) → get_or (take n m.starts) k d ≡ start_at m k
+read-start m n k d size h =
+    get_or-take n m.starts k d (omega (arith, length-take n m.starts)) ∙ start_at-read m k d (omega (arith, length-take n m.starts))
+
 -- a model that keeps the rules: the segment that the code reads
 module _ (m : Model) (fit : model_fault m ≡ 0) where
-  pub read-statements : (i : ℕ) (d : Segment) → i < m.n → i < length m.segments → (get_or m.segments i d).n ≤ 32
-  read-statements i d l h = rw (segment_at-read m i d h) (model_fault-statements m fit i l)
+  pub read-statements : (i : ℕ) (x : Segment) → i < m.n → x ≡ segment_at m i → x.n ≤ 32
+  read-statements i x l e = rw e (model_fault-statements m fit i l)
 
   pub segments-each : (i : ℕ) → i < m.n → length (segment_numbers (segment_at m i)) ≡ 104
   segments-each i l = segment_numbers-length (segment_at m i) (model_fault-statements m fit i l)

@@ -8,27 +8,18 @@ ghost use Rattle.masks.specs.Mask.{bit_at, with_bit};
 pub fn has(w: u64, i: usize) -> bool
     ensures { result ≡ bit_at w i }
 {
-    if i >= 64 {
-        return false;
-    }
-    (w >> i) & 1 == 1
+    i < 64 && (w >> i) & 1 == 1
 }
 
 // The word with bit i set; the word as it is from 64 on.
 pub fn with(w: u64, i: usize) -> u64
     ensures { result ≡ with_bit w i }
 {
-    if i >= 64 {
-        return w;
-    }
-    w | (1 << i)
+    if i < 64 { w | (1 << i) } else { w }
 }
 
 pub fn with_if(w: u64, i: usize, on: bool) -> u64
     ensures { result ≡ cond on (with_bit w i) w }
 {
-    if on {
-        return with(w, i);
-    }
-    w
+    if on { with(w, i) } else { w }
 }

@@ -19,22 +19,17 @@ use model::{
 fn value(v: Variables, a: u32) -> u32
     ensures { result ≡ slice_index v.at a }
 {
-    let i = a as usize;
-    if i < 64 {
-        return v.at[i];
-    }
-    0
+    v.at.get(a as usize).copied().unwrap_or(0)
 }
 
 // The variables with x at a; unchanged where a is past the places.
 fn with_value(v: Variables, a: u8, x: u32) -> Variables
     ensures { result.at ≡ slice_set v.at a x }
 {
-    let i = a as usize;
+    let i = usize::from(a);
     let mut w = v;
     if i < 64 {
         w.at[i] = x;
-        return w;
     }
     w
 }
@@ -43,13 +38,13 @@ fn with_value(v: Variables, a: u8, x: u32) -> Variables
 fn added(v: Variables, a: u8, x: u32) -> Variables
     ensures { result.at ≡ slice_set v.at a ((slice_index v.at a + x) % 2 ^ 32) }
 {
-    with_value(v, a, std::num::wrapping_add_u32(value(v, a as u32), x))
+    with_value(v, a, value(v, u32::from(a)).wrapping_add(x))
 }
 
 fn subtracted(v: Variables, a: u8, x: u32) -> Variables
     ensures { result.at ≡ slice_set v.at a ((slice_index v.at a + 2 ^ 32 - x) % 2 ^ 32) }
 {
-    with_value(v, a, std::num::wrapping_sub_u32(value(v, a as u32), x))
+    with_value(v, a, value(v, u32::from(a)).wrapping_sub(x))
 }
 
 fn execute_op(op: Op, v: Variables) -> Variables
@@ -65,35 +60,21 @@ fn execute_op(op: Op, v: Variables) -> Variables
     }
 }
 
-// How many statements a segment has; no more than its places.
-fn body_length(g: Segment) -> usize
-    ensures { result ≡ length (body_of g) }
+// The statements of a segment: as many as it counts, and no more than its places.
+fn body_of(g: &Segment) -> &[Statement]
+    ensures { result.now ≡ body_of g.now }
 {
-    let n = g.n as usize;
-    if n < 32 {
-        return n;
-    }
-    32
-}
-
-fn op_at(g: Segment, j: usize) -> Op
-    requires { j < length (body_of g) }
-    ensures { result ≡ (slice_index_or (body_of g) j no_statement).op }
-{
-    let x = g.statements[j];
-    x.op
+    let places: &[Statement] = &g.statements;
+    &places[..usize::from(g.n).min(places.len())]
 }
 
 // The statements of a segment, one after the other.
-fn execute_all(g: Segment, v: Variables) -> Variables
-    ensures { result.at ≡ execute (body_of g) v.at }
+fn execute_all(g: &Segment, v: Variables) -> Variables
+    ensures { result.at ≡ execute (body_of g.now) v.at }
 {
-    let n = body_length(g);
     let mut w = v;
-    let mut j = 0;
-    while j < n {
-        w = execute_op(op_at(g, j), w);
-        j += 1;
+    for x in body_of(g) {
+        w = execute_op(x.op, w);
     }
     w
 }
@@ -106,26 +87,18 @@ fn with_op(es: Events, op: Op) -> Events
     let Op::Notify(w) = op else {
         return es;
     };
-    let count = es.n;
-    let i = count as usize;
     let mut at = es.at;
-    at[i] = w;
-    Events { n: count + 1, at }
+    at[usize::from(es.n)] = w;
+    Events { n: es.n + 1, at }
 }
 
 // The events that a segment lists as notifying, in statement order, whatever the variables.
 pub fn listed(g: Segment) -> Events
     ensures { result ≡ held_events (notified_by (body_of g)) }
 {
-    let n = body_length(g);
-    let mut es = Events {
-        n: 0,
-        at: [0u8; 32],
-    };
-    let mut j = 0;
-    while j < n {
-        es = with_op(es, op_at(g, j));
-        j += 1;
+    let mut es = Events { n: 0, at: [0; 32] };
+    for x in body_of(&g) {
+        es = with_op(es, x.op);
     }
     es
 }
@@ -134,13 +107,11 @@ pub fn listed(g: Segment) -> Events
 fn next_of(x: Next, v: Variables) -> u8
     ensures { result ≡ next_of x v.at }
 {
-    if x.test == 255 {
-        return x.a;
+    if x.test == 255 || value(v, u32::from(x.test)) < x.limit {
+        x.a
+    } else {
+        x.b
     }
-    if value(v, x.test as u32) < x.limit {
-        return x.a;
-    }
-    x.b
 }
 
 // The state at the end of a time wait begun at c.
@@ -177,10 +148,9 @@ fn closed_at(s: u8, closer: Closer, c: Cycle, v: Variables) -> Thread
 pub fn effect_in(g: Segment, s: u8, c: Cycle, v: Variables) -> Ran
     ensures { result ≡ held_effect (effect_in g s c v.at) }
 {
-    let variables = execute_all(g, v);
+    let variables = execute_all(&g, v);
     let notified = listed(g);
-    let closer = g.closer;
-    let thread = closed_at(s, closer, c, variables);
+    let thread = closed_at(s, g.closer, c, variables);
     Ran {
         variables,
         notified,
@@ -193,11 +163,11 @@ pub fn cycle_of(s: State) -> Cycle
     ensures { result ≡ cycle_of s }
 {
     match s {
-        State::Ended(c) => c,
-        State::Overrun(c) => c,
-        State::Ready(c) => c,
-        State::Waiting(_, c) => c,
-        State::Running(c) => c,
+        State::Ended(c)
+        | State::Overrun(c)
+        | State::Ready(c)
+        | State::Waiting(_, c)
+        | State::Running(c) => c,
     }
 }
 
@@ -206,11 +176,8 @@ pub fn ready_cycle(s: State) -> Bound
     ensures { result ≡ ready_cycle s }
 {
     match s {
-        State::Ended(_) => Bound::Never,
-        State::Overrun(_) => Bound::Never,
-        State::Ready(c) => Bound::At(c),
-        State::Waiting(_, _) => Bound::Never,
-        State::Running(c) => Bound::At(c),
+        State::Ready(c) | State::Running(c) => Bound::At(c),
+        State::Ended(_) | State::Overrun(_) | State::Waiting(_, _) => Bound::Never,
     }
 }
 
@@ -267,42 +234,27 @@ pub fn no_model() -> Model
 pub fn uses_ports(ports: [u8; 8]) -> bool
     ensures { result ≡ uses_ports ports }
 {
-    let mut p = 0;
-    while p < 8 {
-        if ports[p] != 255 {
-            return true;
-        }
-        p += 1;
-    }
-    false
+    ports.iter().any(|p| *p != 255)
 }
 
 // Document 02: "128 to 135 .. mean ports 0 to 7": the variable that a byte names.
 fn mapped_byte(ports: [u8; 8], x: u8) -> u8
     ensures { result ≡ mapped ports x }
 {
-    if x < 128 {
-        return x;
+    match x {
+        128..=135 => ports[usize::from(x - 128)],
+        _ => x,
     }
-    if 135 < x {
-        return x;
-    }
-    let p = (x - 128) as usize;
-    ports[p]
 }
 
 // The variable that four bytes name.
 fn mapped_long(ports: [u8; 8], x: u32) -> u32
     ensures { result ≡ mapped ports x }
 {
-    if x < 128 {
-        return x;
+    match u8::try_from(x) {
+        Ok(a) => u32::from(mapped_byte(ports, a)),
+        Err(_) => x,
     }
-    if 135 < x {
-        return x;
-    }
-    let p = (x - 128) as usize;
-    ports[p] as u32
 }
 
 fn mapped_op(ports: [u8; 8], op: Op) -> Op
@@ -322,10 +274,8 @@ fn mapped_next(ports: [u8; 8], x: Next) -> Next
     ensures { result ≡ map_next ports x }
 {
     Next {
-        a: x.a,
-        b: x.b,
         test: mapped_byte(ports, x.test),
-        limit: x.limit,
+        ..x
     }
 }
 
@@ -343,19 +293,12 @@ fn mapped_closer(ports: [u8; 8], closer: Closer) -> Closer
 pub fn mapped_segment(ports: [u8; 8], g: Segment) -> Segment
     ensures { result ≡ map_segment ports g }
 {
-    let closer = g.closer;
     let mut statements = g.statements;
-    let mut j = 0;
-    while j < 32 {
-        let x = g.statements[j];
-        let op = x.op;
-        statements[j] = Statement {
-            op: mapped_op(ports, op),
-        };
-        j += 1;
+    for x in statements.iter_mut() {
+        x.op = mapped_op(ports, x.op);
     }
     Segment {
-        closer: mapped_closer(ports, closer),
+        closer: mapped_closer(ports, g.closer),
         n: g.n,
         statements,
     }

@@ -10,10 +10,11 @@ use native.Mathlib.Numerals.{add-one}
 use native.Mathlib.Decide.{dec_lt, ℕ_discrete}
 use lib.Bits.{bit_and, bit_or, and_le_r}
 use lib.Dec.{T, ltb, eqb, eqb→eq, ltb→lt, lt→ltb}
-use lib.ListN.{length, get_or, take, replicate, length-replicate, get_or-replicate}
-use lib.Seq.{take-suc, take_all}
+use lib.ListN.{length, get_or, take, replicate, length-take, length-replicate, get_or-replicate}
+use lib.Seq.{take-suc, take_all, get_or-take}
+use Rattle.std.proofs.lemmas.List.{take_min}
 use borrow.Author.Tests.{lt-ltb, le-ltb, eq-eqb, ne_eqb}
-use Rattle.base.specs.Index.{any_below}
+use Rattle.base.specs.Index.{any_below, store_to}
 use Rattle.base.proofs.BoolLaws.{T-same, T→false, true→T, false→T, and→both, both→and}
 use Rattle.base.proofs.IndexLaws.{any_below-same, any_below-empty, any_below-found, any_below-some, any_below-none, store_to-length, store_to-other, store_to-at}
 use Rattle.masks.specs.Mask.{bit_at, with_bit, mask_of}
@@ -62,14 +63,10 @@ pub ports_in-more :
 ports_in-more xs j d w o h e f = rw (add-one, take-suc xs j d h, ports_in-last 0 (take j xs) (get_or xs j d)) (ap₂ bit_or e f)
 
 pub ports_of-made :
-    (g : Segment) (j w o : ℕ) → length g.statements ≡ 32 → j ≡ min g.n 32 → w ≡ ports_in 0 (take j g.statements) → o ≡ test_port g.closer →
-    bit_or w o ≡ ports_of g
+    (g : Segment) (j w o : ℕ) (xs : List Statement) → xs ≡ take (min g.n (length g.statements)) g.statements → length xs ≤ j →
+    w ≡ ports_in 0 (take j xs) → o ≡ test_port g.closer → bit_or w o ≡ ports_of g
 unfolding ports_of body_of
-ports_of-made g j w o size h e f = ap₂ bit_or (e ∙ ap (ports_in 0) (go (dec_lt g.n 32))) f
-  where
-    go : Dec (g.n < 32) → take j g.statements ≡ take g.n g.statements
-    go (yes l) = let i : j ≡ g.n = omega arith in rw i
-    go (no l) = take_all j g.statements (omega arith) ∙ sym (take_all g.n g.statements (omega arith))
+ports_of-made g j w o xs h l e f = ap₂ bit_or (e ∙ ap (ports_in 0) (take_all j xs l ∙ h ∙ take_min g.n g.statements)) f
 
 pub joined-over : (w over k : ℕ) → bit_at w k ≡ true → bit_or w over ≡ joined w over k
 unfolding joined
@@ -352,6 +349,47 @@ lacks_by-holds m ws n e f = go (eqb (mask_of (meets (ports_to m n) 255) n) 0) re
     go true q = no-ports-holds m ws n e (eqb→eq (mask_of (meets (ports_to m n) 255) n) 0 (true→T _ q)) (f ∙ rw q refl)
     go false q = lacks_to-holds m ws n e (f ∙ rw q refl)
 
+-- what is made of the first n names and rows hangs on those alone
+
+mask_of-same : (f g : ℕ → Bool) (n : ℕ) → ((i : ℕ) → i < n → f i ≡ g i) → mask_of f n ≡ mask_of g n
+unfolding mask_of
+mask_of-same f g zero h = refl
+mask_of-same f g (suc n) h = ap₂ (λ (b : Bool) (w : ℕ). cond b (with_bit w n) w) (h n (omega arith)) (mask_of-same f g n (λ i l. h i (omega arith)))
+
+meeting-same : (ws vs : List ℕ) (w n : ℕ) → ((i : ℕ) → i < n → get_or ws i 0 ≡ get_or vs i 0) → mask_of (meets ws w) n ≡ mask_of (meets vs w) n
+unfolding meets
+meeting-same ws vs w n h = mask_of-same (meets ws w) (meets vs w) n (λ i l. ap (λ (x : ℕ). not (eqb (bit_and x w) 0)) (h i l))
+
+rounds_to-take :
+    (ws : List ℕ) (n k r : ℕ) → n ≤ length ws → k ≤ n → r < n → get_or (rounds_to (take n ws) n k) r 0 ≡ get_or (rounds_to ws n k) r 0
+unfolding rounds_to
+rounds_to-take ws n zero r h i l = get_or-take n ws r 0 l
+rounds_to-take ws n (suc k) r h i l =
+    round_to-at (rounds_to (take n ws) n k) k n r l (omega (arith, rounds_to-length (take n ws) n k, length-take n ws))
+    ∙ (ap₂ (λ (a b : ℕ). joined a b k) (rounds_to-take ws n k r h (omega arith) l) (rounds_to-take ws n k k h (omega arith) (omega arith))
+    ∙ sym (round_to-at (rounds_to ws n k) k n r l (omega (arith, rounds_to-length ws n k))))
+
+-- so the rest of both arrays does not count
+pub lacks_by-take :
+    (starts : List Start) (names rows : List ℕ) (n : ℕ) → n ≤ length rows → lacks_by starts (take n names) (take n rows) n ≡ lacks_by starts names rows n
+unfolding lacks_by lacks_to lack_of
+lacks_by-take starts names rows n h =
+    ap₂ (λ (w : ℕ) (f : ℕ → List ℕ → ℕ). cond (eqb w 0) (replicate 32 0) (store_to f 0 (replicate 32 0) 32)) (meeting-same (take n names) names 255 n front) same
+  where
+    front : (i : ℕ) → i < n → get_or (take n names) i 0 ≡ get_or names i 0
+    front i l = get_or-take n names i 0 l
+
+    lack : List ℕ → List ℕ → List ℕ → ℕ
+    lack vs ws ps = mask_of (meets ws (mask_of (meets vs (unused_of ps)) n)) n
+
+    alike : (ps : List ℕ) → lack (take n names) (rounds_to (take n rows) n n) ps ≡ lack names (rounds_to rows n n) ps
+    alike ps =
+        meeting-same (rounds_to (take n rows) n n) (rounds_to rows n n) _ n (λ i l. rounds_to-take rows n n i h (omega arith) l)
+        ∙ ap (λ (w : ℕ). mask_of (meets (rounds_to rows n n) w) n) (meeting-same (take n names) names (unused_of ps) n front)
+
+    same : ◌≡◌ {A = ℕ → List ℕ → ℕ} (λ i ws. lack (take n names) (rounds_to (take n rows) n n) (get_or starts i no_start).ports) (λ i ws. lack names (rounds_to rows n n) (get_or starts i no_start).ports)
+    same = λ q i ws. alike (get_or starts i no_start).ports q
+
 module _ (starts : List Start) (names rows : List ℕ) (n : ℕ) where
   pub lacks_by-none : mask_of (meets names 255) n ≡ 0 → replicate 32 0 ≡ lacks_by starts names rows n
   unfolding lacks_by
@@ -360,3 +398,13 @@ module _ (starts : List Start) (names rows : List ℕ) (n : ℕ) where
   pub lacks_by-some : (mask_of (meets names 255) n ≡ 0 → ⊥) → lacks_to starts names (rounds_to rows n n) n 32 ≡ lacks_by starts names rows n
   unfolding lacks_by
   lacks_by-some h = rw (ne_eqb (mask_of (meets names 255) n) 0 h) refl
+
+pub lacks-holds :
+    (m : Model) (ws names rows : List ℕ) (n s : ℕ) → n ≡ min m.n 64 → s ≡ n → names ≡ ports_to m s → rows ≡ first_rows m (replicate 64 0) s →
+    ws ≡ lacks_by m.starts (take n names) (take n rows) (length (take n names)) → HoldsLacks m ws
+unfolding ports_to first_rows
+lacks-holds m ws names rows n s e h p q f =
+    let sized : (xs : List ℕ) (g : ℕ → List ℕ → ℕ) → xs ≡ store_to g 0 (replicate 64 0) s → length xs ≡ 64 =
+    λ xs g k. ap length k ∙ (store_to-length g 0 (replicate 64 0) s ∙ zeros 64) in
+    let l : length (take n names) ≡ n = omega (arith, length-take n names, sized names _ p) in
+    lacks_by-holds m ws n e (f ∙ (ap (lacks_by m.starts (take n names) (take n rows)) l ∙ (lacks_by-take m.starts names rows n (omega (arith, sized rows _ q)) ∙ rw (p, q, h) refl)))

@@ -1,33 +1,35 @@
 -- The exits of the functions that look for a first fault, and of those that look for a target that leaves the model.
---     unless-kept, unless-broken, unless-zero, unless-both, unless-both-then, unless-either     a rule's number; that of two rules together
+--     unless-kept, unless-broken, unless-zero, unless-both, unless-either     a rule's number; that of two rules together
 --     fault-here, fault-later     the first of two faults
 --     segment_at-read, start_at-read     what the code reads is what the definitions name; segment_at-past, start_at-past
+--     segment_at-taken, start_at-taken, statement_fault-taken, closer-taken     the same in the part of a list that the code goes over
 --     statements_fault-here, statements_fault-none     the loop over statements
---     fault_at-read, first_rest, segments_fault-asked, targets_fault-asked     what is asked of a segment
---     both_below, not-both-below, any_start_leaves-here, any_start_leaves-end     the loop over threads
-use Prim.Native.Nat.{ℕ, zero, suc, ◌<◌, ◌≤◌}
+--     placed_fault-here, placed_fault-end     a loop over those that there are places for
+--     segment_leaves-here, segment_leaves-end, any_start_leaves-here, any_start_leaves-end     whether one leaves the model
+--     ports_fault-here, ports_fault-none, lack_fault-here, lack_fault-end     the loops over ports, and over what threads lack
+use Prim.Native.Nat.{ℕ, ◌<◌, ◌≤◌, min}
 use mathlib.Core.Path.{◌≡◌, refl, ap, sym, ◌∙◌}
 use mathlib.Core.Bool.{Bool, true, false, not, ◌&&◌, ◌||◌}
 use native.Mathlib.Omega.{arith}
 use native.Mathlib.Decide.{dec_lt, dec_le}
 use mathlib.Core.List.{List}
-use lib.Dec.{ltb, leb, eqb, ltb→lt}
-use lib.ListN.{length, get_or, get_or-eq_default}
-use borrow.Author.Tests.{lt-ltb, le-ltb, le-leb, lt-leb, ltb-false}
-use Rattle.base.specs.Index.{any_below, or_else, first_below}
-use Rattle.base.proofs.BoolLaws.{true→T, and→both}
-use Rattle.base.proofs.IndexLaws.{any_below-empty, any_below-here, or_else-none, or_else-some, first_below-zero, first_below-all, first_below-here}
+use lib.Dec.{ltb, leb, eqb}
+use lib.ListN.{length, get_or, take, get_or-eq_default, length-take}
+use lib.Seq.{get_or-take}
+use borrow.Author.Tests.{lt-ltb, le-ltb, le-leb, lt-leb}
+use Rattle.base.specs.Index.{or_else, first_below}
+use Rattle.base.proofs.IndexLaws.{any_below-empty, any_below-here, or_else-none, or_else-some, first_below-here, first_below-same}
 use Rattle.base.proofs.ListLaws.{get_d_any}
 use Rattle.model.specs.declared.Segment.{Segment}
+use Rattle.model.specs.declared.Statement.{Statement}
 use Rattle.model.specs.declared.Start.{Start}
 use Rattle.model.specs.declared.Model.{Model}
 use Rattle.model.specs.Port.{unused, port_of}
-use Rattle.model.specs.Values.{no_statement, no_segment, no_start, segment_at, start_at, ports_at}
-use Rattle.model.specs.Rules.{unless, op_fault, statements_fault, segments_fault, leaves_model, any_segment_leaves, any_start_leaves, targets_fault, ports_fault, starts_fault, lack_fault}
+use Rattle.model.specs.Values.{no_statement, no_segment, no_start, segment_at, start_at}
+use Rattle.model.specs.Rules.{unless, op_fault, statements_fault, leaves_model, any_segment_leaves, any_start_leaves, ports_fault, lack_fault}
 use Rattle.model.specs.Reach.{lacks_from}
 use Rattle.masks.specs.Mask.{bit_at}
 use Rattle.model_reach.specs.Lacks.{HoldsLacks}
-use Rattle.model_rules.specs.Asked.{fault_of, places_used, fault_at}
 
 pub unless-kept : (t : Bool) (x : ℕ) → t ≡ true → unless t x ≡ 0
 unless-kept t x e = rw e refl
@@ -44,11 +46,6 @@ unless-zero false x n e = absurd (n e)
 pub unless-both : (a b : Bool) (x : ℕ) → (x ≡ 0 → ⊥) → or_else (unless a x) (unless b x) ≡ unless (a && b) x
 unless-both true b x n = or_else-none 0 (unless b x) refl
 unless-both false b x n = or_else-some x (unless b x) n
-
--- and a third after them
-pub unless-both-then : (a b : Bool) (x y : ℕ) → (x ≡ 0 → ⊥) → or_else (unless (a && b) x) y ≡ or_else (unless a x) (or_else (unless b x) y)
-unless-both-then true b x y n = sym (or_else-none 0 (or_else (unless b x) y) refl)
-unless-both-then false b x y n = or_else-some x y n ∙ sym (or_else-some x (or_else (unless b x) y) n)
 
 pub unless-either : (a b : Bool) (x : ℕ) → (x ≡ 0 → ⊥) → or_else (unless (not a) x) (unless (not b) x) ≡ unless (not (a || b)) x
 unless-either true b x n = or_else-some x (unless (not b) x) n
@@ -77,11 +74,29 @@ pub start_at-past : (m : Model) (k : ℕ) → length m.starts ≤ k → start_at
 unfolding start_at
 start_at-past m k h = get_or-eq_default m.starts no_start h
 
+-- the same in the part of the list that the code goes over
+pub segment_at-taken : (m : Model) (n i : ℕ) (d : Segment) → i < length (take n m.segments) → get_or (take n m.segments) i d ≡ segment_at m i
+segment_at-taken m n i d h =
+    let l : length (take n m.segments) ≡ min n (length m.segments) = length-take n m.segments in
+    get_or-take n m.segments i d (omega arith) ∙ segment_at-read m i d (omega arith)
+
+pub start_at-taken : (m : Model) (n k : ℕ) (d : Start) → k < length (take n m.starts) → get_or (take n m.starts) k d ≡ start_at m k
+start_at-taken m n k d h =
+    let l : length (take n m.starts) ≡ min n (length m.starts) = length-take n m.starts in
+    get_or-take n m.starts k d (omega arith) ∙ start_at-read m k d (omega arith)
+
 -- the fault of statement j of g
 unfoldable pub statement_fault : ℕ → ℕ → Segment → ℕ → ℕ
 statement_fault v e g j = op_fault v e (get_or g.statements j no_statement).op
 
 module _ (v e : ℕ) (g : Segment) where
+  -- of the statement that the code reads
+  pub statement_fault-taken : (n j x : ℕ) (d : Statement) → j < length (take n g.statements) → x ≡ op_fault v e (get_or (take n g.statements) j d).op → x ≡ statement_fault v e g j
+  unfolding statement_fault
+  statement_fault-taken n j x d h is =
+      let l : length (take n g.statements) ≡ min n (length g.statements) = length-take n g.statements in
+      is ∙ ap (λ (s : Statement). op_fault v e s.op) (get_or-take n g.statements j d (omega arith) ∙ get_d_any g.statements j d no_statement (omega arith))
+
   pub statements_fault-here : (j x : ℕ) → j < g.n → first_below j (statement_fault v e g) ≡ 0 → x ≡ statement_fault v e g j → (x ≡ 0 → ⊥) → x ≡ statements_fault v e g
   unfolding statements_fault statement_fault
   statements_fault-here j x l none here n = here ∙ sym (first_below-here j g.n (statement_fault v e g) l none (λ z. n (here ∙ z)))
@@ -90,80 +105,79 @@ module _ (v e : ℕ) (g : Segment) where
   unfolding statements_fault statement_fault
   statements_fault-none j h none = rw h at (sym none)
 
--- what is asked of segment i of m
-module _ (m : Model) (i : ℕ) where
-  fault_at-past : (t : Bool) → length m.segments ≡ 64 → 64 ≤ i → unless t 4 ≡ fault_at m t i
-  unfolding fault_at fault_of leaves_model
-  fault_at-past false size h = fault-here _ _ 4 (unless-broken (ltb i 64) 4 (le-ltb i 64 h)) (λ z. omega arith)
-  fault_at-past true size h = rw (segment_at-past m i (omega arith)) refl
+-- those that there are places for, and 4 for the first that there is none for
+module _ (n most : ℕ) (f : ℕ → ℕ) where
+  abbrev pub placed_fault : ℕ → ℕ
+  placed_fault i = or_else (unless (ltb i most) 4) (f i)
 
-  -- the code reads the segment with a default of its own
-  pub fault_at-read : (x : ℕ) (t : Bool) (d : Segment) → i < 64 → length m.segments ≡ 64 → x ≡ fault_of m.n m.v m.e t (get_or m.segments i d) → x ≡ fault_at m t i
-  unfolding fault_at
-  fault_at-read x false d h l e = fault-later _ _ x (unless-kept (ltb i 64) 4 (lt-ltb i 64 h)) (rw (segment_at-read m i d (omega arith)) at e)
-  fault_at-read x true d h l e = rw (segment_at-read m i d (omega arith)) at e
+  placed_fault-below : (i : ℕ) → i < most → placed_fault i ≡ f i
+  placed_fault-below i l = or_else-none (unless (ltb i most) 4) (f i) (unless-kept (ltb i most) 4 (lt-ltb i most l))
 
--- what is left once the places in use have no fault
-module _ (m : Model) (size : length m.segments ≡ 64) where
-  many : (t : Bool) → 64 < m.n → first_below 64 (fault_at m t) ≡ 0 → unless t 4 ≡ first_below m.n (fault_at m t)
-  many true h none = sym (first_below-all m.n (fault_at m true) (λ i l. go i (dec_lt i 64)))
+  placed_fault-none : (k : ℕ) → k ≤ most → first_below k f ≡ 0 → first_below k placed_fault ≡ 0
+  placed_fault-none k l none = first_below-same k placed_fault f (λ i h. placed_fault-below i (omega arith)) ∙ none
+
+  pub placed_fault-here : (k x : ℕ) → k < n → k < most → first_below k f ≡ 0 → x ≡ f k → (x ≡ 0 → ⊥) → x ≡ first_below n placed_fault
+  placed_fault-here k x l h none e not_0 =
+      let here : x ≡ placed_fault k = e ∙ sym (placed_fault-below k h) in
+      here ∙ sym (first_below-here k n placed_fault l (placed_fault-none k (omega arith) none) (λ z. not_0 (here ∙ z)))
+
+  pub placed_fault-end : (k : ℕ) → k ≡ min n most → first_below k f ≡ 0 → unless (leb n most) 4 ≡ first_below n placed_fault
+  placed_fault-end k e none = go (dec_le n most)
     where
-      go : (i : ℕ) → Dec (i < 64) → fault_at m true i ≡ 0
-      go i (yes l) = first_below-zero 64 (fault_at m true) none i l
-      go i (no l) = sym (fault_at-past m i true size (omega arith))
-  many false h none =
-      let here = fault_at-past m 64 false size (omega arith) in
-      here ∙ sym (first_below-here 64 m.n (fault_at m false) h none (λ z. let e : 4 ≡ 0 = here ∙ z in omega arith))
+      go : Dec (n ≤ most) → unless (leb n most) 4 ≡ first_below n placed_fault
+      go (yes l) =
+          let same : k ≡ n = omega arith in
+          rw (le-leb n most l) (sym (rw same at (placed_fault-none k (omega arith) none)))
+      go (no l) =
+          let same : k ≡ most = omega arith in
+          let full : placed_fault most ≡ 4 = or_else-some (unless (ltb most most) 4) (f most) (λ z. let b : unless (ltb most most) 4 ≡ 4 = rw (le-ltb most most (omega arith)) refl in omega arith) ∙ rw (le-ltb most most (omega arith)) refl in
+          let before : first_below most placed_fault ≡ 0 = rw same at (placed_fault-none k (omega arith) none) in
+          rw (lt-leb n most (omega arith)) (sym full ∙ sym (first_below-here most n placed_fault (omega arith) before (λ z. let q = sym full ∙ z in omega arith)))
 
-  pub first_rest : (t : Bool) → first_below (places_used m.n) (fault_at m t) ≡ 0 → unless (t || leb m.n 64) 4 ≡ first_below m.n (fault_at m t)
-  first_rest t none = go t (dec_le m.n 64) none
+-- the closer of the segment that the code reads
+pub closer-taken : (n : ℕ) (gs : List Segment) (i : ℕ) (d : Segment) → i < length (take n gs) → (get_or gs i no_segment).closer ≡ (get_or (take n gs) i d).closer
+closer-taken n gs i d h =
+    let l : length (take n gs) ≡ min n (length gs) = length-take n gs in
+    ap (λ (g : Segment). g.closer) (sym (get_or-take n gs i d (omega arith) ∙ get_d_any gs i d no_segment (omega arith)))
+
+-- of a model with these segments
+module _ (m : Model) (gs : List Segment) (same : m.segments ≡ gs) where
+  leaves_at : ℕ → Bool
+  leaves_at i = leaves_model m.n (segment_at m i).closer
+
+  leaves_at-is : (i : ℕ) → leaves_at i ≡ leaves_model m.n (get_or gs i no_segment).closer
+  unfolding leaves_at segment_at
+  leaves_at-is i = ap (λ (l : List Segment). leaves_model m.n (get_or l i no_segment).closer) same
+
+  pub segment_leaves-here : (i : ℕ) → i < m.n → leaves_model m.n (get_or gs i no_segment).closer ≡ true → true ≡ any_segment_leaves m
+  unfolding any_segment_leaves leaves_at
+  segment_leaves-here i l e = sym (any_below-here m.n leaves_at i l (leaves_at-is i ∙ e))
+
+  -- past its places a model has segments that end
+  segment_leaves-past : (i : ℕ) → length gs ≤ i → leaves_at i ≡ false
+  unfolding leaves_model
+  segment_leaves-past i h = leaves_at-is i ∙ rw (get_or-eq_default gs no_segment h) refl
+
+  pub segment_leaves-end : (k : ℕ) → min m.n (length gs) ≤ k → ((i : ℕ) → i < k → leaves_model m.n (get_or gs i no_segment).closer ≡ false) → false ≡ any_segment_leaves m
+  unfolding any_segment_leaves leaves_at
+  segment_leaves-end k e below = sym (any_below-empty m.n leaves_at (λ i l. go i l (dec_lt i k)))
     where
-      few : m.n ≤ 64 → places_used m.n ≡ m.n
-      few l = omega arith
-
-      full : (m.n ≤ 64 → ⊥) → places_used m.n ≡ 64
-      full l = omega arith
-
-      go : (t : Bool) → Dec (m.n ≤ 64) → first_below (places_used m.n) (fault_at m t) ≡ 0 → unless (t || leb m.n 64) 4 ≡ first_below m.n (fault_at m t)
-      go true (yes l) e = rw (few l) at (sym e)
-      go true (no l) e = many true (omega arith) (rw (full l) at e)
-      go false (yes l) e = rw (le-leb m.n 64 l) (rw (few l) at (sym e))
-      go false (no l) e = rw (lt-leb m.n 64 (omega arith)) (many false (omega arith) (rw (full l) at e))
-
-pub segments_fault-asked : (m : Model) → first_below m.n (fault_at m false) ≡ segments_fault m
-unfolding segments_fault fault_at fault_of
-segments_fault-asked m = refl
-
-first_below-any : (n : ℕ) (f : ℕ → Bool) (x : ℕ) → (x ≡ 0 → ⊥) → first_below n (λ i. unless (not (f i)) x) ≡ unless (not (any_below n f)) x
-unfolding first_below any_below
-first_below-any zero f x h = refl
-first_below-any (suc n) f x h = rw (first_below-any n f x h) (unless-either (any_below n f) (f n) x h)
-
-pub targets_fault-asked : (m : Model) → or_else (first_below m.n (fault_at m true)) (unless (not (any_start_leaves m)) 8) ≡ targets_fault m
-unfolding targets_fault any_segment_leaves fault_at fault_of
-targets_fault-asked m =
-    rw (first_below-any m.n (λ i. leaves_model m.n (segment_at m i).closer) 8 (λ z. omega arith))
-    (unless-either (any_below m.n (λ i. leaves_model m.n (segment_at m i).closer)) (any_start_leaves m) 8 (λ z. omega arith))
-
--- an index below two counts, or not
-pub both_below : (k a b : ℕ) → (ltb k a && ltb k b) ≡ true → (k < a) × (k < b)
-both_below k a b h = let (p, q) = and→both (ltb k a) (ltb k b) (true→T _ h) in (ltb→lt k a p, ltb→lt k b q)
-
-pub not-both-below : (k a b : ℕ) → (ltb k a && ltb k b) ≡ false → k < a → b ≤ k
-not-both-below k a b h l = ltb-false k b (rw (lt-ltb k a l) at h)
+      go : (i : ℕ) → i < m.n → Dec (i < k) → leaves_at i ≡ false
+      go i l (yes j) = leaves_at-is i ∙ below i j
+      go i l (no j) = segment_leaves-past i (omega arith)
 
 -- whether thread k of m starts at a segment not below N
 unfoldable pub start_leaves : Model → ℕ → Bool
 start_leaves m k = not (ltb (start_at m k).first m.n)
 
 module _ (m : Model) where
-  pub start_leaves-above : (k : ℕ) (d : Start) → k < length m.starts → m.n ≤ (get_or m.starts k d).first → start_leaves m k ≡ true
+  pub start_leaves-above : (k : ℕ) → m.n ≤ (start_at m k).first → start_leaves m k ≡ true
   unfolding start_leaves
-  start_leaves-above k d l h = rw (← start_at-read m k d l, le-ltb _ _ h) refl
+  start_leaves-above k h = rw (le-ltb _ _ h) refl
 
-  pub start_leaves-below : (k : ℕ) (d : Start) → k < length m.starts → (get_or m.starts k d).first < m.n → start_leaves m k ≡ false
+  pub start_leaves-below : (k : ℕ) → (start_at m k).first < m.n → start_leaves m k ≡ false
   unfolding start_leaves
-  start_leaves-below k d l h = rw (← start_at-read m k d l, lt-ltb _ _ h) refl
+  start_leaves-below k h = rw (lt-ltb _ _ h) refl
 
   pub any_start_leaves-here : (k : ℕ) → k < m.t → start_leaves m k ≡ true → true ≡ any_start_leaves m
   unfolding any_start_leaves start_leaves
@@ -200,9 +214,17 @@ unfoldable pub port_wrong : ℕ → List ℕ → ℕ → Bool
 port_wrong v ps p = not (eqb (port_of ps p) unused || ltb (port_of ps p) v)
 
 module _ (v : ℕ) (ps : List ℕ) where
-  pub port_wrong-is : (p : ℕ) (t : Bool) → not (eqb (port_of ps p) 255 || ltb (port_of ps p) v) ≡ t → port_wrong v ps p ≡ t
+  pub port_wrong-at : (p : ℕ) → (port_of ps p ≡ 255 → ⊥) → v ≤ port_of ps p → port_wrong v ps p ≡ true
   unfolding port_wrong
-  port_wrong-is p t e = e
+  port_wrong-at p n l = grind arith
+
+  pub port_wrong-unused : (p : ℕ) → port_of ps p ≡ 255 → port_wrong v ps p ≡ false
+  unfolding port_wrong
+  port_wrong-unused p e = grind arith
+
+  pub port_wrong-below : (p : ℕ) → port_of ps p < v → port_wrong v ps p ≡ false
+  unfolding port_wrong
+  port_wrong-below p l = grind arith
 
   pub ports_fault-here : (p : ℕ) → p < 8 → port_wrong v ps p ≡ true → 17 ≡ ports_fault v ps
   unfolding ports_fault port_wrong
@@ -211,40 +233,6 @@ module _ (v : ℕ) (ps : List ℕ) where
   pub ports_fault-none : (p : ℕ) → 8 ≤ p → ((i : ℕ) → i < p → port_wrong v ps i ≡ false) → 0 ≡ ports_fault v ps
   unfolding ports_fault port_wrong
   ports_fault-none p h all = rw (any_below-empty 8 (port_wrong v ps) (λ i l. all i (omega arith))) refl
-
--- the faults of thread k: "33rd thread", its ports
-unfoldable pub start_fault : Model → ℕ → ℕ
-start_fault m k = or_else (unless (ltb k 32) 4) (ports_fault m.v (ports_at m k))
-
-module _ (m : Model) where
-  pub start_fault-read : (k : ℕ) (d : Start) (x : ℕ) → k < 32 → length m.starts ≡ 32 → x ≡ ports_fault m.v (get_or m.starts k d).ports → x ≡ start_fault m k
-  unfolding start_fault ports_at
-  start_fault-read k d x l e f =
-      f ∙ (ap (λ (s : Start). ports_fault m.v s.ports) (start_at-read m k d (omega arith)) ∙ sym (or_else-none (unless (ltb k 32) 4) _ (rw (lt-ltb k 32 l) refl)))
-
-  pub starts_fault-here : (k x : ℕ) → k < m.t → first_below k (start_fault m) ≡ 0 → x ≡ start_fault m k → (x ≡ 0 → ⊥) → x ≡ starts_fault m
-  unfolding starts_fault start_fault
-  starts_fault-here k x l h e n = e ∙ sym (first_below-here k m.t (start_fault m) l h (λ z. n (e ∙ z)))
-
-  pub starts_fault-end : (k : ℕ) → k ≤ m.t → (k < m.t → 32 ≤ k) → k ≤ 32 → first_below k (start_fault m) ≡ 0 → unless (leb m.t 32) 4 ≡ starts_fault m
-  unfolding starts_fault start_fault
-  starts_fault-end k h more few none = go (dec_lt k m.t)
-    where
-      all : k ≡ m.t → unless (leb m.t 32) 4 ≡ starts_fault m
-      all e = rw (le-leb m.t 32 (omega arith)) (sym none ∙ ap (λ (n : ℕ). first_below n (start_fault m)) e)
-
-      broken : 32 ≤ k → unless (ltb k 32) 4 ≡ 4
-      broken b = rw (le-ltb k 32 b) refl
-
-      at-32 : k < m.t → 32 ≤ k → unless (leb m.t 32) 4 ≡ starts_fault m
-      at-32 l b =
-          let e : k ≡ 32 = omega arith in
-          let f : start_fault m k ≡ 4 = or_else-some (unless (ltb k 32) 4) (ports_fault m.v (ports_at m k)) (λ z. absurd (omega (arith, broken b, z))) ∙ broken b in
-          rw (lt-leb m.t 32 (omega arith)) (sym f ∙ sym (first_below-here k m.t (start_fault m) l none (λ z. let q = sym f ∙ z in omega arith)))
-
-      go : Dec (k < m.t) → unless (leb m.t 32) 4 ≡ starts_fault m
-      go (yes l) = at-32 l (more l)
-      go (no l) = all (omega arith)
 
 -- whether thread k can reach a port that it leaves unused
 unfoldable pub start_lacks : Model → ℕ → Bool

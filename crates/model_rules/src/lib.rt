@@ -1,126 +1,120 @@
-// Document 01, "Model file": the file rules over values, as the number of the first fault.
+// Document 01, "Model file": the file rules over values, as the first fault.
 #![tactic(auto)]
 
 ghost use Rattle.std.specs.Prelude.{◌≡◌, ℕ, ◌≤◌, ◌<◌};
-ghost use Rattle.base.specs.Index.{or_else, first_below};
-ghost use Rattle.model.specs.Refusal.{wrong_closer, wrong_name};
+ghost use Rattle.refusal.specs.Number.{number_of, number_told};
 ghost use Rattle.model.specs.Values.{start_at};
-ghost use Rattle.model.specs.Rules.{unless, head_fault, choice_fault, is_name, test_fault, closer_fault, op_fault, statements_fault, segment_fault, ports_fault, starts_fault, counts_fault, leaves_model, any_start_leaves, targets_fault, lack_fault, links_fault, model_fault};
-ghost use Rattle.model_rules.specs.Asked.{fault_of, places_used, fault_at, parts_fault, Linked};
+ghost use Rattle.model.specs.Rules.{unless, head_fault, choice_fault, is_name, test_fault, closer_fault, op_fault, statements_fault, segment_fault, segments_fault, ports_fault, starts_fault, counts_fault, leaves_model, any_segment_leaves, any_start_leaves, targets_fault, lack_fault, model_fault};
+ghost use Rattle.model_rules.specs.Asked.{parts_fault, Linked};
 
 use clock::Time;
 use model::{Closer, LARGEST_TIME, Model, Next, Op, Segment, Start};
+use refusal::Refusal;
 
-// Number x where a rule is not kept.
-pub fn unless(kept: bool, x: u8) -> u8
-    ensures { result ≡ unless kept x }
+// A refusal where a rule is not kept.
+pub fn unless(kept: bool, r: Refusal) -> Result<(), Refusal>
+    ensures { number_told result ≡ unless kept (number_of r) }
 {
-    if kept {
-        return 0;
-    }
-    x
+    if kept { Ok(()) } else { Err(r) }
 }
 
-// The first of two numbers that is not 0.
-fn or_else(a: u8, b: u8) -> u8
-    ensures { result ≡ or_else a b }
-{
-    if a == 0 {
-        return b;
-    }
-    a
-}
-
-// "2 and 7 now let kind 5 and the port numbers through": a variable of the model, or a port.
-fn is_name(v: u8, x: u8) -> bool
+// "2 and 7 now let kind 5 and the port numbers through": a variable of the model, or a port. "b is compared with V as the whole 32-bit number".
+fn is_name(v: u8, x: u32) -> bool
     ensures { result ≡ is_name v x }
 {
-    (x < v) | ((128 <= x) & (x < 136))
-}
-
-// "b is compared with V as the whole 32-bit number".
-fn is_long_name(v: u8, x: u32) -> bool
-    ensures { result ≡ is_name v x }
-{
-    (x < v as u32) | ((128 <= x) & (x < 136))
+    x < u32::from(v) || (128 <= x && x < 136)
 }
 
 // 4 where the horizon or a count is out of range.
-pub fn head_fault(h: Time, v: u8, e: u8) -> u8
-    ensures { result ≡ head_fault h.0 v e }
+pub fn head_fault(h: Time, v: u8, e: u8) -> Result<(), Refusal>
+    ensures { number_told result ≡ head_fault h.0 v e }
 {
     unless(
-        ((1 <= h.0) & (h.0 <= LARGEST_TIME)) & ((v <= 64) & (e <= 32)),
-        4,
+        1 <= h.0 && h.0 <= LARGEST_TIME && v <= 64 && e <= 32,
+        Refusal::WrongCount,
     )
 }
 
-// 5 where the delay is too long, or there is no test and B is not A or the limit not 0; then 7 where the event is not below
-// E, or the test variable not below V.
-fn next_fault(v: u8, short: bool, named: bool, x: Next) -> u8
-    ensures { result ≡ or_else (unless short wrong_closer) (or_else (choice_fault x) (or_else (unless named wrong_name) (test_fault v x))) }
+// "With 255, B equals A and the limit is 0."
+fn choice_fault(x: Next) -> Result<(), Refusal>
+    ensures { number_told result ≡ choice_fault x }
 {
-    let untested = x.test == 255;
-    let choice = unless(short & (!untested | ((x.b == x.a) & (x.limit == 0))), 5);
-    let tested = is_name(v, x.test);
-    or_else(choice, unless(named & (untested | tested), 7))
+    if x.test == 255 && (x.b != x.a || x.limit != 0) {
+        return Err(Refusal::WrongCloser);
+    }
+    Ok(())
+}
+
+// 7 where there is a test, and of no name.
+fn test_fault(v: u8, x: Next) -> Result<(), Refusal>
+    ensures { number_told result ≡ test_fault v x }
+{
+    if x.test == 255 {
+        return Ok(());
+    }
+    unless(is_name(v, u32::from(x.test)), Refusal::WrongName)
 }
 
 // The closer's 5, then its 7.
-pub fn closer_fault(v: u8, e: u8, closer: Closer) -> u8
-    ensures { result ≡ closer_fault v e closer }
+pub fn closer_fault(v: u8, e: u8, closer: Closer) -> Result<(), Refusal>
+    ensures { number_told result ≡ closer_fault v e closer }
 {
     match closer {
-        Closer::End => 0,
-        Closer::Time(k, x) => next_fault(v, k.0 as u64 <= LARGEST_TIME, true, x),
-        Closer::Event(w, x) => next_fault(v, true, w < e, x),
+        Closer::End => Ok(()),
+        Closer::Time(k, x) => {
+            unless(u64::from(k.0) <= LARGEST_TIME, Refusal::WrongCloser)?;
+            choice_fault(x)?;
+            test_fault(v, x)
+        }
+        Closer::Event(w, x) => {
+            choice_fault(x)?;
+            unless(w < e, Refusal::WrongName)?;
+            test_fault(v, x)
+        }
     }
 }
 
 // A statement's 7.
-pub fn op_fault(v: u8, e: u8, op: Op) -> u8
-    ensures { result ≡ op_fault v e op }
+pub fn op_fault(v: u8, e: u8, op: Op) -> Result<(), Refusal>
+    ensures { number_told result ≡ op_fault v e op }
 {
     match op {
-        Op::Set(a, _) | Op::Add(a, _) => unless(is_name(v, a), 7),
+        Op::Set(a, _) | Op::Add(a, _) => unless(is_name(v, u32::from(a)), Refusal::WrongName),
         Op::Copy(a, b) | Op::AddVariable(a, b) | Op::SubVariable(a, b) => {
-            unless(is_name(v, a) & is_long_name(v, b), 7)
+            unless(is_name(v, u32::from(a)), Refusal::WrongName)?;
+            unless(is_name(v, b), Refusal::WrongName)
         }
-        Op::Notify(w) => unless(w < e, 7),
+        Op::Notify(w) => unless(w < e, Refusal::WrongName),
     }
 }
 
-fn statements_fault(v: u8, e: u8, g: Segment) -> u8
-    requires { g.n ≤ 32 }
-    ensures { result ≡ statements_fault v e g }
+fn statements_fault(v: u8, e: u8, g: &Segment) -> Result<(), Refusal>
+    requires { g.now.n ≤ 32 }
+    ensures { number_told result ≡ statements_fault v e g.now }
 {
-    let n = g.n as usize;
-    let mut j = 0;
-    while j < n {
-        let x = g.statements[j];
-        let op = x.op;
-        let fault = op_fault(v, e, op);
-        if fault != 0 {
-            return fault;
-        }
-        j += 1;
+    for x in &g.statements[..usize::from(g.n)] {
+        op_fault(v, e, x.op)?;
     }
-    0
+    Ok(())
 }
 
 // A segment's 3, its closer's 5 and 7, then 7 of each statement.
-fn segment_fault(v: u8, e: u8, g: Segment) -> u8
-    ensures { result ≡ segment_fault v e g }
+fn segment_fault(v: u8, e: u8, g: &Segment) -> Result<(), Refusal>
+    ensures { number_told result ≡ segment_fault v e g.now }
 {
-    if 32 < g.n {
-        return 3;
-    }
-    let closer = g.closer;
-    let fault = closer_fault(v, e, closer);
-    if fault != 0 {
-        return fault;
-    }
+    unless(g.n <= 32, Refusal::WrongLength)?;
+    closer_fault(v, e, g.closer)?;
     statements_fault(v, e, g)
+}
+
+// Segment by segment; the 65th is 4.
+fn segments_fault(m: &Model) -> Result<(), Refusal>
+    ensures { number_told result ≡ segments_fault m.now }
+{
+    for g in &m.segments[..usize::from(m.n).min(64)] {
+        segment_fault(m.v, m.e, g)?;
+    }
+    unless(m.n <= 64, Refusal::WrongCount)
 }
 
 // Whether a next segment is not below N.
@@ -133,157 +127,100 @@ fn leaves_model(n: u8, closer: Closer) -> bool
     }
 }
 
-// Of a segment, its targets' 8 or its own faults.
-fn fault_of(n: u8, v: u8, e: u8, targets: bool, g: Segment) -> u8
-    ensures { result ≡ fault_of n v e targets g }
+fn any_segment_leaves(segments: &[Segment; 64], n: u8) -> bool
+    ensures { (m : Model) → m.segments ≡ segments.now → m.n ≡ n → result ≡ any_segment_leaves m }
 {
-    if targets {
-        let closer = g.closer;
-        return unless(!leaves_model(n, closer), 8);
-    }
-    segment_fault(v, e, g)
-}
-
-// How many places for segments are in use.
-fn places_used(n: u8) -> usize
-    ensures { result ≡ places_used n }
-{
-    if n < 64 {
-        return n as usize;
-    }
-    64
-}
-
-// Segment by segment; the 65th is 4.
-fn first_fault(m: Model, targets: bool) -> u8
-    ensures { result ≡ first_below m.n (fault_at m targets) }
-{
-    let n = places_used(m.n);
-    let mut i = 0;
-    while i < n {
-        let g = m.segments[i];
-        let fault = fault_of(m.n, m.v, m.e, targets, g);
-        if fault != 0 {
-            return fault;
-        }
-        i += 1;
-    }
-    unless(targets | (m.n <= 64), 4)
-}
-
-// 17 where a port is neither unused nor a variable of the model.
-pub fn ports_fault(v: u8, ports: [u8; 8]) -> u8
-    ensures { result ≡ ports_fault v ports }
-{
-    let mut p = 0;
-    while p < 8 {
-        let x = ports[p];
-        if !((x == 255) | (x < v)) {
-            return 17;
-        }
-        p += 1;
-    }
-    0
-}
-
-// Thread by thread, its ports' 17; the 33rd is 4.
-fn starts_fault(starts: [Start; 32], t: u8, v: u8) -> u8
-    ensures { (m : Model) → m.starts ≡ starts → m.t ≡ t → m.v ≡ v → result ≡ starts_fault m }
-{
-    let count = t as usize;
-    let mut k = 0;
-    while (k < count) & (k < 32) {
-        let x = starts[k];
-        let ports = x.ports;
-        let fault = ports_fault(v, ports);
-        if fault != 0 {
-            return fault;
-        }
-        k += 1;
-    }
-    unless(t <= 32, 4)
-}
-
-// 2 for no segment or no thread, then the threads' faults.
-fn counts_fault(starts: [Start; 32], n: u8, t: u8, v: u8) -> u8
-    ensures { (m : Model) → m.starts ≡ starts → m.n ≡ n → m.t ≡ t → m.v ≡ v → result ≡ counts_fault m }
-{
-    or_else(unless((1 <= n) & (1 <= t), 2), starts_fault(starts, t, v))
-}
-
-fn any_start_leaves(starts: [Start; 32], n: u8, t: u8) -> bool
-    ensures { (m : Model) → m.starts ≡ starts → m.n ≡ n → m.t ≡ t → result ≡ any_start_leaves m }
-{
-    let count = t as usize;
-    let mut k = 0;
-    while (k < count) & (k < 32) {
-        let x = starts[k];
-        if n <= x.first {
+    for g in &segments[..usize::from(n).min(64)] {
+        if leaves_model(n, g.closer) {
             return true;
         }
-        k += 1;
     }
     false
 }
 
-// 18 where a thread can reach a port that it leaves unused, by the masks of what it lacks.
-pub fn lack_in(starts: [Start; 32], t: u8, lacking: [u64; 32]) -> u8
-    ensures { (m : Model) → m.starts ≡ starts → m.t ≡ t → Linked m lacking → result ≡ lack_fault m }
+// 17 where a port is neither unused nor a variable of the model.
+pub fn ports_fault(v: u8, ports: [u8; 8]) -> Result<(), Refusal>
+    ensures { number_told result ≡ ports_fault v ports }
 {
-    let count = t as usize;
-    let mut k = 0;
-    while (k < count) & (k < 32) {
-        let x = starts[k];
-        if masks::has(lacking[k], x.first as usize) {
-            return 18;
+    for x in ports {
+        if x != 255 && v <= x {
+            return Err(Refusal::WrongPort);
         }
-        k += 1;
     }
-    0
+    Ok(())
+}
+
+// Thread by thread, its ports' 17; the 33rd is 4.
+fn starts_fault(m: &Model) -> Result<(), Refusal>
+    ensures { number_told result ≡ starts_fault m.now }
+{
+    for x in &m.starts[..usize::from(m.t).min(32)] {
+        ports_fault(m.v, x.ports)?;
+    }
+    unless(m.t <= 32, Refusal::WrongCount)
+}
+
+// 2 for no segment or no thread, then the threads' faults.
+fn counts_fault(m: &Model) -> Result<(), Refusal>
+    ensures { number_told result ≡ counts_fault m.now }
+{
+    unless(1 <= m.n, Refusal::WrongKind)?;
+    unless(1 <= m.t, Refusal::WrongKind)?;
+    starts_fault(m)
+}
+
+fn any_start_leaves(m: &Model) -> bool
+    ensures { result ≡ any_start_leaves m.now }
+{
+    for x in &m.starts[..usize::from(m.t).min(32)] {
+        if m.n <= x.first {
+            return true;
+        }
+    }
+    false
+}
+
+// 8 where a next or a first segment is not below N.
+fn targets_fault(m: &Model) -> Result<(), Refusal>
+    ensures { number_told result ≡ targets_fault m.now }
+{
+    unless(!any_segment_leaves(&m.segments, m.n), Refusal::WrongTarget)?;
+    unless(!any_start_leaves(m), Refusal::WrongTarget)
+}
+
+// 18 where a thread can reach a port that it leaves unused, by the masks of what it lacks.
+pub fn lack_in(starts: [Start; 32], t: u8, lacking: [u64; 32]) -> Result<(), Refusal>
+    ensures { (m : Model) → m.starts ≡ starts → m.t ≡ t → Linked m lacking → number_told result ≡ lack_fault m }
+{
+    for k in 0..usize::from(t).min(32) {
+        if masks::has(lacking[k], usize::from(starts[k].first)) {
+            return Err(Refusal::LackedPort);
+        }
+    }
+    Ok(())
 }
 
 // 18 of a model.
-pub fn lack_fault(m: Model) -> u8
-    ensures { m.n ≤ 64 → m.t ≤ 32 → ((k : ℕ) → k < m.t → (start_at m k).first < m.n) → result ≡ lack_fault m }
+pub fn lack_fault(m: Model) -> Result<(), Refusal>
+    ensures { m.n ≤ 64 → m.t ≤ 32 → ((k : ℕ) → k < m.t → (start_at m k).first < m.n) → number_told result ≡ lack_fault m }
 {
-    let lacking = model_reach::lacks(m);
-    let starts = m.starts;
-    lack_in(starts, m.t, lacking)
+    lack_in(m.starts, m.t, model_reach::lacks(m))
 }
 
-// The number of the first fault of a held model but 18, in file order.
-pub fn parts_fault(m: Model) -> u8
-    ensures { result ≡ parts_fault m }
+// The first fault of a held model but 18, in file order.
+pub fn parts_fault(m: Model) -> Result<(), Refusal>
+    ensures { number_told result ≡ parts_fault m }
 {
-    let h = m.horizon;
-    let head = head_fault(h, m.v, m.e);
-    if head != 0 {
-        return head;
-    }
-    let segments = first_fault(m, false);
-    if segments != 0 {
-        return segments;
-    }
-    let starts = m.starts;
-    let counts = counts_fault(starts, m.n, m.t, m.v);
-    if counts != 0 {
-        return counts;
-    }
-    or_else(
-        first_fault(m, true),
-        unless(!any_start_leaves(starts, m.n, m.t), 8),
-    )
+    head_fault(m.horizon, m.v, m.e)?;
+    segments_fault(&m)?;
+    counts_fault(&m)?;
+    targets_fault(&m)
 }
 
-// The number of the first fault of a held model, in file order; 0 where it keeps the file rules.
-pub fn model_fault(m: Model) -> u8
-    ensures { result ≡ model_fault m }
+// The first fault of a held model, in file order; none where it keeps the file rules.
+pub fn model_fault(m: Model) -> Result<(), Refusal>
+    ensures { number_told result ≡ model_fault m }
 {
-    let parts = parts_fault(m);
-    if parts != 0 {
-        return parts;
-    }
-    let lacking = model_reach::lacks(m);
-    let starts = m.starts;
-    lack_in(starts, m.t, lacking)
+    parts_fault(m)?;
+    lack_in(m.starts, m.t, model_reach::lacks(m))
 }

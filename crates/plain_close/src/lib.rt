@@ -2,7 +2,6 @@
 #![tactic(auto)]
 
 ghost use Rattle.std.specs.Prelude.{◌≡◌, not, ◌&&◌, ltb, eqb, ℕ, ◌+◌, ◌%◌, ◌≤◌, ◌<◌, ◌^◌, get_or, length};
-ghost use Rattle.plain_words.specs.Reach.{lesser_of};
 ghost use Rattle.plain_state.specs.Words.{next_word, close_word, wake_word, least_word};
 ghost use Rattle.plain_state.specs.Due.{Between, Late, IsLeast, Woken, IsDue, Ends};
 
@@ -19,9 +18,10 @@ fn next_delta(key: u64) -> u64
     ensures { result ≡ next_word key }
 {
     if key % 1024 < 1023 {
-        return key + 1;
+        key + 1
+    } else {
+        OVERRUN + key
     }
-    OVERRUN + key
 }
 
 // A thread whose segment ends so, at a cycle: over, waiting, or past a zero wait or a timed wait.
@@ -29,19 +29,15 @@ pub fn close_word(end: u64, key: u64) -> u64
     requires { key < 2 ^ 44 }
     ensures { result ≡ close_word end key }
 {
-    let kind = end % 4;
-    if kind == 0 {
-        return ENDED + key;
-    }
     let k = end / 1024;
-    if kind == 2 {
-        return WAITING + 17592186044416 * (k % 32) + key;
+    match end % 4 {
+        0 => ENDED + key,
+        2 => WAITING + 17592186044416 * (k % 32) + key,
+        _ => match k % 4294967296 {
+            0 => next_delta(key),
+            units => 1024 * (key / 1024 + units),
+        },
     }
-    let units = k % 4294967296;
-    if units == 0 {
-        return next_delta(key);
-    }
-    1024 * (key / 1024 + units)
 }
 
 // Document 01: "At the cycle's end, each thread waiting on an event notified in it, its wait begun in that cycle or before".
@@ -49,18 +45,12 @@ fn wake_word(told: &[bool; 32], key: u64, w: u64) -> u64
     requires { key < 2 ^ 44 }
     ensures { result ≡ wake_word told.now key w }
 {
-    if w < WAITING {
-        return w;
-    }
-    if ENDED <= w {
+    if w < WAITING || ENDED <= w {
         return w;
     }
     let x = w - WAITING;
     let e = ((x / 17592186044416) % 32) as usize;
-    if !told[e] {
-        return w;
-    }
-    if key < x % 17592186044416 {
+    if !told[e] || key < x % 17592186044416 {
         return w;
     }
     next_delta(key)
@@ -74,23 +64,11 @@ fn wake(state: &mut [u64; 32], told: &[bool; 32], key: u64, from: usize, to: usi
     requires state_len { length state.old ≡ 32 }
     ensures { Woken told.now key from to state.old state.new result }
 {
-    let mut least: u64 = 18446744073709551615;
-    let mut k = from;
-    while k < to {
-        let w = state[k];
-        let x = wake_word(told, key, w);
+    let mut least = u64::MAX;
+    for k in from..to {
+        let x = wake_word(told, key, state[k]);
         state[k] = x;
-        least = smaller(x, least);
-        k += 1;
-    }
-    least
-}
-
-fn smaller(w: u64, least: u64) -> u64
-    ensures { result ≡ lesser_of w least }
-{
-    if w < least {
-        return w;
+        least = x.min(least);
     }
     least
 }
@@ -102,11 +80,8 @@ pub fn floor_of(state: &[u64; 32], from: usize, to: usize, start: u64) -> u64
     ensures { IsLeast state.now from to start result }
 {
     let mut least = start;
-    let mut k = from;
-    while k < to {
-        let w = state[k];
-        least = smaller(w, least);
-        k += 1;
+    for w in &state[from..to] {
+        least = least.min(*w);
     }
     least
 }
@@ -133,10 +108,7 @@ fn least_of(state: &[u64; 32], key: u64, near: u64, from: usize, to: usize, t: u
 fn is_late(w: u64) -> bool
     ensures { result ≡ ltb w 4611686018427387904 && not (eqb (w % 1024) 0) }
 {
-    if w < WAITING {
-        return w % 1024 != 0;
-    }
-    false
+    w < WAITING && w % 1024 != 0
 }
 
 fn first_late(state: &[u64; 32], from: usize, to: usize) -> usize
@@ -145,15 +117,12 @@ fn first_late(state: &[u64; 32], from: usize, to: usize) -> usize
     ensures order { Between from (to + 1) result }
     ensures none { (k : ℕ) → Between from result k → Late (get_or state.now k 0) → ⊥ }
 {
-    let mut k = from;
-    while k < to {
-        let w = state[k];
-        if is_late(w) {
+    for k in from..to {
+        if is_late(state[k]) {
             return k;
         }
-        k += 1;
     }
-    k
+    to
 }
 
 fn past_late(state: &[u64; 32], from: usize, to: usize) -> usize
@@ -162,15 +131,12 @@ fn past_late(state: &[u64; 32], from: usize, to: usize) -> usize
     ensures order { Between from (to + 1) result }
     ensures none { (k : ℕ) → Between result to k → Late (get_or state.now k 0) → ⊥ }
 {
-    let mut k = to;
-    while from < k {
-        let w = state[k - 1];
-        if is_late(w) {
-            return k;
+    for k in (from..to).rev() {
+        if is_late(state[k]) {
+            return k + 1;
         }
-        k -= 1;
     }
-    k
+    from
 }
 
 // A cycle, and the threads that it has to look at: from one on and before another.
@@ -190,19 +156,18 @@ pub fn due_of(state: &[u64; 32], least: u64, from: usize, to: usize, t: usize) -
     ensures cycle { result.key ≡ least }
     ensures threads { IsDue t state.now least result.from result.to }
 {
-    if is_late(least) {
-        let first = first_late(state, from, to);
-        let past = past_late(state, first, to);
+    if !is_late(least) {
         return Due {
             key: least,
-            from: first,
-            to: past,
+            from: 0,
+            to: t,
         };
     }
+    let first = first_late(state, from, to);
     Due {
         key: least,
-        from: 0,
-        to: t,
+        from: first,
+        to: past_late(state, first, to),
     }
 }
 
@@ -224,9 +189,8 @@ pub fn end_cycle(
     ensures words { (k : ℕ) → k < t → get_or state.new k 0 ≡ wake_word told.now due.key (get_or state.old k 0) }
     ensures threads { IsDue t state.new result.key result.from result.to }
 {
-    let first = plain_execute::lesser(due.from, ranges[32]);
-    let most = plain_execute::greater(due.to, ranges[65]);
-    let past = plain_execute::lesser(t, most);
+    let first = due.from.min(ranges[32]);
+    let past = t.min(due.to.max(ranges[65]));
     let near = wake(state, told, due.key, first, past);
     let least = least_of(state, due.key, near, first, past, t);
     due_of(state, least, first, past, t)

@@ -14,6 +14,7 @@ use clock::{Cycle, Delta, Time};
 use model::{Model, State, Thread, Threads, Variables};
 use plain::PlainRun;
 use plain_close::{ENDED, OVERRUN, WAITING};
+use refusal::Refusal;
 
 fn state_of(w: u64) -> State
     ensures { result ≡ state_from w }
@@ -24,15 +25,14 @@ fn state_of(w: u64) -> State
         delta: Delta((key % 1024) as u32),
     };
     if w < WAITING {
-        return State::Ready(c);
+        State::Ready(c)
+    } else if w < ENDED {
+        State::Waiting((((w - WAITING) / 17592186044416) % 32) as u8, c)
+    } else if w < OVERRUN {
+        State::Ended(c)
+    } else {
+        State::Overrun(c)
     }
-    if w < ENDED {
-        return State::Waiting((((w - WAITING) / 17592186044416) % 32) as u8, c);
-    }
-    if w < OVERRUN {
-        return State::Ended(c);
-    }
-    State::Overrun(c)
 }
 
 fn threads_of(state: &[u64; 32], segments: &[u8; 32], t: usize) -> Threads
@@ -40,13 +40,11 @@ fn threads_of(state: &[u64; 32], segments: &[u8; 32], t: usize) -> Threads
     ensures { result.at ≡ threads_to state.now segments.now t }
 {
     let mut ts = model_effect::no_threads();
-    let mut k = 0;
-    while k < t {
-        let segment = segments[k];
-        let w = state[k];
-        let s = state_of(w);
-        ts.at[k] = Thread { segment, state: s };
-        k += 1;
+    for k in 0..t {
+        ts.at[k] = Thread {
+            segment: segments[k],
+            state: state_of(state[k]),
+        };
     }
     ts
 }
@@ -57,11 +55,8 @@ fn first_rows(m: Model) -> [u8; 32]
     ensures first { (k : ℕ) → k < 32 → get_or result k 0 ≡ (start_at m k).first % 64 }
 {
     let mut rows = [0u8; 32];
-    let mut k = 0;
-    while k < 32 {
-        let s = m.starts[k];
-        rows[k] = s.first % 64;
-        k += 1;
+    for (k, start) in m.starts.iter().enumerate() {
+        rows[k] = start.first % 64;
     }
     rows
 }
@@ -71,11 +66,7 @@ fn no_ranges() -> [usize; 66]
     ensures { length result ≡ 66 }
 {
     let mut ranges = [0usize; 66];
-    let mut i = 0;
-    while i < 33 {
-        ranges[i] = 32;
-        i += 1;
-    }
+    ranges[..33].fill(32);
     ranges
 }
 
@@ -110,7 +101,7 @@ fn cycles(m: Model, budget: u64) -> PlainRun
     requires { model_fault m ≡ 0 }
     ensures { result ≡ reported m (run_for m budget (last_step m) (start_of m)) }
 {
-    let t = m.t as usize;
+    let t = usize::from(m.t);
     let limit = 1024 * (m.horizon.0 + 1);
     let mut code = plain_pack::pack(m);
     let marked = plain_pack::any_marked(&code);
@@ -152,16 +143,14 @@ fn cycles(m: Model, budget: u64) -> PlainRun
 pub fn plain_run(m: Model, budget: u64) -> PlainRun
     ensures { result ≡ plain_run m budget }
 {
-    if model_rules::model_fault(m) != 0 {
-        let threads = model_effect::no_threads();
-        let variables = Variables { at: [0u32; 64] };
-        return PlainRun {
-            number: 11,
-            variables,
-            threads,
+    match model_rules::model_fault(m) {
+        Ok(()) => cycles(m, budget),
+        Err(_) => PlainRun {
+            number: u8::from(Refusal::Unfit),
+            variables: Variables { at: [0; 64] },
+            threads: model_effect::no_threads(),
             n: 0,
             spent: false,
-        };
+        },
     }
-    cycles(m, budget)
 }

@@ -12,11 +12,9 @@ fn wait_for(end: u64, turn: usize, ranges: &mut [usize; 66])
     requires { turn < 32 }
     ensures { ranges.new ≡ waited_by end turn ranges.old }
 {
-    if end % 4 != 2 {
-        return;
+    if end % 4 == 2 {
+        plain_execute::widen(ranges, ((end / 1024) % 32) as usize, turn, turn + 1);
     }
-    let e = ((end / 1024) % 32) as usize;
-    plain_execute::widen(ranges, e, turn, turn + 1);
 }
 
 // One thread is looked at: if it is ready in this cycle, and the budget has room, it runs its segment whole.
@@ -36,10 +34,7 @@ fn look_at(
     requires key_bound { key < 2 ^ 44 }
     ensures { locals v.new state.new rows.new told.new ranges.new result ≡ turn_on (λ _. code.now) key budget turn (locals v.old state.old rows.old told.old ranges.old n) }
 {
-    if state[turn] != key {
-        return n;
-    }
-    if budget <= n {
+    if state[turn] != key || budget <= n {
         return n;
     }
     let s = rows[turn];
@@ -69,14 +64,9 @@ pub fn run_cycle(
     requires by_index { (k : ℕ) → k < due.from → get_or state.old k 0 ≡ due.key → ⊥ }
     ensures { locals v.new state.new rows.new told.new ranges.new result ≡ turns_to (λ _. code.now) due.key budget due.to (locals v.old state.old rows.old told.old ranges.old ran) }
 {
-    let key = due.key;
-    let from = due.from;
-    let to = due.to;
     let mut n = ran;
-    let mut turn = from;
-    while turn < to {
-        n = look_at(code, turn, key, budget, n, v, state, rows, told, ranges);
-        turn += 1;
+    for turn in due.from..due.to {
+        n = look_at(code, turn, due.key, budget, n, v, state, rows, told, ranges);
     }
     n
 }
@@ -86,9 +76,5 @@ pub fn is_out(state: &[u64; 32], t: usize, key: u64, budget: u64, n: u64) -> boo
     requires { t ≤ 32 }
     ensures { result ≡ leb budget n && leb (least_word t state.now) key }
 {
-    if n < budget {
-        return false;
-    }
-    let least = plain_close::floor_of(state, 0, t, 18446744073709551615);
-    least <= key
+    budget <= n && plain_close::floor_of(state, 0, t, u64::MAX) <= key
 }

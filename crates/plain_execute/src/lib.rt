@@ -3,43 +3,16 @@
 
 ghost use Rattle.std.specs.Prelude.{◌≡◌, ◌+◌, ◌-◌, ◌/◌, ◌%◌, ◌^◌, true, slice_index, slice_set};
 ghost use Rattle.plain_words.specs.Unpack.{next_by, follow_by};
-ghost use Rattle.plain_words.specs.Reach.{lesser_of, greater_of, widened};
+ghost use Rattle.plain_words.specs.Reach.{widened};
 ghost use Rattle.plain_words.specs.Shared.{shared, execute_word, execute_by};
-
-// Document 01: "Sums and differences are taken modulo 4,294,967,296".
-fn difference(a: u32, b: u32) -> u32
-    ensures { result ≡ (a + 2 ^ 32 - b) % 2 ^ 32 }
-{
-    std::num::wrapping_sub_u32(a, b)
-}
-
-pub fn lesser(a: usize, b: usize) -> usize
-    ensures { result ≡ lesser_of a b }
-{
-    if a < b {
-        return a;
-    }
-    b
-}
-
-pub fn greater(a: usize, b: usize) -> usize
-    ensures { result ≡ greater_of a b }
-{
-    if a < b {
-        return b;
-    }
-    a
-}
 
 // A range of threads is made to hold those from first on and before past too.
 pub fn widen(ranges: &mut [usize; 66], i: usize, first: usize, past: usize)
     ensures { ranges.new ≡ widened (i % 33) first past ranges.old }
 {
     let j = i % 33;
-    let a = ranges[j];
-    let b = ranges[33 + j];
-    ranges[j] = lesser(first, a);
-    ranges[33 + j] = greater(past, b);
+    ranges[j] = first.min(ranges[j]);
+    ranges[33 + j] = past.max(ranges[33 + j]);
 }
 
 // A notification: its event is marked, and the threads that wait for it are reached.
@@ -54,7 +27,7 @@ fn tell(w: u64, told: &mut [bool; 32], ranges: &mut [usize; 66])
     widen(ranges, 32, first, past);
 }
 
-// One statement. All eight codes have an arm, so that the jump needs no test of its range.
+// One statement, by document 01: "Sums and differences are taken modulo 4,294,967,296". All eight codes have an arm, so that the jump needs no test of its range.
 fn execute_word(w: u64, v: &mut [u32; 64], told: &mut [bool; 32], ranges: &mut [usize; 66])
     ensures { shared v.new told.new ranges.new ≡ execute_word w (shared v.old told.old ranges.old) }
 {
@@ -65,16 +38,16 @@ fn execute_word(w: u64, v: &mut [u32; 64], told: &mut [bool; 32], ranges: &mut [
             v[a] = ((w / 2048) % 4294967296) as u32;
         }
         1 => {
-            v[a] = std::num::wrapping_add_u32(v[a], ((w / 2048) % 4294967296) as u32);
+            v[a] = v[a].wrapping_add(((w / 2048) % 4294967296) as u32);
         }
         2 => {
             v[a] = v[b];
         }
         3 => {
-            v[a] = std::num::wrapping_add_u32(v[a], v[b]);
+            v[a] = v[a].wrapping_add(v[b]);
         }
         4 => {
-            v[a] = difference(v[a], v[b]);
+            v[a] = v[a].wrapping_sub(v[b]);
         }
         5 | 6 | 7 => {
             tell(w, told, ranges);
@@ -93,21 +66,11 @@ fn execute(
 )
     ensures { shared v.new told.new ranges.new ≡ execute_by code.now s (shared v.old told.old ranges.old) }
 {
-    let i = buffers::wide(s);
-    let base = 34 * (i % 128);
+    let base = 34 * (usize::from(s) % 128);
     let n = plain_pack::size_of(code[base]);
-    let mut j = 0;
-    while j < n {
-        let w = code[base + 2 + j];
-        execute_word(w, v, told, ranges);
-        j += 1;
+    for w in &code[base + 2..base + 2 + n] {
+        execute_word(*w, v, told, ranges);
     }
-}
-
-fn wide_word(x: u32) -> u64
-    ensures { result ≡ x }
-{
-    x as u64
 }
 
 // Document 01: "The next segment is A if the variable is below the limit after the statements, else B".
@@ -115,28 +78,23 @@ fn next_segment(next: u64, v: &[u32; 64]) -> u8
     ensures { result ≡ next_by next v.now }
 {
     let test = (next / 65536) % 256;
-    if test == 255 {
-        return (next % 64) as u8;
+    if test == 255 || u64::from(v[(test % 64) as usize]) < next / 16777216 {
+        (next % 64) as u8
+    } else {
+        ((next / 256) % 64) as u8
     }
-    let i = (test % 64) as usize;
-    let x = wide_word(v[i]);
-    if x < next / 16777216 {
-        return (next % 64) as u8;
-    }
-    ((next / 256) % 64) as u8
 }
 
 // The segment after s: "The segment is the next to run; in an ended thread, the last run".
 fn follow(code: &[u64; 4384], s: u8, v: &[u32; 64]) -> u8
     ensures { result ≡ follow_by code.now s v.now }
 {
-    let i = buffers::wide(s);
-    let base = 34 * (i % 128);
+    let base = 34 * (usize::from(s) % 128);
     if code[base] % 4 == 0 {
-        return s;
+        s
+    } else {
+        next_segment(code[base + 1], v)
     }
-    let next = code[base + 1];
-    next_segment(next, v)
 }
 
 // The segment in row s is run whole: the row of the segment after it.

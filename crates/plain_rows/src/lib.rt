@@ -14,14 +14,10 @@ fn mapped_name(code: &[u64; 4384], turn: usize, x: u64) -> u64
     ensures name { result ≡ mapped (ports_by code.now turn) x }
     ensures range { (n : ℕ) → 256 ≤ n → x < n → result < n }
 {
-    if x < 128 {
-        return x;
+    match x {
+        128..=135 => code[2176 + 8 * turn + (x - 128) as usize] % 256,
+        _ => x,
     }
-    if 135 < x {
-        return x;
-    }
-    let p = (x - 128) as usize;
-    code[2176 + 8 * turn + p] % 256
 }
 
 // A statement after mapping: events have no ports, and a number that is set or added names nothing.
@@ -34,10 +30,11 @@ fn mapped_word(code: &[u64; 4384], turn: usize, w: u64) -> u64
         return w;
     }
     let a = mapped_name(code, turn, (w / 8) % 256);
-    if operation < 2 {
-        return operation + 8 * a + 2048 * (w / 2048);
-    }
-    let b = mapped_name(code, turn, w / 2048);
+    let b = if operation < 2 {
+        w / 2048
+    } else {
+        mapped_name(code, turn, w / 2048)
+    };
     operation + 8 * a + 2048 * b
 }
 
@@ -57,11 +54,9 @@ fn map_statements(code: &mut [u64; 4384], turn: usize, s: usize)
 {
     let base = 34 * s + 2;
     let own = 2450 + 34 * turn;
-    let mut j = 0;
-    while j < 32 {
+    for j in 0..32 {
         let w = code[base + j];
         code[own + j] = mapped_word(code, turn, w);
-        j += 1;
     }
 }
 
@@ -94,7 +89,7 @@ fn hold(code: &mut [u64; 4384], held: &mut [u8; 32], turn: usize, s: u8)
     if held[turn] == s {
         return;
     }
-    map_row(code, turn, buffers::wide(s));
+    map_row(code, turn, usize::from(s));
     held[turn] = s;
 }
 
@@ -111,10 +106,7 @@ fn prepare_one(code: &mut [u64; 4384], held: &mut [u8; 32], rows: &mut [u8; 32],
     ensures kept { Kept code.old code.new }
 {
     let s = rows[turn];
-    if 64 <= s {
-        return;
-    }
-    if plain_pack::end_of(code, s) < PORTS {
+    if 64 <= s || plain_pack::end_of(code, s) < PORTS {
         return;
     }
     hold(code, held, turn, s);
@@ -134,10 +126,8 @@ fn prepare_all(
     requires in_rows { InRows held.old rows.old }
     ensures { Prepared code.old held.old rows.old code.new held.new rows.new from to }
 {
-    let mut turn = from;
-    while turn < to {
+    for turn in from..to {
         prepare_one(code, held, rows, turn);
-        turn += 1;
     }
 }
 
@@ -165,10 +155,7 @@ pub fn prepare(
 fn segment_by(held: u8, row: u8) -> u8
     ensures { result ≡ segment_by held row }
 {
-    if row < 64 {
-        return row;
-    }
-    held
+    if row < 64 { row } else { held }
 }
 
 // The segments in which the threads are.
@@ -176,10 +163,8 @@ pub fn segments_by(held: &[u8; 32], rows: &[u8; 32]) -> [u8; 32]
     ensures { result ≡ segments_by held.now rows.now }
 {
     let mut segments = [0u8; 32];
-    let mut k = 0;
-    while k < 32 {
-        segments[k] = segment_by(held[k], rows[k]);
-        k += 1;
+    for (k, x) in segments.iter_mut().enumerate() {
+        *x = segment_by(held[k], rows[k]);
     }
     segments
 }

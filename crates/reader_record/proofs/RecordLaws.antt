@@ -1,34 +1,41 @@
 -- One record: what its head says, and what follows of a head with no 1, 2 or 3.
---     is_whole-.., framing_fault-..     the exits of `is_whole` and `framing_fault`
+--     is_whole-head, follows-no_kind, framing_fault-..     the exits of `framing_fault`
 --     opened-..     what no fault says of the length and the kind
 use Prim.Native.Nat.{ℕ, ◌≤◌, ◌<◌}
-use mathlib.Core.Path.{◌∙◌, ◌≡◌, refl}
-use mathlib.Core.Bool.{true, false}
+use mathlib.Core.Path.{◌∙◌, ◌≡◌, refl, sym}
+use mathlib.Core.Bool.{Bool, true, false, cond}
 use mathlib.Core.List.{List}
 use native.Mathlib.Omega.{arith}
-use lib.Dec.{leb}
+use lib.Dec.{eqb}
 use lib.ListN.{length, take}
 use lib.Seq.{length-take-le}
-use borrow.Author.Tests.{eqb-true, le-leb, lt-leb}
+use borrow.Author.Tests.{eqb-true, lt-leb, ne_eqb}
 use Rattle.base.specs.Index.{or_else}
 use Rattle.reader.specs.Word.{word_at}
 use Rattle.reader.specs.Record.{follows, length_fits, framing_fault}
 use Rattle.reader_laws.proofs.FrameLaws.{framed, head-length, thread-length, ports-length, follows-end}
 use Rattle.reader_segment.specs.Parts.{fits}
+use Rattle.reader_record.specs.declared.Kind.{Kind}
+use Rattle.reader_record.specs.declared.Kind.TheVariants.{Head, Segment, Thread, End, Ports}
+use Rattle.reader_record.specs.Kinds.{kind_number}
 use Rattle.reader_record.specs.Parts.{is_whole}
 
-module _ (b : List ℕ) where
-  pub is_whole-head : length b < 4 → false ≡ is_whole b
-  unfolding is_whole
-  is_whole-head h = rw (lt-leb 4 (length b) h) refl
+pub is_whole-head : (b : List ℕ) → length b < 4 → false ≡ is_whole b
+unfolding is_whole
+is_whole-head b h = rw (lt-leb 4 (length b) h) refl
 
-  pub is_whole-least : (x : ℕ) → 4 ≤ length b → x ≡ word_at b 0 → x < 4 → false ≡ is_whole b
-  unfolding is_whole
-  is_whole-least x h e l = rw (le-leb 4 (length b) h, ← e, lt-leb 4 x l) refl
-
-  pub is_whole-left : (x : ℕ) → 4 ≤ length b → x ≡ word_at b 0 → 4 ≤ x → leb x (length b) ≡ is_whole b
-  unfolding is_whole
-  is_whole-left x h e l = rw (le-leb 4 (length b) h, ← e, le-leb 4 x l) refl
+-- a number of no kind comes after nothing
+pub follows-no_kind : (last n : ℕ) → ((k : Kind) → kind_number k ≡ n → ⊥) → follows last n ≡ false
+unfolding follows
+follows-no_kind last n none = rw (ne_eqb n 1 (λ z. none Head (sym z)), ne_eqb n 2 (λ z. none Segment (sym z)), ne_eqb n 3 (λ z. none Thread (sym z)), ne_eqb n 4 (λ z. none End (sym z)), ne_eqb n 5 (λ z. none Ports (sym z))) (go (eqb last 0) (eqb last 1) (eqb last 2) (eqb last 3) (eqb last 5))
+  where
+    go : (s t u w p : Bool) → cond s false (cond t false (cond u false (cond w false (cond p false false)))) ≡ false
+    go true t u w p = refl
+    go false true u w p = refl
+    go false false true w p = refl
+    go false false false true p = refl
+    go false false false false true = refl
+    go false false false false false = refl
 
 module _ (last : ℕ) (b : List ℕ) where
   pub framing_fault-short : is_whole b ≡ false → 1 ≡ framing_fault last b

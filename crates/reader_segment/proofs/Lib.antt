@@ -1,4 +1,3 @@
-pub mod WordLaws
 pub mod CloserLaws
 pub mod StatementLaws
 pub mod SegmentLaws

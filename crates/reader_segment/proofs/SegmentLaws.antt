@@ -14,6 +14,7 @@ use lib.ListN.{length, set, take, drop, replicate, length-drop}
 use lib.Seq.{set_at, append_snoc, take_all}
 use Rattle.base.specs.Index.{tabulate}
 use Rattle.base.proofs.IndexLaws.{first_below-none, first_below-more, first_below-here, tabulate-length, tabulate-more}
+use Rattle.model.specs.declared.Op.{Op}
 use Rattle.model.specs.declared.Statement.{Statement}
 use Rattle.clock.specs.declared.Delay.{Delay}
 use Rattle.model.specs.declared.Next.{Next}
@@ -26,8 +27,7 @@ use Rattle.reader.specs.Closer.{closer_from, closer_bytes_fault}
 use Rattle.reader.specs.Statement.{op_from, op_bytes_fault}
 use Rattle.reader.specs.Record.{statement_count, statement_bytes, segment_from, segment_bytes_fault}
 use Rattle.reader_laws.proofs.FrameLaws.{segment-length}
-use Rattle.reader_segment.specs.declared.Decoded.{Decoded}
-use Rattle.reader_segment.specs.Parts.{decoded_from, statements_from, statements_bytes_fault, fits, count_in, closer_in, bound_of, target_bound, segment_record_fault, segment_in}
+use Rattle.reader_segment.specs.Parts.{statements_from, statements_bytes_fault, fits, count_in, closer_in, bound_of, target_bound, segment_record_fault, segment_in}
 
 -- the next place filled
 module _ {A : Type 0} where
@@ -86,8 +86,8 @@ module _ (r : List ℕ) where
   unfolding statements_from tabulate
   statements_from-none = refl
 
-  statements_from-more : (j : ℕ) (x : Decoded) (ss : List Statement) → j < 32 → x ≡ decoded_from (statement_part r j) → ss ≡ statements_from j r → set ss j (record { op = x.1 }) ≡ statements_from (j + 1) r
-  unfolding statements_from decoded_from
+  statements_from-more : (j : ℕ) (x : Op) (ss : List Statement) → j < 32 → x ≡ op_from (statement_part r j) → ss ≡ statements_from j r → set ss j (record { op = x }) ≡ statements_from (j + 1) r
+  unfolding statements_from
   statements_from-more j x ss h p q = rw (add-one, q, p, part-rest r (17 + 6 * j)) (tabulate-set j 32 (λ i. record { op = op_from (statement_bytes r i) }) no_statement h)
 
 module _ (v e : ℕ) (r : List ℕ) where
@@ -135,8 +135,8 @@ module _ (r : List ℕ) where
   unfolding segment_to with-statements
   segment_to-none c n p q = rw (p, q) (ap with-statements (statements_from-none r))
 
-  pub segment_to-more : (j : ℕ) (x : Decoded) (g : Segment) → j < 32 → x ≡ decoded_from (statement_part r j) → g ≡ segment_to j r
-      → record { closer = g.closer; n = g.n; statements = set g.statements j (record { op = x.1 }) } ≡ segment_to (j + 1) r
+  pub segment_to-more : (j : ℕ) (x : Op) (g : Segment) → j < 32 → x ≡ op_from (statement_part r j) → g ≡ segment_to j r
+      → record { closer = g.closer; n = g.n; statements = set g.statements j (record { op = x }) } ≡ segment_to (j + 1) r
   unfolding segment_to with-statements
   segment_to-more j x g h p q = rw q (ap with-statements (statements_from-more r j x _ h p refl))
 

@@ -13,13 +13,8 @@ use Rattle.model.specs.Effect.{no_test}
 use Rattle.model.specs.Rules.{unless}
 use Rattle.reader.specs.Word.{byte_at}
 use Rattle.reader.specs.Closer.{closer_from}
-use Rattle.reader.specs.Statement.{op_from, op_shape_fault, op_bytes_fault}
+use Rattle.reader.specs.Statement.{op_from, op_bytes_fault}
 use Rattle.reader.specs.Record.{segment_kind, length_fits, statement_count, statement_bytes, segment_from, segment_bytes_fault}
-use Rattle.reader_segment.specs.declared.Decoded.{Decoded}
-
--- a statement's 6, or 0, and its operation
-unfoldable pub decoded_from : List ℕ → Decoded
-decoded_from b = record { 0 = op_shape_fault b; 1 = op_from b }
 
 -- the first j statements of a segment's record r, and unused places
 unfoldable pub statements_from : ℕ → List ℕ → List Statement

@@ -1,32 +1,23 @@
 // Document 01, "Model file": the record of a segment, from its bytes to its first fault and to the segment.
 #![tactic(auto)]
 
-ghost use Rattle.std.specs.Prelude.{◌≡◌, ◌+◌, ◌≤◌, ◌<◌, length};
+ghost use Rattle.std.specs.Prelude.{◌≡◌, ◌+◌, ◌≤◌, ◌<◌, length, IfOk};
+ghost use Rattle.refusal.specs.Number.{number_told};
 ghost use Rattle.reader.specs.Word.{word_at, long_at};
 ghost use Rattle.reader.specs.Closer.{next_from, closer_from, rest_is_zero, closer_shape_fault, closer_bytes_fault};
-ghost use Rattle.reader.specs.Statement.{op_bytes_fault};
+ghost use Rattle.reader.specs.Statement.{op_from, op_shape_fault, op_bytes_fault};
 ghost use Rattle.reader.specs.Record.{segment_kind, length_fits, statement_count};
-ghost use Rattle.reader_segment.specs.Parts.{decoded_from, statements_bytes_fault, count_in, closer_in, bound_of, target_bound, segment_record_fault, segment_in, op_names, test_names, record_names};
+ghost use Rattle.reader_segment.specs.Parts.{statements_bytes_fault, count_in, closer_in, bound_of, target_bound, segment_record_fault, segment_in, op_names, test_names, record_names};
 
 use clock::Delay;
 use model::{Closer, Next, Op, Segment, Statement};
-
-// A statement's 6, or 0, and its operation.
-#[derive(Clone, Copy)]
-struct Decoded(u8, Op);
+use refusal::Refusal;
 
 // A byte as a longer word.
 pub fn wide(x: u8) -> u32
     ensures { (result ≡ x) × (result < 256) }
 {
-    x as u32
-}
-
-fn small(x: usize) -> u8
-    requires { x < 256 }
-    ensures { result ≡ x }
-{
-    x as u8
+    u32::from(x)
 }
 
 // Document 01: "Little-endian." The bytes are there.
@@ -34,7 +25,7 @@ fn word_within(s: &[u8], at: usize) -> u32
     requires { at + 2 ≤ length s.now }
     ensures { (result ≡ word_at s.now at) × (result < 65536) }
 {
-    wide(s[at]) + wide(s[at + 1]) * 256
+    u32::from(s[at]) + u32::from(s[at + 1]) * 256
 }
 
 fn long_within(s: &[u8], at: usize) -> u32
@@ -48,13 +39,11 @@ fn long_within(s: &[u8], at: usize) -> u32
 pub fn word_at(s: &[u8], at: usize) -> u32
     ensures { (result ≡ word_at s.now at) × (result < 65536) }
 {
-    if at >= s.len() {
-        return 0;
+    match s.len().saturating_sub(at) {
+        0 => 0,
+        1 => u32::from(s[at]),
+        _ => word_within(s, at),
     }
-    if s.len() - at == 1 {
-        return wide(s[at]);
-    }
-    word_within(s, at)
 }
 
 // Four bytes.
@@ -62,13 +51,11 @@ pub fn long_at(s: &[u8], at: usize) -> u32
     ensures { result ≡ long_at s.now at }
 {
     let low = word_at(s, at);
-    if at >= s.len() {
-        return low;
+    if s.len().saturating_sub(at) <= 2 {
+        low
+    } else {
+        low + word_at(s, at + 2) * 65536
     }
-    if s.len() - at <= 2 {
-        return low;
-    }
-    low + word_at(s, at + 2) * 65536
 }
 
 // Document 01: "Bytes 6 and 7 are next segments A and B. Byte 8 is a test variable, or 255 for none. Bytes 9 to 12 are a limit."
@@ -85,12 +72,12 @@ fn next_from(s: &[u8]) -> Next
 }
 
 // Document 01: "Byte 0 is 0 end, 1 wait for time, 2 wait for event."
+#[tactic(auto, unfolding(reader::specs::Closer::closer_from))]
 fn closer_from(s: &[u8]) -> Closer
     requires { 13 ≤ length s.now }
     ensures { result ≡ closer_from s.now }
 {
-    let kind = s[0];
-    match kind {
+    match s[0] {
         1 => Closer::Time(Delay(long_within(s, 2)), next_from(s)),
         2 => Closer::Event(s[1], next_from(s)),
         0 | 3..=255 => Closer::End,
@@ -102,118 +89,91 @@ fn rest_is_zero(s: &[u8]) -> bool
     requires { 13 ≤ length s.now }
     ensures { result ≡ rest_is_zero s.now }
 {
-    let mut i = 0;
-    while i < 12 {
-        if s[i + 1] != 0 {
-            return false;
-        }
-        i += 1;
-    }
-    true
+    s[1..13].iter().all(|x| *x == 0)
 }
 
 // 5 where the bytes break a rule that a declared closer cannot.
-fn closer_shape_fault(s: &[u8]) -> u8
+#[tactic(auto, unfolding(reader::specs::Closer::closer_shape_fault))]
+fn closer_shape_fault(s: &[u8]) -> Result<(), Refusal>
     requires { 13 ≤ length s.now }
-    ensures { result ≡ closer_shape_fault s.now }
+    ensures { number_told result ≡ closer_shape_fault s.now }
 {
-    let kind = s[0];
-    match kind {
-        0 => model_rules::unless(rest_is_zero(s), 5),
-        1 => model_rules::unless(s[1] == 0, 5),
-        2 => model_rules::unless(long_within(s, 2) == 0, 5),
-        3..=255 => 5,
+    match s[0] {
+        0 => model_rules::unless(rest_is_zero(s), Refusal::WrongCloser),
+        1 => model_rules::unless(s[1] == 0, Refusal::WrongCloser),
+        2 => model_rules::unless(long_within(s, 2) == 0, Refusal::WrongCloser),
+        3..=255 => Err(Refusal::WrongCloser),
     }
 }
 
 // Document 01: "the closer's 5 and 7".
-fn closer_bytes_fault(v: u8, e: u8, s: &[u8]) -> u8
+fn closer_bytes_fault(v: u8, e: u8, s: &[u8]) -> Result<(), Refusal>
     requires { 13 ≤ length s.now }
-    ensures { result ≡ closer_bytes_fault v e s.now }
+    ensures { number_told result ≡ closer_bytes_fault v e s.now }
 {
-    let shape = closer_shape_fault(s);
-    if shape != 0 {
-        return shape;
-    }
+    closer_shape_fault(s)?;
     model_rules::closer_fault(v, e, closer_from(s))
 }
 
-// Document 01: "An operation byte outside 1 to 6 is refused." Beside a 6 the operation is not used.
-fn decode(s: &[u8]) -> Decoded
+// Document 01: "An operation byte outside 1 to 6 is refused."
+#[tactic(auto, unfolding(reader::specs::Statement::op_from, reader::specs::Statement::op_shape_fault))]
+fn decode(s: &[u8]) -> Result<Op, Refusal>
     requires { 6 ≤ length s.now }
-    ensures { result ≡ decoded_from s.now }
+    ensures fault { number_told result ≡ op_shape_fault s.now }
+    ensures op { IfOk result (λ op. op ≡ op_from s.now) }
 {
-    let kind = s[0];
     let a = s[1];
     let b = long_within(s, 2);
-    match kind {
-        1 => Decoded(0, Op::Set(a, b)),
-        2 => Decoded(0, Op::Add(a, b)),
-        3 => Decoded(0, Op::Copy(a, b)),
-        4 => Decoded(0, Op::AddVariable(a, b)),
-        5 => Decoded(0, Op::SubVariable(a, b)),
-        6 => Decoded(model_rules::unless(b == 0, 6), Op::Notify(a)),
-        0 | 7..=255 => Decoded(6, Op::Notify(a)),
+    match s[0] {
+        1 => Ok(Op::Set(a, b)),
+        2 => Ok(Op::Add(a, b)),
+        3 => Ok(Op::Copy(a, b)),
+        4 => Ok(Op::AddVariable(a, b)),
+        5 => Ok(Op::SubVariable(a, b)),
+        6 if b == 0 => Ok(Op::Notify(a)),
+        0 | 6..=255 => Err(Refusal::WrongStatement),
     }
 }
 
 // Document 01: "6 and 7 of each statement".
-fn statement_fault(v: u8, e: u8, s: &[u8]) -> u8
+fn statement_fault(v: u8, e: u8, s: &[u8]) -> Result<(), Refusal>
     requires { 6 ≤ length s.now }
-    ensures { result ≡ op_bytes_fault v e s.now }
+    ensures { number_told result ≡ op_bytes_fault v e s.now }
 {
-    let x = decode(s);
-    if x.0 != 0 {
-        return x.0;
-    }
-    let op = x.1;
+    let op = decode(s)?;
     model_rules::op_fault(v, e, op)
 }
 
 // Document 01: "then n statements of 6 bytes".
-fn statements_fault(v: u8, e: u8, r: &[u8]) -> u8
+fn statements_fault(v: u8, e: u8, r: &[u8]) -> Result<(), Refusal>
     requires { (17 ≤ length r.now) × (length r.now ≤ 209) }
-    ensures { result ≡ statements_bytes_fault (statement_count r.now) v e r.now }
+    ensures { number_told result ≡ statements_bytes_fault (statement_count r.now) v e r.now }
 {
     let n = (r.len() - 17) / 6;
-    let mut j = 0;
-    while j < n {
+    for j in 0..n {
         let at = 17 + 6 * j;
-        let fault = statement_fault(v, e, &r[at..]);
-        if fault != 0 {
-            return fault;
-        }
-        j += 1;
+        statement_fault(v, e, &r[at..])?;
     }
-    0
+    Ok(())
 }
 
 // Document 01: "segment, length 17 + 6n, n from 0 to 32".
+#[tactic(auto, unfolding(reader::specs::Record::length_fits))]
 pub fn segment_length_fits(size: usize) -> bool
     ensures { result ≡ length_fits segment_kind size }
 {
-    if size < 17 {
-        return false;
-    }
-    if 209 < size {
-        return false;
-    }
-    (size - 17) % 6 == 0
+    17 <= size && size <= 209 && (size - 17) % 6 == 0
 }
 
 // A segment's record: 3, then "the closer's 5 and 7, then 6 and 7 of each statement".
-pub fn segment_fault(v: u8, e: u8, r: &[u8]) -> u8
-    ensures { result ≡ segment_record_fault v e r.now }
+pub fn segment_fault(v: u8, e: u8, r: &[u8]) -> Result<(), Refusal>
+    ensures { number_told result ≡ segment_record_fault v e r.now }
 {
     if !segment_length_fits(r.len()) {
-        return 3;
+        return Err(Refusal::WrongLength);
     }
-    let closer = closer_bytes_fault(v, e, &r[4..]);
-    let statements = statements_fault(v, e, r);
-    if closer != 0 {
-        return closer;
-    }
-    statements
+    closer_bytes_fault(v, e, &r[4..])?;
+    statements_fault(v, e, r)
 }
 
 // How many statements a record holds, none where its length does not fit.
@@ -236,23 +196,20 @@ fn closer_in(r: &[u8]) -> Closer
     closer_from(&r[4..])
 }
 
-// The segment that a record says.
+// The segment that a record says. A statement that is refused stands in it as a notify.
 pub fn segment_from(r: &[u8]) -> Segment
     ensures { result ≡ segment_in r.now }
 {
     let n = count_in(r);
     let mut g = Segment {
         closer: closer_in(r),
-        n: small(n),
+        n: n as u8,
         statements: [Statement { op: Op::Set(0, 0) }; 32],
     };
-    let mut j = 0;
-    while j < n {
+    for j in 0..n {
         let at = 17 + 6 * j;
-        let x = decode(&r[at..]);
-        let op = x.1;
-        g.statements[j] = Statement { op };
-        j += 1;
+        let s = &r[at..];
+        g.statements[j].op = decode(s).unwrap_or(Op::Notify(s[1]));
     }
     g
 }
@@ -261,41 +218,36 @@ pub fn segment_from(r: &[u8]) -> Segment
 fn bound_of(x: Next) -> u32
     ensures { result ≡ bound_of x }
 {
-    let a = wide(x.a);
-    let b = wide(x.b);
-    if a < b {
-        return b + 1;
-    }
-    a + 1
+    u32::from(x.a.max(x.b)) + 1
 }
 
 // The least N that the next segments of a record are below.
 pub fn target_bound(r: &[u8]) -> u32
     ensures { result ≡ target_bound (closer_in r.now) }
 {
-    let closer = closer_in(r);
-    match closer {
+    match closer_in(r) {
         Closer::End => 0,
-        Closer::Time(_, x) => bound_of(x),
-        Closer::Event(_, x) => bound_of(x),
+        Closer::Time(_, x) | Closer::Event(_, x) => bound_of(x),
     }
 }
 
 // Whether a statement's bytes can name a port: "128 to 135 may stand wherever a variable is named". Operations 1 and 2 take b as it stands.
+#[tactic(auto, unfolding(crate::specs::Parts::op_names))]
 fn op_names(s: &[u8]) -> bool
     requires { 6 ≤ length s.now }
     ensures { result ≡ op_names s.now }
 {
-    (128 <= s[1]) | ((3 <= s[0]) & (128 <= s[2]))
+    128 <= s[1] || (3 <= s[0] && 128 <= s[2])
 }
 
 // Whether a closer can test a port; 255 is no test.
+#[tactic(auto, unfolding(crate::specs::Parts::test_names))]
 fn test_names(closer: Closer) -> bool
     ensures { result ≡ test_names closer }
 {
     match closer {
         Closer::End => false,
-        Closer::Time(_, x) | Closer::Event(_, x) => (128 <= x.test) & !(x.test == 255),
+        Closer::Time(_, x) | Closer::Event(_, x) => 128 <= x.test && x.test != 255,
     }
 }
 
@@ -303,14 +255,11 @@ fn test_names(closer: Closer) -> bool
 pub fn record_names(r: &[u8]) -> bool
     ensures { result ≡ record_names r.now }
 {
-    let n = count_in(r);
-    let mut j = 0;
-    while j < n {
+    for j in 0..count_in(r) {
         let at = 17 + 6 * j;
         if op_names(&r[at..]) {
             return true;
         }
-        j += 1;
     }
     test_names(closer_in(r))
 }

@@ -1,8 +1,9 @@
 // Model files from a seed. Each choice is drawn from the seed and a number of its own, so that a file is a function of its seed alone.
 ghost use Rattle.std.specs.Prelude.{◌≡◌, ◌-◌, ◌%◌, ◌<◌, ◌≤◌, ◌==◌};
 
+use crate::graph::{Graph, Mapped};
+use crate::simulator;
 use crate::simulator::NEVER;
-use crate::{graph, number, simulator};
 
 // Rows of eight, one of which is drawn. Ten rows for each family: horizon, V, E, N, T, the most statements of a segment,
 // and, of a hundred, how many statements notify, how many closers end, how many more wait on an event; last the row of delays.
@@ -33,7 +34,7 @@ const TABLE: [u64; 296] = [
 
 // What the parts of a model are drawn by. Statements write the first w variables. Of a hundred names of variables so many are ports, of
 // so many ports from one of the eight on.
-#[derive(Clone, Copy)]
+#[derive(Drop)]
 struct Shape {
     v: u64,
     w: u64,
@@ -50,6 +51,38 @@ struct Shape {
     port: u64,
 }
 
+// Operation, a and b.
+#[derive(Drop)]
+struct Statement {
+    op: u64,
+    a: u64,
+    b: u64,
+}
+
+// A segment ends, waits so many units, or waits on an event.
+#[derive(Clone, Copy)]
+enum Wait {
+    End,
+    Units(u64),
+    Event(u64),
+}
+
+// The closer's next segments, test variable and limit.
+#[derive(Drop)]
+struct Next {
+    a: u64,
+    b: u64,
+    test: u64,
+    limit: u64,
+}
+
+// A file that is being written, and the place behind what stands in it.
+#[derive(Drop)]
+struct Writer<'a> {
+    file: &'a mut [u8; 16384],
+    at: u64,
+}
+
 // A number from 0 to 2,147,483,646, one for each seed and place.
 pub fn mixed(seed: u64, place: u64) -> u64
     ensures { result < 2147483647 }
@@ -64,9 +97,10 @@ pub fn pick(seed: u64, place: u64, n: u64) -> u64
     ensures { result ≤ n - 1 }
 {
     if n == 0 {
-        return 0;
+        0
+    } else {
+        mixed(seed, place) / 16 % n
     }
-    mixed(seed, place) / 16 % n
 }
 
 // One number of a row.
@@ -83,263 +117,296 @@ pub(crate) fn drawn_number(seed: u64) -> u64 {
 pub fn put(file: &mut [u8; 16384], i: u64, size: u64, x: u64) -> u64
     ensures { result ≤ 16384 }
 {
-    let mut at = i % 16385;
+    let from = i % 16385;
+    let end = from + size.min(16384 - from);
     let mut rest = x;
-    let mut n = size;
-    while 0 < n {
-        if 16384 <= at {
-            return at;
-        }
-        file[at as usize] = (rest % 256) as u8;
-        rest = rest / 256;
-        at += 1;
-        n -= 1;
+    for byte in &mut file[from as usize..end as usize] {
+        *byte = (rest % 256) as u8;
+        rest /= 256;
     }
-    at
+    end
 }
 
-// Operation, a and b.
-fn statement(op: u64, a: u64, b: u64) -> u64 {
-    op % 256 + a % 256 * 256 + b % 4294967296 * 65536
+// A statement that notifies an event.
+fn notify(event: u64) -> Statement {
+    Statement {
+        op: 6,
+        a: event,
+        b: 0,
+    }
 }
 
-// One of the first n variables, or a port.
-fn drawn_name(seed: u64, place: u64, n: u64, shape: Shape) -> u64 {
-    if pick(seed, number::sum(place, 30), 100) < shape.named {
-        let p = number::sum(shape.port, pick(seed, number::sum(place, 40), shape.ports));
-        return 128 + p % 8;
-    }
-    pick(seed, place, n)
-}
-
-fn drawn_statement(seed: u64, shape: Shape) -> u64 {
-    if pick(seed, 41, 100) < shape.notify {
-        return statement(6, pick(seed, 42, shape.e), 0);
-    }
-    let op = number::sum(1, pick(seed, 43, 5));
-    let a = drawn_name(seed, 44, shape.w, shape);
-    if op < 3 {
-        return statement(op, a, choice(seed, 33));
-    }
-    statement(op, a, drawn_name(seed, 45, shape.v, shape))
-}
-
-// The closer's kind, event and delay.
-fn wait(kind: u64, event: u64, units: u64) -> u64 {
-    kind % 256 + event % 256 * 256 + units % 4294967296 * 65536
-}
-
-fn drawn_wait(seed: u64, shape: Shape) -> u64 {
-    let way = pick(seed, 46, 100);
-    if way < shape.ends {
-        return 0;
-    }
-    if way < number::sum(shape.ends, shape.events) {
-        return wait(2, pick(seed, 47, shape.e), 0);
-    }
-    wait(1, 0, choice(seed, shape.delays))
-}
-
-// The closer's next segments, test variable and limit.
-fn next(a: u64, b: u64, test: u64, limit: u64) -> u64 {
-    a % 256 + b % 256 * 256 + test % 256 * 65536 + limit % 4294967296 * 16777216
-}
-
-fn drawn_next(seed: u64, shape: Shape) -> u64 {
-    let a = pick(seed, 48, shape.n);
-    if shape.v == 0 {
-        return next(a, a, 255, 0);
-    }
-    if pick(seed, 49, 2) == 0 {
-        return next(a, a, 255, 0);
-    }
-    next(
+// One next segment, whatever the variables.
+fn always(a: u64) -> Next {
+    Next {
         a,
-        pick(seed, 50, shape.n),
-        drawn_name(seed, 51, shape.v, shape),
-        choice(seed, 34),
-    )
+        b: a,
+        test: 255,
+        limit: 0,
+    }
 }
 
-// A segment's length, kind and closer.
-fn put_closer(file: &mut [u8; 16384], i: u64, n: u64, wait: u64, next: u64) -> u64 {
-    let a = put(file, i, 4, 17 + 6 * (n % 256) + 131072);
-    let b = put(file, a, 6, wait);
-    if wait == 0 {
-        return put(file, b, 7, 0);
+impl Writer<'_> {
+    // So many bytes of a number.
+    fn put(&mut self, size: u64, x: u64)
+        ensures { self.new.at ≤ 16384 }
+    {
+        self.at = put(self.file, self.at, size, x);
     }
-    put(file, b, 7, next)
-}
 
-fn put_segment(file: &mut [u8; 16384], i: u64, seed: u64, shape: Shape) -> u64 {
-    let n = pick(seed, 52, number::sum(shape.most, 1));
-    let mut at = put_closer(file, i, n, drawn_wait(seed, shape), drawn_next(seed, shape));
-    let mut j: u64 = 0;
-    while j < n {
-        at = put(file, at, 6, drawn_statement(mixed(seed, j), shape));
-        j += 1;
+    // The length and kind of a record.
+    fn put_head(&mut self, size: u64, kind: u64)
+        ensures { self.new.at ≤ 16384 }
+    {
+        self.put(2, size);
+        self.put(2, kind);
     }
-    at
-}
 
-// Segments 0 and 1 of a run to delta 1,023: in each delta one counts in variable w and notifies event 0, by zero waits or woken
-// by event 1, and goes on to segment 2 at a count near 1,023; the other is woken by event 0 and notifies event 1.
-fn put_counters(file: &mut [u8; 16384], i: u64, seed: u64, w: u64) -> u64 {
-    let kind = number::sum(1, pick(seed, 53, 2));
-    let limit = number::sum(1017, pick(seed, 54, 10));
-    let a = put_closer(
-        file,
-        i,
-        2,
-        wait(kind, number::less(kind), 0),
-        next(0, 2, w, limit),
-    );
-    let b = put(file, a, 6, statement(2, w, 1));
-    let c = put(file, b, 6, statement(6, 0, 0));
-    let d = put_closer(file, c, 1, wait(2, 0, 0), next(1, 1, 255, 0));
-    put(file, d, 6, statement(6, 1, 0))
-}
+    fn put_statement(&mut self, x: Statement) {
+        self.put(1, x.op);
+        self.put(1, x.a);
+        self.put(4, x.b);
+    }
 
-fn put_segments(file: &mut [u8; 16384], i: u64, first: u64, seed: u64, shape: Shape) -> u64 {
-    let mut at = i;
-    let mut j = first;
-    while j < shape.n {
-        at = put_segment(file, at, mixed(seed, number::sum(j, 100)), shape);
-        j += 1;
+    // The closer's kind, event and delay.
+    fn put_wait(&mut self, wait: Wait) {
+        let (kind, event, units) = match wait {
+            Wait::End => (0, 0, 0),
+            Wait::Units(units) => (1, 0, units),
+            Wait::Event(event) => (2, event, 0),
+        };
+        self.put(1, kind);
+        self.put(1, event);
+        self.put(4, units);
     }
-    at
-}
 
-// The first segment of thread k: any, or, in a run to delta 1,023, one of its own.
-fn first_of(seed: u64, k: u64, t: u64, n: u64) -> u64 {
-    if 0 < t && is_long(seed) {
-        return number::sum(k, pick(seed, 55, 2)) % t;
+    fn put_next(&mut self, next: Next) {
+        self.put(1, next.a);
+        self.put(1, next.b);
+        self.put(1, next.test);
+        self.put(4, next.limit);
     }
-    pick(seed, number::sum(k, 200), n)
-}
 
-// The variable of port p in a thread that starts at segment s: one of the first w if a way from there names it, and for some others too.
-fn drawn_port(g: &[u64; 24576], seed: u64, s: u64, p: u64, w: u64) -> u64 {
-    if graph::is_needed(g, s, p) || pick(seed, number::sum(p, 20), 6) == 0 {
-        return pick(seed, number::sum(p, 30), w) % 256;
+    // A segment's length, kind and closer; nothing is next where it ends.
+    fn put_closer(&mut self, statements: u64, wait: Wait, next: Next) {
+        self.put_head(17 + 6 * (statements % 256), 2);
+        self.put_wait(wait);
+        match wait {
+            Wait::End => self.put(7, 0),
+            Wait::Units(_) | Wait::Event(_) => self.put_next(next),
+        }
     }
-    simulator::UNUSED
-}
 
-// The ports of a thread that starts at segment s in one word. Without a need for any, every second thread has none.
-fn drawn_ports(g: &[u64; 24576], seed: u64, s: u64, shape: Shape) -> u64 {
-    if shape.named == 0 {
-        return NEVER;
+    fn put_segment(&mut self, seed: u64, shape: &Shape) {
+        let n = pick(seed, 52, shape.most.wrapping_add(1));
+        self.put_closer(n, shape.drawn_wait(seed), shape.drawn_next(seed));
+        for j in 0..n {
+            self.put_statement(shape.drawn_statement(mixed(seed, j)));
+        }
     }
-    if !graph::lacks(g, NEVER, s) && pick(seed, 40, 2) == 0 {
-        return NEVER;
-    }
-    let mut word: u64 = 0;
-    let mut p: u64 = 8;
-    while 0 < p {
-        p -= 1;
-        word = word % 72057594037927936 * 256 + drawn_port(g, seed, s, p, shape.w) % 256;
-    }
-    word
-}
 
-// A thread's record, and that of its ports if one is used.
-fn put_thread(file: &mut [u8; 16384], i: u64, first: u64, ports: u64) -> u64 {
-    let at = put(file, i, 5, 196613 + first % 256 * 4294967296);
-    if ports == NEVER {
-        return at;
+    // Segments 0 and 1 of a run to delta 1,023: in each delta one counts in variable w and notifies event 0, by zero waits or woken
+    // by event 1, and goes on to segment 2 at a count near 1,023; the other is woken by event 0 and notifies event 1.
+    fn put_counters(&mut self, seed: u64, w: u64) {
+        let wait = if pick(seed, 53, 2) == 0 {
+            Wait::Units(0)
+        } else {
+            Wait::Event(1)
+        };
+        let limit = pick(seed, 54, 10).wrapping_add(1017);
+        self.put_closer(
+            2,
+            wait,
+            Next {
+                a: 0,
+                b: 2,
+                test: w,
+                limit,
+            },
+        );
+        self.put_statement(Statement { op: 2, a: w, b: 1 });
+        self.put_statement(notify(0));
+        self.put_closer(1, Wait::Event(0), always(1));
+        self.put_statement(notify(1));
     }
-    let then = put(file, at, 4, 327692);
-    put(file, then, 8, ports)
-}
 
-// What each segment names, by the segments in a file, up to a place at which an end is put.
-fn names_in(file: &mut [u8; 16384], i: u64, g: &mut [u64; 24576], n: u64) {
-    put(file, i, 4, 262148);
-    let mut desk = [0u64; 640];
-    simulator::survey(file, &mut desk);
-    graph::fill_uses(file, &desk, g, n);
-}
-
-// Threads with their ports, and the end.
-fn put_threads(file: &mut [u8; 16384], i: u64, seed: u64, shape: Shape) -> u64
-    ensures { result ≤ 16384 }
-{
-    let mut g = [0u64; 24576];
-    names_in(file, i, &mut g, shape.n);
-    let mut at = i;
-    let mut k: u64 = 0;
-    while k < shape.t {
-        let first = first_of(seed, k, shape.t, shape.n);
-        let ports = drawn_ports(&g, mixed(seed, number::sum(k, 500)), first, shape);
-        at = put_thread(file, at, first, ports);
-        k += 1;
+    // The segments from one on.
+    fn put_segments(&mut self, first: u64, seed: u64, shape: &Shape) {
+        for j in first..shape.n {
+            self.put_segment(mixed(seed, j.wrapping_add(100)), shape);
+        }
     }
-    put(file, at, 4, 262148)
+
+    // A thread that starts at a segment, and its ports.
+    fn put_thread(&mut self, first: u64, ports: u64) {
+        self.put_head(5, 3);
+        self.put(1, first);
+        if ports != NEVER {
+            self.put_head(12, 5);
+            self.put(8, ports);
+        }
+    }
+
+    // Threads with their ports, and the end.
+    fn put_threads(&mut self, seed: u64, shape: &Shape)
+        ensures { self.new.at ≤ 16384 }
+    {
+        let graph = self.names(shape.n);
+        for k in 0..shape.t {
+            let first = shape.first_of(seed, k);
+            let ports = shape.drawn_ports(&graph, mixed(seed, k.wrapping_add(500)), first);
+            self.put_thread(first, ports);
+        }
+        self.put_head(4, 4);
+    }
+
+    // What each of n segments names, by those that stand in the file, with an end behind them.
+    fn names(&mut self, n: u64) -> Graph {
+        put(self.file, self.at, 4, 262148);
+        let mut desk = [0u64; 640];
+        simulator::survey(self.file, &mut desk);
+        let mut graph = Graph::new();
+        graph.fill_uses(self.file, &desk, n);
+        graph
+    }
+
+    // All segments.
+    fn put_body(&mut self, seed: u64, shape: &Shape) {
+        if is_long(seed) {
+            self.put_counters(seed, shape.w);
+            self.put_segments(2, seed, shape);
+        } else {
+            self.put_segments(0, seed, shape);
+        }
+    }
 }
 
 // A third of the models have ports, of each family.
 fn has_ports(seed: u64) -> bool {
-    number::sum(seed, seed / 24) % 3 == 0
+    seed.wrapping_add(seed / 24) % 3 == 0
 }
 
-// How many variables: a model with ports has one or more.
-fn variables_of(seed: u64, row: u64) -> u64 {
-    let v = choice(seed, number::sum(row, 1));
-    if v == 0 && has_ports(seed) {
-        return 1;
-    }
-    v
-}
-
-fn shape_of(seed: u64, row: u64) -> Shape {
-    let v = variables_of(seed, row);
-    let e = choice(seed, number::sum(row, 2));
-    let n = choice(seed, number::sum(row, 3));
-    let t = choice(seed, number::sum(row, 4));
-    let most = choice(seed, number::sum(row, 5));
-    let notify = choice(seed, number::sum(row, 6));
-    let ends = choice(seed, number::sum(row, 7));
-    let events = choice(seed, number::sum(row, 8));
-    let delays = choice(seed, number::sum(row, 9));
-    let named = if has_ports(seed) { choice(seed, 35) } else { 0 };
-    let ports = choice(seed, 36);
-    let port = pick(seed, 56, 8);
-    Shape {
-        v,
-        w: v,
-        e,
-        n,
-        t,
-        most,
-        notify,
-        ends,
-        events,
-        delays,
-        named,
-        ports,
-        port,
-    }
-}
-
-// Without events none is notified or waited on; without variables all statements notify, or there are none. In a run to delta 1,023 the
-// last variable is its counter's.
-fn fitted(shape: Shape, seed: u64) -> Shape {
-    let mut s = shape;
-    if is_long(seed) {
-        s.w = number::less(s.v);
-    }
-    if s.v == 0 {
-        s.notify = 100;
-    }
-    if s.e == 0 {
-        s.notify = 0;
-        s.events = 0;
-        if s.v == 0 {
-            s.most = 0;
+impl Shape {
+    fn of(seed: u64, row: u64) -> Shape {
+        let v = choice(seed, row.wrapping_add(1));
+        // A model with ports has one variable or more.
+        let v = if has_ports(seed) { v.max(1) } else { v };
+        Shape {
+            v,
+            w: v,
+            e: choice(seed, row.wrapping_add(2)),
+            n: choice(seed, row.wrapping_add(3)),
+            t: choice(seed, row.wrapping_add(4)),
+            most: choice(seed, row.wrapping_add(5)),
+            notify: choice(seed, row.wrapping_add(6)),
+            ends: choice(seed, row.wrapping_add(7)),
+            events: choice(seed, row.wrapping_add(8)),
+            delays: choice(seed, row.wrapping_add(9)),
+            named: if has_ports(seed) { choice(seed, 35) } else { 0 },
+            ports: choice(seed, 36),
+            port: pick(seed, 56, 8),
         }
     }
-    s
+
+    // Without events none is notified or waited on; without variables all statements notify, or there are none. In a run to delta 1,023
+    // the last variable is its counter's.
+    fn fit(&mut self, seed: u64) {
+        if is_long(seed) {
+            self.w = self.v.saturating_sub(1);
+        }
+        if self.v == 0 {
+            self.notify = 100;
+        }
+        if self.e == 0 {
+            self.notify = 0;
+            self.events = 0;
+            if self.v == 0 {
+                self.most = 0;
+            }
+        }
+    }
+
+    // One of the first n variables, or a port.
+    fn drawn_name(&self, seed: u64, place: u64, n: u64) -> u64 {
+        if pick(seed, place.wrapping_add(30), 100) < self.named {
+            let p = pick(seed, place.wrapping_add(40), self.ports);
+            return 128 + self.port.wrapping_add(p) % 8;
+        }
+        pick(seed, place, n)
+    }
+
+    fn drawn_statement(&self, seed: u64) -> Statement {
+        if pick(seed, 41, 100) < self.notify {
+            return notify(pick(seed, 42, self.e));
+        }
+        let op = pick(seed, 43, 5).wrapping_add(1);
+        Statement {
+            op,
+            a: self.drawn_name(seed, 44, self.w),
+            b: if op < 3 {
+                choice(seed, 33)
+            } else {
+                self.drawn_name(seed, 45, self.v)
+            },
+        }
+    }
+
+    fn drawn_wait(&self, seed: u64) -> Wait {
+        let way = pick(seed, 46, 100);
+        if way < self.ends {
+            Wait::End
+        } else if way < self.ends.wrapping_add(self.events) {
+            Wait::Event(pick(seed, 47, self.e))
+        } else {
+            Wait::Units(choice(seed, self.delays))
+        }
+    }
+
+    fn drawn_next(&self, seed: u64) -> Next {
+        let a = pick(seed, 48, self.n);
+        if self.v == 0 || pick(seed, 49, 2) == 0 {
+            return always(a);
+        }
+        Next {
+            a,
+            b: pick(seed, 50, self.n),
+            test: self.drawn_name(seed, 51, self.v),
+            limit: choice(seed, 34),
+        }
+    }
+
+    // The first segment of thread k: any, or, in a run to delta 1,023, one of its own.
+    fn first_of(&self, seed: u64, k: u64) -> u64 {
+        if 0 < self.t && is_long(seed) {
+            return k.wrapping_add(pick(seed, 55, 2)) % self.t;
+        }
+        pick(seed, k.wrapping_add(200), self.n)
+    }
+
+    // The variable of port p in a thread that starts at segment s: one of the first w if a way from there names it, and for some others too.
+    fn drawn_port(&self, graph: &Graph, seed: u64, s: u64, p: u64) -> u8 {
+        if graph.is_needed(s, p) || pick(seed, p.wrapping_add(20), 6) == 0 {
+            (pick(seed, p.wrapping_add(30), self.w) % 256) as u8
+        } else {
+            simulator::UNUSED as u8
+        }
+    }
+
+    // The ports of a thread that starts at segment s in one word. Without a need for any, every second thread has none.
+    fn drawn_ports(&self, graph: &Graph, seed: u64, s: u64) -> u64 {
+        let unused = Mapped {
+            segment: s,
+            ports: NEVER,
+        };
+        if self.named == 0 || !graph.lacks(unused) && pick(seed, 40, 2) == 0 {
+            return NEVER;
+        }
+        let mut ports = [0u8; 8];
+        for (p, port) in ports.iter_mut().enumerate() {
+            *port = self.drawn_port(graph, seed, s, p as u64);
+        }
+        u64::from_le_bytes(ports)
+    }
 }
 
 // Whether a seed's runs go on to delta 1,023.
@@ -358,28 +425,19 @@ fn family(seed: u64) -> u64 {
     }
 }
 
-// The head: horizon, V and E.
-fn put_head(file: &mut [u8; 16384], h: u64, v: u64, e: u64) -> u64 {
-    let at = put(file, 0, 8, 65546 + h % 4294967296 * 4294967296);
-    put(file, at, 2, v % 256 + e % 256 * 256)
-}
-
-// All segments.
-fn put_body(file: &mut [u8; 16384], i: u64, seed: u64, shape: Shape) -> u64 {
-    if is_long(seed) {
-        let at = put_counters(file, i, seed, shape.w);
-        return put_segments(file, at, 2, seed, shape);
-    }
-    put_segments(file, i, 0, seed, shape)
-}
-
 // The model of a seed in the file's first bytes; how many.
 pub fn model_of(seed: u64, file: &mut [u8; 16384]) -> u64
     ensures { result ≤ 16384 }
 {
     let row = family(seed);
-    let s = fitted(shape_of(seed, row), seed);
-    let a = put_head(file, choice(seed, row), s.v, s.e);
-    let b = put_body(file, a, seed, s);
-    put_threads(file, b, seed, s)
+    let mut shape = Shape::of(seed, row);
+    shape.fit(seed);
+    let mut writer = Writer { file, at: 0 };
+    writer.put_head(10, 1);
+    writer.put(4, choice(seed, row));
+    writer.put(1, shape.v);
+    writer.put(1, shape.e);
+    writer.put_body(seed, &shape);
+    writer.put_threads(seed, &shape);
+    writer.at
 }

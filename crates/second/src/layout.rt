@@ -52,15 +52,13 @@ pub fn put_five(out: &mut [u64; 640], i: u64, a: u64, b: u64, c: u64, d: u64, e:
 fn put_record(out: &mut [u64; 640], k: u64, x: u64)
     ensures { out.new ≡ record_in out.old k x }
 {
-    let s = simulator::segment_of(x);
-    let e = simulator::event_of(x);
     let key = simulator::key_of(x);
     put_five(
         out,
         k % 32 * 5,
-        s,
+        simulator::segment_of(x),
         simulator::kind_of(x),
-        e,
+        simulator::event_of(x),
         key / 1024,
         key % 1024,
     );
@@ -82,20 +80,16 @@ fn put_pair(out: &mut [u64; 640], i: u64, w: u64)
 fn copy(desk: &[u64; 640], part: u64, out: &mut [u64; 640], to: u64, size: u64)
     ensures { out.new ≡ copied_to desk.now part out.old to size }
 {
-    let mut i: u64 = 0;
-    while i < size {
+    for i in 0..size {
         put(out, to, i, at(desk, part, i));
-        i += 1;
     }
 }
 
 fn put_records(desk: &[u64; 640], out: &mut [u64; 640])
     ensures { out.new ≡ records_to desk.now out.old 32 }
 {
-    let mut k: u64 = 0;
-    while k < 32 {
+    for k in 0..32 {
         put_record(out, k, at(desk, simulator::RECORDS, k));
-        k += 1;
     }
 }
 
@@ -103,10 +97,8 @@ fn put_records(desk: &[u64; 640], out: &mut [u64; 640])
 fn put_pairs(desk: &[u64; 640], out: &mut [u64; 640], n: u64)
     ensures { out.new ≡ pairs_to desk.now out.old n }
 {
-    let mut i: u64 = 0;
-    while i < n {
-        put_pair(out, i, at(desk, log::ORDER, i));
-        i += 1;
+    for i in 0..n {
+        put_pair(out, i, at(desk, log::ORDER as u64, i));
     }
 }
 

@@ -13,3 +13,4 @@ pub mod number;
 mod places;
 pub mod simulator;
 pub mod start;
+mod view;

@@ -3,12 +3,12 @@
 ghost use Rattle.std.specs.Prelude.{◌≡◌, ◌/◌, ◌%◌};
 
 use crate::number::{at, put};
+use crate::simulator;
 use crate::simulator::NEVER;
-use crate::{number, simulator};
 
-const SORTED: u64 = 320;
+const SORTED: usize = 320;
 
-pub(crate) const ORDER: u64 = 480;
+pub(crate) const ORDER: usize = 480;
 
 pub(crate) const COUNT: u64 = 103;
 
@@ -29,27 +29,24 @@ pub(crate) fn key_of(w: u64) -> u64
 }
 
 pub(crate) fn clear(desk: &mut [u64; 640]) {
-    simulator::clear(desk, SORTED, 160);
-    simulator::clear(desk, ORDER, 160);
+    desk[SORTED..].fill(NEVER);
     put(desk, COUNT, 0, 0);
 }
 
-// The first word of the event not before a cycle, or NEVER.
-pub(crate) fn from(desk: &[u64; 640], event: u64, key: u64) -> u64 {
+// The first word of the event not before a cycle.
+fn from(desk: &[u64; 640], event: u64, key: u64) -> Option<u64> {
     let least = word(event, key);
-    let mut i: u64 = 0;
-    while i < 160 {
-        let w = at(desk, SORTED, i);
-        if least <= w {
-            return if event_of(w) == event { w } else { NEVER };
-        }
-        i += 1;
-    }
-    NEVER
+    let w = *desk[SORTED..ORDER].iter().find(|w| least <= **w)?;
+    if event_of(w) == event { Some(w) } else { None }
+}
+
+// The key of the first notification of the event not before a cycle.
+pub(crate) fn first_from(desk: &[u64; 640], event: u64, key: u64) -> Option<u64> {
+    from(desk, event, key).map(key_of)
 }
 
 pub(crate) fn holds(desk: &[u64; 640], event: u64, key: u64) -> bool {
-    from(desk, event, key) == word(event, key)
+    from(desk, event, key) == Some(word(event, key))
 }
 
 // "an equal pair held once"
@@ -59,30 +56,29 @@ pub(crate) fn add(desk: &mut [u64; 640], event: u64, key: u64) {
     }
     let w = word(event, key);
     let n = at(desk, COUNT, 0);
-    simulator::insert(desk, SORTED, 160, w);
-    put(desk, ORDER, n, w);
-    put(desk, COUNT, 0, number::sum(n, 1));
+    simulator::insert(&mut desk[SORTED..ORDER], w);
+    put(desk, ORDER as u64, n, w);
+    put(desk, COUNT, 0, n.wrapping_add(1));
 }
 
 // The words of a list that are not before the floor, at its front; how many.
-fn keep(desk: &mut [u64; 640], list: u64, floor: u64) -> u64 {
-    let mut n: u64 = 0;
-    let mut i: u64 = 0;
-    while i < 160 {
-        let w = at(desk, list, i);
-        put(desk, list, i, NEVER);
+fn keep(list: &mut [u64], floor: u64) -> usize {
+    let mut n: usize = 0;
+    // An index: each turn empties place i, and may write place n.
+    for i in 0..list.len() {
+        let w = list[i];
+        list[i] = NEVER;
         if w != NEVER && floor <= key_of(w) {
-            put(desk, list, n, w);
-            n = number::sum(n, 1);
+            list[n] = w;
+            n += 1;
         }
-        i += 1;
     }
     n
 }
 
 // "notifications before the floor .. are dropped"
 pub(crate) fn drop_before(desk: &mut [u64; 640], floor: u64) {
-    keep(desk, SORTED, floor);
-    let n = keep(desk, ORDER, floor);
-    put(desk, COUNT, 0, n);
+    keep(&mut desk[SORTED..ORDER], floor);
+    let n = keep(&mut desk[ORDER..], floor);
+    put(desk, COUNT, 0, n as u64);
 }

@@ -1,62 +1,42 @@
 // The places of the second scheduler's log that are taken, and those that "are counted from the grant, an equal pair once": each pair of
 // a running thread counts with the lowest thread that runs it.
+use crate::log;
 use crate::number::at;
-use crate::simulator::{key_of, kind_of, segment_of};
-use crate::{graph, log, number, simulator};
+use crate::simulator::{State, key_of, record_at, segment_of, state_of};
+use crate::view::View;
 
 // Whether record x is running at a key, in a segment that notifies the event.
-fn runs_pair(g: &[u64; 24576], x: u64, event: u64, key: u64) -> bool {
-    if kind_of(x) != simulator::RUNNING || key_of(x) != key {
-        return false;
-    }
-    graph::entry(g, graph::NOTIFIED, segment_of(x), event) != 0
+fn runs_pair(view: &View, x: u64, event: u64, key: u64) -> bool {
+    state_of(x) == State::Running && key_of(x) == key && view.graph.notifies(segment_of(x), event)
 }
 
 // Whether the log has a place for the pair, or one is counted for a running thread below k.
-fn is_taken(g: &[u64; 24576], desk: &[u64; 640], k: u64, event: u64, key: u64) -> bool {
-    if log::holds(desk, event, key) {
-        return true;
-    }
-    let mut j: u64 = 0;
-    while j < k {
-        if runs_pair(g, at(desk, simulator::RECORDS, j), event, key) {
-            return true;
-        }
-        j += 1;
-    }
-    false
+fn is_taken(view: &View, k: u64, event: u64, key: u64) -> bool {
+    log::holds(view.desk, event, key)
+        || (0..k).any(|j| runs_pair(view, record_at(view.desk, j), event, key))
 }
 
 // How many places record x takes beside those of the log and of the running threads below k.
-fn new_beside(g: &[u64; 24576], desk: &[u64; 640], k: u64, x: u64) -> u64 {
-    let mut n: u64 = 0;
-    let mut e: u64 = 0;
-    while e < 32 {
-        if graph::entry(g, graph::NOTIFIED, segment_of(x), e) != 0 {
-            if !is_taken(g, desk, k, e, key_of(x)) {
-                n = number::sum(n, 1);
-            }
-        }
-        e += 1;
-    }
-    n
+fn new_beside(view: &View, k: u64, x: u64) -> u64 {
+    let s = segment_of(x);
+    (0..32)
+        .filter(|e| view.graph.notifies(s, *e) && !is_taken(view, k, *e, key_of(x)))
+        .count() as u64
 }
 
 // The log and all that is counted for running threads.
-pub(crate) fn all(g: &[u64; 24576], desk: &[u64; 640]) -> u64 {
-    let mut n = at(desk, log::COUNT, 0);
-    let mut k: u64 = 0;
-    while k < 32 {
-        let x = at(desk, simulator::RECORDS, k);
-        if kind_of(x) == simulator::RUNNING {
-            n = number::sum(n, new_beside(g, desk, k, x));
+pub(crate) fn all(view: &View) -> u64 {
+    let mut n = at(view.desk, log::COUNT, 0);
+    for k in 0..32 {
+        let x = record_at(view.desk, k);
+        if state_of(x) == State::Running {
+            n = n.wrapping_add(new_beside(view, k, x));
         }
-        k += 1;
     }
     n
 }
 
 // The same with the segment of record x, of a thread that is not running.
-pub(crate) fn all_with(g: &[u64; 24576], desk: &[u64; 640], x: u64) -> u64 {
-    number::sum(all(g, desk), new_beside(g, desk, 32, x))
+pub(crate) fn all_with(view: &View, x: u64) -> u64 {
+    all(view).wrapping_add(new_beside(view, 32, x))
 }

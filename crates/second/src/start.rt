@@ -2,8 +2,11 @@
 ghost use Rattle.std.specs.Prelude.{◌≡◌};
 ghost use Rattle.second.specs.Desk.{word_at};
 
+use crate::graph::{Graph, Mapped};
 use crate::number::{at, put};
-use crate::{draw, graph, held, log, number, places, simulator};
+use crate::simulator::{State, record_at, state_of};
+use crate::view::View;
+use crate::{draw, held, log, places, simulator};
 
 fn drawn_time(seed: u64) -> u64 {
     match draw::pick(seed, 61, 9) {
@@ -27,67 +30,63 @@ fn drawn_delta(seed: u64) -> u64 {
 }
 
 // Ready, waiting and running more often than not; none waits without events.
-fn drawn_kind(seed: u64, e: u64) -> u64 {
+fn drawn_state(seed: u64, e: u64) -> State {
     match draw::pick(seed, 63, 14) {
-        0 => simulator::ENDED,
-        1 => simulator::OVERRUN,
-        2 | 3 | 4 | 5 => simulator::RUNNING,
-        6 | 7 | 8 => {
-            if e == 0 {
-                simulator::READY
-            } else {
-                simulator::WAITING
-            }
-        }
-        _ => simulator::READY,
+        0 => State::Ended,
+        1 => State::Overrun,
+        2 | 3 | 4 | 5 => State::Running,
+        6 | 7 | 8 if e != 0 => State::Waiting,
+        _ => State::Ready,
     }
 }
 
 // Any segment; the thread's first where a way from it names a port that the thread leaves unused.
-fn drawn_segment(g: &[u64; 24576], seed: u64, n: u64, ports: u64, first: u64) -> u64 {
-    let s = draw::pick(seed, 65, n);
-    if graph::lacks(g, ports, s) {
-        return first;
+fn drawn_segment(graph: &Graph, seed: u64, n: u64, ports: u64, first: u64) -> u64 {
+    let segment = draw::pick(seed, 65, n);
+    if graph.lacks(Mapped { segment, ports }) {
+        first
+    } else {
+        segment
     }
-    s
 }
 
 // One that runs is not later than the last key that is run, but for a few.
-fn kind_at(seed: u64, e: u64, key: u64, end: u64) -> u64 {
-    let kind = drawn_kind(seed, e);
-    if kind == simulator::RUNNING && end < key && draw::pick(seed, 69, 25) != 0 {
-        return simulator::READY;
+fn state_at(seed: u64, e: u64, key: u64, end: u64) -> State {
+    let state = drawn_state(seed, e);
+    if state == State::Running && end < key && draw::pick(seed, 69, 25) != 0 {
+        State::Ready
+    } else {
+        state
     }
-    kind
 }
 
 fn drawn_record(seed: u64, s: u64, e: u64, end: u64) -> u64 {
     let key = drawn_time(seed) % 4294967296 * 1024 + drawn_delta(seed) % 1024;
-    let kind = kind_at(seed, e, key, end);
-    let event = if kind == simulator::WAITING {
+    let state = state_at(seed, e, key, end);
+    let event = if state == State::Waiting {
         draw::pick(seed, 64, e)
     } else {
         0
     };
-    simulator::record(kind, s, event, key)
+    simulator::record(state, s, event, key)
 }
 
 // Records; how many places are counted for those that are running.
 fn draw_records(file: &[u8], desk: &mut [u64; 640], seed: u64, e: u64) -> u64 {
     let end = at(desk, simulator::END, 0);
     let n = at(desk, simulator::SEGMENTS, 0);
-    let t = at(desk, simulator::THREADS, 0);
-    let mut g = [0u64; 24576];
-    graph::fill_uses(file, desk, &mut g, n);
-    let mut k: u64 = 0;
-    while k < t {
-        let x = draw::mixed(seed, number::sum(k, 300));
+    let mut graph = Graph::new();
+    graph.fill_uses(file, desk, n);
+    for k in 0..at(desk, simulator::THREADS, 0) {
+        let x = draw::mixed(seed, k.wrapping_add(300));
         let first = simulator::first_of(file, desk, k);
-        let s = drawn_segment(&g, x, n, at(desk, simulator::PORTS, k), first);
+        let s = drawn_segment(&graph, x, n, at(desk, simulator::PORTS, k), first);
         put(desk, simulator::RECORDS, k, drawn_record(x, s, e, end));
-        k += 1;
     }
-    places::all(&g, desk)
+    places::all(&View {
+        graph: &graph,
+        desk,
+    })
 }
 
 fn logged_key(seed: u64) -> u64 {
@@ -98,22 +97,20 @@ fn logged_key(seed: u64) -> u64 {
 
 // So many notifications, or a few less.
 fn draw_log(desk: &mut [u64; 640], seed: u64, e: u64, count: u64) {
-    let mut i: u64 = 0;
-    while i < 600 {
+    for i in 0..600 {
         if count <= at(desk, log::COUNT, 0) {
             return;
         }
         let x = draw::mixed(seed, i + 400);
         log::add(desk, draw::pick(x, 67, e), logged_key(x));
-        i += 1;
     }
 }
 
 // Around 96 places, around 128, or some.
 fn logged(seed: u64, list: u64) -> u64 {
     match list {
-        3 => number::sum(88, draw::pick(seed, 68, 10)),
-        4 => number::sum(125, draw::pick(seed, 68, 4)),
+        3 => draw::pick(seed, 68, 10).wrapping_add(88),
+        4 => draw::pick(seed, 68, 4).wrapping_add(125),
         _ => draw::pick(seed, 68, 24),
     }
 }
@@ -128,26 +125,21 @@ fn draw_state(file: &[u8], desk: &mut [u64; 640], seed: u64, list: u64, e: u64) 
     }
 }
 
-// What is held for thread k: drawn values if it is running, else junk.
-fn hold_values(held: &mut [u64; 2048], k: u64, x: u64, seed: u64, junk: u64) {
-    held::wipe(held, k, junk);
-    if simulator::kind_of(x) != simulator::RUNNING {
-        return;
-    }
-    let mut v: u64 = 0;
-    while v < 64 {
-        let place = number::sum(k % 32 * 64, v);
-        held::set_value(held, k, v, draw::drawn_number(draw::mixed(seed, place)));
-        v += 1;
+// Values of thread k, drawn.
+fn draw_values(row: &mut [u64], seed: u64, k: u64) {
+    for (v, x) in row.iter_mut().enumerate() {
+        let place = (k % 32 * 64).wrapping_add(v as u64);
+        *x = draw::drawn_number(draw::mixed(seed, place));
     }
 }
 
-// What is held at the start of a list, with junk for all that are not running.
+// What is held at the start of a list: drawn values for threads that are running, junk for all others.
 pub fn hold(desk: &[u64; 640], seed: u64, junk: u64, held: &mut [u64; 2048]) {
-    let mut k: u64 = 0;
-    while k < 32 {
-        hold_values(held, k, at(desk, simulator::RECORDS, k), seed, junk);
-        k += 1;
+    held.fill(junk);
+    for k in 0..32 {
+        if state_of(record_at(desk, k)) == State::Running {
+            draw_values(held::row_mut(held, k), seed, k);
+        }
     }
 }
 

@@ -16,51 +16,36 @@ pub fn put_cycle(out: &mut [u8], at: usize, c: Cycle) -> usize
     ensures { Puts out.old at out.new result (rest_of (cycle_words c)) × (result ≤ at + 43) }
 {
     let a = buffers::put_number(out, at, c.time.0);
-    buffers::put_last(out, a, buffers::long_word(c.delta.0))
+    buffers::put_last(out, a, u64::from(c.delta.0))
 }
 
 // A state, to the end of its line. Document 01: "for wait: event, cycle begun".
 fn put_state(out: &mut [u8], at: usize, s: State) -> usize
     ensures { Puts out.old at out.new result (rest_of (state_words s)) × (result ≤ at + 69) }
 {
-    match s {
-        State::Ended(c) => {
-            let a = buffers::put_word(out, at, b" ended");
-            put_cycle(out, a, c)
-        }
-        State::Overrun(c) => {
-            let a = buffers::put_word(out, at, b" overrun");
-            put_cycle(out, a, c)
-        }
-        State::Ready(c) => {
-            let a = buffers::put_word(out, at, b" ready");
-            put_cycle(out, a, c)
-        }
+    let (a, c) = match s {
+        State::Ended(c) => (buffers::put_word(out, at, b" ended"), c),
+        State::Overrun(c) => (buffers::put_word(out, at, b" overrun"), c),
+        State::Ready(c) => (buffers::put_word(out, at, b" ready"), c),
         State::Waiting(e, c) => {
-            let a = buffers::put_word(out, at, b" wait");
-            let b = buffers::put_number(out, a, buffers::long_byte(e));
-            put_cycle(out, b, c)
+            let b = buffers::put_word(out, at, b" wait");
+            (buffers::put_number(out, b, u64::from(e)), c)
         }
-        State::Running(c) => {
-            let a = buffers::put_word(out, at, b" running");
-            put_cycle(out, a, c)
-        }
-    }
+        State::Running(c) => (buffers::put_word(out, at, b" running"), c),
+    };
+    put_cycle(out, a, c)
 }
 
 // Document 01: "v: variable, value". Lowest number first.
 pub fn put_v_lines(out: &mut [u8], at: usize, v: u8, xs: Variables) -> usize
     ensures { Puts out.old at out.new result (v_lines (min v 64) xs.at) × (result ≤ at + 2816) }
 {
-    let n = buffers::least(buffers::wide(v), 64);
-    let mut to = buffers::least(at, out.len());
-    let mut i = 0;
-    while i < n {
-        let x = xs.at[i];
+    let n = usize::from(v).min(64);
+    let mut to = at.min(out.len());
+    for (i, x) in xs.at[..n].iter().enumerate() {
         let a = buffers::put_byte(out, to, b'v');
         let b = buffers::put_number(out, a, i as u64);
-        to = buffers::put_last(out, b, buffers::long_word(x));
-        i += 1;
+        to = buffers::put_last(out, b, u64::from(*x));
     }
     to
 }
@@ -69,17 +54,13 @@ pub fn put_v_lines(out: &mut [u8], at: usize, v: u8, xs: Variables) -> usize
 pub fn put_t_lines(out: &mut [u8], at: usize, t: u8, xs: Threads) -> usize
     ensures { Puts out.old at out.new result (t_lines (min t 32) xs.at) × (result ≤ at + 3584) }
 {
-    let n = buffers::least(buffers::wide(t), 32);
-    let mut to = buffers::least(at, out.len());
-    let mut k = 0;
-    while k < n {
-        let x = xs.at[k];
-        let s = x.state;
+    let n = usize::from(t).min(32);
+    let mut to = at.min(out.len());
+    for (k, x) in xs.at[..n].iter().enumerate() {
         let a = buffers::put_byte(out, to, b't');
         let b = buffers::put_number(out, a, k as u64);
-        let c = buffers::put_number(out, b, buffers::long_byte(x.segment));
-        to = put_state(out, c, s);
-        k += 1;
+        let c = buffers::put_number(out, b, u64::from(x.segment));
+        to = put_state(out, c, x.state);
     }
     to
 }
@@ -91,9 +72,10 @@ fn put_end(out: &mut [u8], at: usize, n: u64, spent: bool) -> usize
     let a = buffers::put_byte(out, at, b'n');
     let b = buffers::put_last(out, a, n);
     if spent {
-        return buffers::put_word(out, b, b"spent\n");
+        buffers::put_word(out, b, b"spent\n")
+    } else {
+        b
     }
-    b
 }
 
 // Document 01: "A refused file prints only `refused` and its number". The line at the front of out; its length in bytes.
@@ -104,7 +86,7 @@ pub fn refusal(number: u8, out: &mut [u8]) -> usize
 {
     let mut text = [0u8; 32];
     let a = buffers::put_word(&mut text, 0, b"refused");
-    let n = buffers::put_last(&mut text, a, buffers::long_byte(number));
+    let n = buffers::put_last(&mut text, a, u64::from(number));
     buffers::copy_in(&text[..n], out)
 }
 

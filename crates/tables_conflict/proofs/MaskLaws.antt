@@ -10,7 +10,8 @@ use native.Mathlib.Decide.{ℕ_discrete}
 use lib.Bits.{bit_and, bit_or, or_lt, and_le_l}
 use lib.Dec.{ltb, eqb}
 use lib.Pow.{pow-lt}
-use lib.ListN.{length, get_or, take}
+use lib.ListN.{length, get_or, take, length-take}
+use lib.Seq.{get_or-take}
 use borrow.Author.Tests.{lt-ltb, le-ltb, eq-eqb, ne_eqb}
 use Rattle.base.specs.Index.{any_below}
 use Rattle.base.proofs.IndexLaws.{any_below-same}
@@ -177,13 +178,15 @@ pub masks_to-none : (xs : List Statement) → masks 0 0 ≡ masks_to xs 0
 unfolding masks_to
 masks_to-none xs = refl
 
+-- an item of the first n
+pub front-read : {A : Type 0} (n : ℕ) (xs : List A) (i : ℕ) (d e : A) → i < length (take n xs) → get_or (take n xs) i d ≡ get_or xs i e
+front-read n xs i d e h = let size = length-take n xs in get_or-take n xs i d (omega arith) ∙ get_d_any xs i d e (omega arith)
+
 pub masks_to-more :
-    (xs : List Statement) (j : ℕ) (d : Statement) (a o b : Masks) → j < length xs → a ≡ masks_to xs j → o ≡ op_masks (get_or xs j d).op → b ≡ join_masks a o →
-    b ≡ masks_to xs (j + 1)
+    (xs : List Statement) (n j : ℕ) (d : Statement) (a o b : Masks) → j < length (take n xs) → a ≡ masks_to xs j → o ≡ op_masks (get_or (take n xs) j d).op →
+    b ≡ join_masks a o → b ≡ masks_to xs (j + 1)
 unfolding masks_to
-masks_to-more xs j d a o b h e f g =
-    let z = get_d_any xs j d no_statement h in
-    rw add-one (g ∙ ap₂ join_masks e (f ∙ ap (λ (x : Statement). op_masks x.op) z))
+masks_to-more xs n j d a o b h e f g = rw add-one (g ∙ ap₂ join_masks e (f ∙ ap (λ (x : Statement). op_masks x.op) (front-read n xs j d no_statement h)))
 
 pub masks_of-made : (g : Segment) (j t : ℕ) (a : Masks) → j ≡ g.n → a ≡ masks_to g.statements j → t ≡ test_mask g.closer → masks a.writes (bit_or a.uses t) ≡ masks_of g
 unfolding masks_of

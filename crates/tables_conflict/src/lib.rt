@@ -3,18 +3,38 @@
 
 ghost use Rattle.std.specs.Prelude.{◌≡◌, ℕ, ◌≤◌, ◌<◌, length};
 ghost use Rattle.std.specs.Int.Bits.{bit_or};
+ghost use Rattle.refusal.specs.Number.{number_told};
 ghost use Rattle.model.specs.Values.{segment_at};
 ghost use Rattle.tables.specs.Outcome.{if_held, conflict_number, conflict_marks};
 ghost use Rattle.masks.specs.Mask.{bit_of};
 ghost use Rattle.tables_conflict.specs.Mask.{masks, op_masks, test_mask, join_masks, masks_of, clash, masks_for, row_to, rows_to};
 
 use model::{Closer, Model, Op, Segment};
+use refusal::Refusal;
 
 // The variables that a segment writes, and those that it writes, reads or tests: variable v is bit v.
 #[derive(Clone, Copy)]
 struct Masks {
     writes: u64,
     uses: u64,
+}
+
+impl Masks {
+    fn join(self, other: Masks) -> Masks
+        ensures { result ≡ join_masks self other }
+    {
+        Masks {
+            writes: self.writes | other.writes,
+            uses: self.uses | other.uses,
+        }
+    }
+
+    // Document 01: "both access a variable which at least one writes".
+    fn clashes(self, other: Masks) -> bool
+        ensures { result ≡ clash self other }
+    {
+        self.uses & other.uses & (self.writes | other.writes) != 0
+    }
 }
 
 // Variable x as a bit; none for a port, which names no variable by itself, and none for 255.
@@ -31,7 +51,7 @@ fn bit(x: u32) -> u64
 fn one_mask(a: u8) -> Masks
     ensures { result ≡ masks (bit_of a) (bit_of a) }
 {
-    let w = bit(a as u32);
+    let w = bit(u32::from(a));
     Masks { writes: w, uses: w }
 }
 
@@ -39,7 +59,7 @@ fn one_mask(a: u8) -> Masks
 fn two_masks(a: u8, b: u32) -> Masks
     ensures { result ≡ masks (bit_of a) (bit_or (bit_of a) (bit_of b)) }
 {
-    let w = bit(a as u32);
+    let w = bit(u32::from(a));
     Masks {
         writes: w,
         uses: w | bit(b),
@@ -62,16 +82,7 @@ fn test_mask(closer: Closer) -> u64
 {
     match closer {
         Closer::End => 0,
-        Closer::Time(_, x) | Closer::Event(_, x) => bit(x.test as u32),
-    }
-}
-
-fn join_masks(a: Masks, b: Masks) -> Masks
-    ensures { result ≡ join_masks a b }
-{
-    Masks {
-        writes: a.writes | b.writes,
-        uses: a.uses | b.uses,
+        Closer::Time(_, x) | Closer::Event(_, x) => bit(u32::from(x.test)),
     }
 }
 
@@ -80,27 +91,14 @@ fn masks_of(g: Segment) -> Masks
     ensures value { result ≡ masks_of g }
     ensures placed { g.n ≤ length g.statements }
 {
-    let n = g.n as usize;
     let mut a = Masks { writes: 0, uses: 0 };
-    let mut j = 0;
-    while j < n {
-        let x = g.statements[j];
-        let op = x.op;
-        a = join_masks(a, op_masks(op));
-        j += 1;
+    for x in &g.statements[..usize::from(g.n)] {
+        a = a.join(op_masks(x.op));
     }
-    let closer = g.closer;
     Masks {
         writes: a.writes,
-        uses: a.uses | test_mask(closer),
+        uses: a.uses | test_mask(g.closer),
     }
-}
-
-// Document 01: "both access a variable which at least one writes".
-fn clashes(a: Masks, b: Masks) -> bool
-    ensures { result ≡ clash a b }
-{
-    a.uses & b.uses & (a.writes | b.writes) != 0
 }
 
 fn masks_for(m: Model, n: usize) -> [Masks; 64]
@@ -109,11 +107,8 @@ fn masks_for(m: Model, n: usize) -> [Masks; 64]
     ensures placed { (i : ℕ) → i < n → (segment_at m i).n ≤ length (segment_at m i).statements }
 {
     let mut all = [Masks { writes: 0, uses: 0 }; 64];
-    let mut i = 0;
-    while i < n {
-        let g = m.segments[i];
-        all[i] = masks_of(g);
-        i += 1;
+    for (i, g) in m.segments[..n].iter().enumerate() {
+        all[i] = masks_of(*g);
     }
     all
 }
@@ -124,11 +119,8 @@ fn row_marks(all: [Masks; 64], n: usize, r: usize) -> [bool; 64]
 {
     let mut out = [false; 64];
     let a = all[r];
-    let mut s = 0;
-    while s < n {
-        let b = all[s];
-        out[s] = clashes(a, b);
-        s += 1;
+    for (s, b) in all[..n].iter().enumerate() {
+        out[s] = a.clashes(*b);
     }
     out
 }
@@ -138,35 +130,33 @@ fn all_marks(all: [Masks; 64], n: usize) -> [[bool; 64]; 64]
     ensures { result ≡ rows_to all n n }
 {
     let mut out = [[false; 64]; 64];
-    let mut r = 0;
-    while r < n {
+    for r in 0..n {
         out[r] = row_marks(all, n, r);
-        r += 1;
     }
     out
 }
 
-// The number beside a held model's marks: 11 if it breaks the file rules.
-pub fn conflict_number(m: Model) -> u8
-    ensures { result ≡ conflict_number m }
+// Whether a held model has marks: unfit if it breaks the file rules.
+pub fn conflict_number(m: Model) -> Result<(), Refusal>
+    ensures { number_told result ≡ conflict_number m }
 {
-    if model_rules::model_fault(m) != 0 {
-        return 11;
+    if model_rules::model_fault(m).is_err() {
+        return Err(Refusal::Unfit);
     }
-    0
+    Ok(())
 }
 
-// How many segments have marks: none where the number is not 0.
+// How many segments have marks: none of an unfit model.
 fn marked_segments(m: Model) -> usize
     ensures { result ≡ if_held m m.n 0 }
 {
-    if conflict_number(m) != 0 {
+    if conflict_number(m).is_err() {
         return 0;
     }
-    m.n as usize
+    usize::from(m.n)
 }
 
-// Document 01: "a table of 64 rows of 64 marks, handed on by value". All unset where the number is not 0.
+// Document 01: "a table of 64 rows of 64 marks, handed on by value". All unset for an unfit model.
 pub fn conflict_marks(m: Model) -> [[bool; 64]; 64]
     ensures { result ≡ conflict_marks m }
 {

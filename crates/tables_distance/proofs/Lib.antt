@@ -1,3 +1,4 @@
+pub mod PartLaws
 pub mod StoreLaws
 pub mod HeldLaws
 pub mod FilledLaws

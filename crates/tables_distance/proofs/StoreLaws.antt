@@ -1,14 +1,16 @@
 -- The exits of the functions that make the words, one law for each.
 use Prim.Native.Nat.{ℕ, zero, suc, min, ◌+◌, ◌*◌, ◌/◌, ◌≤◌, ◌<◌}
-use mathlib.Core.Path.{◌≡◌, refl, ap, ◌∙◌}
+use mathlib.Core.Path.{◌≡◌, refl, ◌∙◌}
 use mathlib.Core.List.{List}
 use native.Mathlib.Omega.{arith}
-use native.Mathlib.Nat.{suc-mul, mul-le-mul}
+use native.Mathlib.Nat.{mul-le-mul}
 use native.Mathlib.Numerals.{add-one}
 use lib.Dec.{ltb}
-use lib.ListN.{length, get_or, set}
+use lib.ListN.{length, get_or, set, take, length-take}
+use lib.Seq.{get_or-take}
 use borrow.Author.Tests.{lt-ltb, le-ltb, eq-eqb, ne_eqb}
 use Rattle.base.proofs.BoolLaws.{cond-case}
+use Rattle.base.proofs.ListLaws.{get_d_any}
 use Rattle.base.proofs.IndexLaws.{store_to-more, store_to-left, store_to-length}
 use Rattle.clock.specs.declared.Delay.{Delay}
 use Rattle.clock.specs.declared.Wait.{Wait}
@@ -21,9 +23,9 @@ use Rattle.clock.proofs.AdvanceLaws.{advance-delta-notification, advance-zero-wa
 use Rattle.model.specs.declared.Next.{Next}
 use Rattle.model.specs.declared.Closer.{Closer}
 use Rattle.model.specs.declared.Closer.TheVariants.{End, Time, Event}
+use Rattle.model.specs.declared.Segment.{Segment}
 use Rattle.model.specs.declared.Model.{Model}
-use Rattle.model.specs.Limits.{cut_time}
-use Rattle.model.specs.Values.{segment_at}
+use Rattle.model.specs.Values.{no_segment, segment_at}
 use Rattle.model.specs.Rules.{model_fault}
 use Rattle.model_rules.proofs.RuleLaws.{model_fault-counts}
 use Rattle.tables_distance.specs.declared.Steps.{Steps}
@@ -61,11 +63,8 @@ module _ (k : Delay) where
   pub units_word-none : k.0 ≡ 0 → 1 ≡ held_word (advance_of (wait.Time k))
   units_word-none e = word-zero-wait (wait.Time k) (passage-none k e)
 
-  pub units_word-far : cut_time ≤ k.0 → far ≡ held_word (advance_of (wait.Time k))
-  units_word-far h = rw (← word-timed-wait (wait.Time k) k (passage-units k (omega arith))) (omega arith)
-
-  pub units_word-more : (k.0 ≡ 0 → ⊥) → k.0 < cut_time → k.0 * 1024 ≡ held_word (advance_of (wait.Time k))
-  units_word-more other h = rw (← word-timed-wait (wait.Time k) k (passage-units k (omega arith))) (omega arith)
+  pub units_word-more : 0 < k.0 → min far (k.0 * 1024) ≡ held_word (advance_of (wait.Time k))
+  units_word-more other = word-timed-wait (wait.Time k) k (passage-units k other)
 
 module _ (x : Closer) where
   pub steps_of-end : x ≡ End → record { a = 0; b = 0; word = far } ≡ steps_of x
@@ -160,13 +159,12 @@ module _ (m : Model) (ws : List ℕ) where
   unfolding direct_rows
   direct_rows-none = refl
 
-  pub direct_rows-more : (r p n : ℕ) (g : Steps) (x : Closer) (vs us : List ℕ) → n ≡ m.n → vs ≡ direct_rows m ws r → p ≡ r * n → (segment_at m r).closer ≡ x → g ≡ steps_of x → us ≡ direct_to g r p vs n → us ≡ direct_rows m ws (r + 1)
-  unfolding direct_rows
-  direct_rows-more r p n g x vs us d e f y z l = rw add-one (cc)
-
--- the next row begins n places on
-pub row_next : (n i p : ℕ) → p ≡ i * n → p + n ≡ (i + 1) * n
-row_next n i p e = rw (add-one, suc-mul) (ap (λ (x : ℕ). x + n) e)
+  pub direct_rows-more : (r n : ℕ) (g : Steps) (d : Segment) (vs us : List ℕ) → n ≡ m.n → r < length (take n m.segments) → vs ≡ direct_rows m ws r → g ≡ steps_of (get_or (take n m.segments) r d).closer → us ≡ direct_to g r (r * n) vs n → us ≡ direct_rows m ws (r + 1)
+  unfolding direct_rows segment_at
+  direct_rows-more r n g d vs us e h f z l =
+      let size = length-take n m.segments in
+      let read : get_or (take n m.segments) r d ≡ get_or m.segments r no_segment = get_or-take n m.segments r d (omega arith) ∙ get_d_any m.segments r d no_segment (omega arith) in
+      rw add-one (cc)
 
 -- N × N is small
 pub square-small : (m : Model) → model_fault m ≡ 0 → m.n * m.n ≤ 4096

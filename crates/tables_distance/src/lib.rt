@@ -3,6 +3,7 @@
 
 ghost use Rattle.std.specs.Prelude.{◌≡◌, cond, ◌+◌, ◌*◌, ◌≤◌, ◌<◌, ltb, length};
 ghost use Rattle.clock.specs.Advance.{advance_of};
+ghost use Rattle.refusal.specs.Number.{number_told};
 ghost use Rattle.model.specs.Refusal.{accepted, unfit, short_table};
 ghost use Rattle.model.specs.Rules.{model_fault};
 ghost use Rattle.tables.specs.Word.{stored, HoldsDistances};
@@ -10,10 +11,11 @@ ghost use Rattle.tables.specs.Outcome.{if_held, distances_number, distances_buff
 ghost use Rattle.tables_distance.specs.Store.{far, held_word, sum_word, steps_of, direct_word, direct_to, direct_rows, relaxed_to, round_to, rounds_to, cut_to};
 
 use clock::{Delay, Wait};
-use model::{CUT_TIME, CUT_WORD, Closer, Model};
+use model::{CUT_WORD, Closer, Model};
+use refusal::Refusal;
 
 // Document 01: "'never' as all ones".
-const NEVER: u64 = 18446744073709551615;
+const NEVER: u64 = u64::MAX;
 
 // The next segments of a closer, and the word of a step to them. While the rounds run CUT_WORD stands for never.
 #[derive(Clone, Copy)]
@@ -27,14 +29,11 @@ pub struct Steps {
 fn units_word(k: Delay) -> u64
     ensures { result ≡ held_word (advance_of (Wait.Time k)) }
 {
-    let units = k.0 as u64;
+    let units = u64::from(k.0);
     if units == 0 {
         return 1;
     }
-    if units >= CUT_TIME {
-        return CUT_WORD;
-    }
-    units * 1024
+    CUT_WORD.min(units * 1024)
 }
 
 // Both next segments are steps, whatever the limit; "over an event wait it is one delta".
@@ -65,15 +64,12 @@ fn direct_word(g: Steps, r: usize, s: usize) -> u64
     ensures { result ≡ direct_word g r s }
 {
     if r == s {
-        return 0;
+        0
+    } else if usize::from(g.a) == s || usize::from(g.b) == s {
+        g.word
+    } else {
+        CUT_WORD
     }
-    if g.a as usize == s {
-        return g.word;
-    }
-    if g.b as usize == s {
-        return g.word;
-    }
-    CUT_WORD
 }
 
 // Row r, which begins at place p: ways of at most one step.
@@ -81,10 +77,8 @@ fn direct_row(words: &mut [u64], n: usize, r: usize, p: usize, g: Steps)
     requires { p + n ≤ length words.old }
     ensures { words.new ≡ direct_to g r p words.old n }
 {
-    let mut s = 0;
-    while s < n {
-        words[p + s] = direct_word(g, r, s);
-        s += 1;
+    for (s, w) in words[p..p + n].iter_mut().enumerate() {
+        *w = direct_word(g, r, s);
     }
 }
 
@@ -107,13 +101,12 @@ fn relax_row(words: &mut [u64], n: usize, a: u64, p: usize, q: usize)
     requires { (a < far) × (p + n ≤ length words.old) × (q + n ≤ length words.old) }
     ensures { words.new ≡ relaxed_to a p q words.old n }
 {
-    let mut j = 0;
-    while j < n {
+    // An index, not an iterator: each turn reads place j of one row and writes place j of the other, and the two may be one row.
+    for j in 0..n {
         let c = sum_word(a, words[q + j]);
         if c < words[p + j] {
             words[p + j] = c;
         }
-        j += 1;
     }
 }
 
@@ -123,15 +116,12 @@ fn round(words: &mut [u64], n: usize, k: usize)
     ensures { words.new ≡ round_to n k words.old n }
 {
     let q = k * n;
-    let mut p = 0;
-    let mut i = 0;
-    while i < n {
+    for i in 0..n {
+        let p = i * n;
         let a = words[p + k];
         if a < CUT_WORD {
             relax_row(words, n, a, p, q);
         }
-        p += n;
-        i += 1;
     }
 }
 
@@ -140,10 +130,8 @@ fn all_rounds(words: &mut [u64], n: usize)
     requires { n * n ≤ length words.old }
     ensures { words.new ≡ rounds_to n words.old n }
 {
-    let mut k = 0;
-    while k < n {
+    for k in 0..n {
         round(words, n, k);
-        k += 1;
     }
 }
 
@@ -152,12 +140,10 @@ pub fn cut_words(words: &mut [u64], count: usize)
     requires { count ≤ length words.old }
     ensures { words.new ≡ cut_to words.old count }
 {
-    let mut i = 0;
-    while i < count {
-        if words[i] >= CUT_WORD {
-            words[i] = NEVER;
+    for w in words[..count].iter_mut() {
+        if *w >= CUT_WORD {
+            *w = NEVER;
         }
-        i += 1;
     }
 }
 
@@ -166,14 +152,8 @@ fn direct_rows(m: Model, words: &mut [u64], n: usize)
     requires { (n ≡ m.n) × (n ≤ 64) × (n * n ≤ length words.old) }
     ensures { words.new ≡ direct_rows m words.old n }
 {
-    let mut p = 0;
-    let mut r = 0;
-    while r < n {
-        let g = m.segments[r];
-        let closer = g.closer;
-        direct_row(words, n, r, p, steps_of(closer));
-        p += n;
-        r += 1;
+    for (r, g) in m.segments[..n].iter().enumerate() {
+        direct_row(words, n, r, r * n, steps_of(g.closer));
     }
 }
 
@@ -188,29 +168,27 @@ fn fill(m: Model, words: &mut [u64])
     cut_words(words, n * n);
 }
 
-// 11 if the model breaks the file rules, then 16 for a buffer of fewer than N × N words.
-fn refusal(m: Model, size: usize) -> u8
-    ensures { result ≡ if_held m (cond (ltb size (m.n * m.n)) short_table accepted) unfit }
+// Unfit if the model breaks the file rules, then a short table for a buffer of fewer than N × N words.
+fn refusal(m: Model, size: usize) -> Result<(), Refusal>
+    ensures { number_told result ≡ if_held m (cond (ltb size (m.n * m.n)) short_table accepted) unfit }
 {
-    if model_rules::model_fault(m) != 0 {
-        return 11;
+    if model_rules::model_fault(m).is_err() {
+        return Err(Refusal::Unfit);
     }
     let n = m.n as usize;
     if size < n * n {
-        return 16;
+        return Err(Refusal::ShortTable);
     }
-    0
+    Ok(())
 }
 
 // The distances of a held model, N × N words, each the least over all paths. On a refusal no word is written.
-pub fn distances(m: Model, words: &mut [u64]) -> u8
-    ensures number { result ≡ distances_number m words.old }
+pub fn distances(m: Model, words: &mut [u64]) -> Result<(), Refusal>
+    ensures number { number_told result ≡ distances_number m words.old }
     ensures buffer { words.new ≡ distances_buffer m words.old }
-    ensures least { result ≡ accepted → HoldsDistances m words.new }
+    ensures least { number_told result ≡ accepted → HoldsDistances m words.new }
 {
-    let number = refusal(m, words.len());
-    if number == 0 {
-        fill(m, words);
-    }
-    number
+    refusal(m, words.len())?;
+    fill(m, words);
+    Ok(())
 }

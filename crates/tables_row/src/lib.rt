@@ -15,19 +15,15 @@ fn step_word(g: Steps) -> u64
     requires { g.word ≤ far }
     ensures { result ≡ step_word g }
 {
-    g.word * 65536 + g.a as u64 * 256 + g.b as u64
+    g.word * 65536 + u64::from(g.a) * 256 + u64::from(g.b)
 }
 
 fn store_steps(m: Model, steps: &mut [u64])
     requires { 64 ≤ length steps.old }
     ensures { steps.new ≡ steps_in m steps.old }
 {
-    let mut s = 0;
-    while s < 64 {
-        let g = m.segments[s];
-        let closer = g.closer;
-        steps[s] = step_word(tables_distance::steps_of(closer));
-        s += 1;
+    for (s, g) in m.segments.iter().enumerate() {
+        steps[s] = step_word(tables_distance::steps_of(g.closer));
     }
 }
 
@@ -35,20 +31,9 @@ fn store_steps(m: Model, steps: &mut [u64])
 pub fn fill_steps(m: Model, steps: &mut [u64])
     ensures { steps.new ≡ steps_in m steps.old }
 {
-    if steps.len() < 64 {
-        return;
+    if steps.len() >= 64 {
+        store_steps(m, steps);
     }
-    store_steps(m, steps);
-}
-
-// At most 64 segments.
-fn count_of(n: u8) -> usize
-    ensures { result ≡ min n 64 }
-{
-    if n < 64 {
-        return n as usize;
-    }
-    64
 }
 
 // "0 to itself"; no other segment is reached yet.
@@ -56,14 +41,8 @@ fn start(row: &mut [u64], k: usize, r: usize)
     requires { k ≤ length row.old }
     ensures { row.new ≡ start_to r row.old k }
 {
-    let mut s = 0;
-    while s < k {
-        if s == r {
-            row[s] = 0;
-        } else {
-            row[s] = CUT_WORD;
-        }
-        s += 1;
+    for (s, w) in row[..k].iter_mut().enumerate() {
+        *w = if s == r { 0 } else { CUT_WORD };
     }
 }
 
@@ -73,10 +52,7 @@ fn lower(row: &mut [u64], k: usize, t: usize, c: u64) -> bool
     ensures told { result ≡ is_lower k t c row.old }
     ensures after { row.new ≡ lowered_at k t c row.old }
 {
-    if t >= k {
-        return false;
-    }
-    if c >= row[t] {
+    if t >= k || c >= row[t] {
         return false;
     }
     row[t] = c;
@@ -92,19 +68,13 @@ fn follow(steps: &[u64], k: usize, s: usize, row: &mut [u64]) -> bool
     let d = row[s];
     let g = steps[s];
     let w = g / 65536;
-    if d >= CUT_WORD {
-        return false;
-    }
-    if w >= CUT_WORD {
+    if d >= CUT_WORD || w >= CUT_WORD {
         return false;
     }
     let c = tables_distance::sum_word(d, w);
     let x = lower(row, k, (g / 256 % 256) as usize, c);
     let y = lower(row, k, (g % 256) as usize, c);
-    if x {
-        return true;
-    }
-    y
+    x || y
 }
 
 // The steps of all places in order, each on the row as those before it left it; whether a word changed.
@@ -114,12 +84,10 @@ fn pass(steps: &[u64], k: usize, row: &mut [u64]) -> bool
     ensures rests { result ≡ false → RestsTo steps.now k row.old k }
 {
     let mut changed = false;
-    let mut s = 0;
-    while s < k {
+    for s in 0..k {
         if follow(steps, k, s, row) {
             changed = true;
         }
-        s += 1;
     }
     changed
 }
@@ -140,14 +108,8 @@ pub fn fill_row(steps: &[u64], n: u8, r: usize, row: &mut [u64])
     ensures kept { length row.new ≡ length row.old }
     ensures row { (m : Model) → model_fault m ≡ 0 → n ≡ m.n → steps.now ≡ step_words m → r < m.n → 64 ≤ length row.old → IsRow m r row.new }
 {
-    let k = count_of(n);
-    if row.len() < 64 {
-        return;
-    }
-    if steps.len() < 64 {
-        return;
-    }
-    if r >= k {
+    let k = usize::from(n).min(64);
+    if row.len() < 64 || steps.len() < 64 || r >= k {
         return;
     }
     start(row, k, r);

@@ -1,25 +1,14 @@
 // What both sides hold as words, against each other.
 use crate::print;
-use second::number;
 use std::io::Result;
 
 fn word(words: &[u64], i: usize) -> u64 {
-    if i < words.len() {
-        return words[i];
-    }
-    0
+    words.get(i).copied().unwrap_or(0)
 }
 
-// The first place that differs, or n.
-fn differs_at(a: &[u64], b: &[u64], n: usize) -> usize {
-    let mut i: usize = 0;
-    while i < n {
-        if word(a, i) != word(b, i) {
-            return i;
-        }
-        i += 1;
-    }
-    n
+// The first of n places that differs.
+fn differs_at(a: &[u64], b: &[u64], n: usize) -> Option<usize> {
+    (0..n).find(|i| word(a, *i) != word(b, *i))
 }
 
 // The first n words of the library's side and of the second; a difference is written and counted, with three numbers that say where.
@@ -34,10 +23,9 @@ fn hold_words<R: Print>(
     b: &[u64],
     n: usize,
 ) -> Result<bool> {
-    let i = differs_at(a, b, n);
-    if n <= i {
+    let Some(i) = differs_at(a, b, n) else {
         return Ok(true);
-    }
+    };
     crate::add(totals, crate::DIFFERENCES, 1);
     print::difference(rt, x, y, z, i as u64, word(a, i), word(b, i))?;
     Ok(false)
@@ -70,20 +58,20 @@ pub fn hold_answers<R: Print>(
     hold_words(rt, totals, x, y, z, a, b, n)
 }
 
-// The first place where the library's held value is neither the second side's nor, as that, still its junk; or 2,048.
-fn differs_in(values: &[u32; 2048], junk: u64, kept: &[u64; 2048], other: u64) -> usize {
-    let mut i: usize = 0;
-    while i < 2048 {
-        let a = number::word(values[i]);
-        let b = kept[i];
-        if a != b {
-            if a != junk || b != other {
-                return i;
-            }
+// The first place where the library's held value is neither the second side's nor, as that, still its junk; with both.
+fn differs_in(
+    values: &[u32; 2048],
+    junk: u64,
+    kept: &[u64; 2048],
+    other: u64,
+) -> Option<(u64, u64, u64)> {
+    for ((i, x), b) in (0..).zip(values).zip(kept) {
+        let a = u64::from(*x);
+        if a != *b && (a != junk || *b != other) {
+            return Some((i, a, *b));
         }
-        i += 1;
     }
-    2048
+    None
 }
 
 // The values that are held, each side with its junk. They stand at places of their own.
@@ -98,18 +86,9 @@ pub fn hold_kept<R: Print>(
     kept: &[u64; 2048],
     other: u64,
 ) -> Result<()> {
-    let i = differs_in(values, junk, kept, other);
-    if i < 2048 {
+    if let Some((i, a, b)) = differs_in(values, junk, kept, other) {
         crate::add(totals, crate::DIFFERENCES, 1);
-        print::difference(
-            rt,
-            x,
-            y,
-            z,
-            i as u64 + 1000,
-            number::word(values[i]),
-            kept[i],
-        )?;
+        print::difference(rt, x, y, z, i.wrapping_add(1000), a, b)?;
     }
     Ok(())
 }

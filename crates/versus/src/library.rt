@@ -7,8 +7,7 @@ use second::number::{at, put};
 use second::{layout, number, start};
 
 pub fn model_in(file: &[u8]) -> Model {
-    let x = reader_file::read_file(file);
-    x.model
+    reader_file::read_file(file).model
 }
 
 // Whether a file is written again byte by byte.
@@ -19,19 +18,15 @@ pub fn is_written_again(file: &[u8]) -> bool {
 }
 
 fn hold_values(held: &mut [u64; 640], values: &[u32; 64]) {
-    let mut i: usize = 0;
-    while i < 64 {
-        put(held, layout::VARIABLES, i as u64, number::word(values[i]));
-        i += 1;
+    for (i, x) in (0..).zip(values) {
+        put(held, layout::VARIABLES, i, u64::from(*x));
     }
 }
 
 fn values_in(held: &[u64; 640]) -> [u32; 64] {
     let mut values = [0u32; 64];
-    let mut i: usize = 0;
-    while i < 64 {
-        values[i] = (at(held, layout::VARIABLES, i as u64) % 4294967296) as u32;
-        i += 1;
+    for (i, x) in values.iter_mut().enumerate() {
+        *x = (at(held, layout::VARIABLES, i as u64) % 4294967296) as u32;
     }
     values
 }
@@ -73,22 +68,19 @@ fn hold_state(held: &mut [u64; 640], site: Site, threads: Threads) {
 // The plain run of a model, of at most so many segments.
 pub fn run(m: Model, budget: u64, held: &mut [u64; 640]) {
     let r = plain_core::plain_run(m, budget);
-    let variables = r.variables;
-    let values = variables.at;
-    let threads = r.threads;
-    hold_values(held, &values);
-    export_state::threads_into(threads, 32, held);
-    held[layout::ANSWER] = number::wide(r.number);
+    hold_values(held, &r.variables.at);
+    export_state::threads_into(r.threads, 32, held);
+    held[layout::ANSWER] = u64::from(r.number);
     held[layout::RAN] = r.n;
-    held[layout::SPENT] = if r.spent { 1 } else { 0 };
+    held[layout::SPENT] = u64::from(r.spent);
 }
 
 fn reply(number: u8, segment: u8, time: u64, delta: u32) -> Reply {
     Reply {
-        number: number::wide(number),
-        segment: number::wide(segment),
+        number: u64::from(number),
+        segment: u64::from(segment),
         time,
-        delta: number::word(delta),
+        delta: u64::from(delta),
         overruns: 0,
     }
 }
@@ -115,10 +107,8 @@ fn junk() -> Thread {
 // The records of t threads, and junk past them.
 fn records_in(held: &[u64; 640], t: u8) -> [Thread; 40] {
     let mut records = export_state::threads_from(held, t);
-    let mut k = buffers::wide(t);
-    while k < 40 {
-        records[k] = junk();
-        k += 1;
+    for record in records.iter_mut().skip(usize::from(t)) {
+        *record = junk();
     }
     records
 }
@@ -132,14 +122,10 @@ fn words_of(records: [Thread; 40]) -> [u64; 160] {
 
 // Whether two lists of records are the same from thread t on.
 fn are_same_past(a: &[u64; 160], b: &[u64; 160], t: u8) -> bool {
-    let mut i = 5 * buffers::wide(t);
-    while i < 160 {
-        if a[i] != b[i] {
-            return false;
-        }
-        i += 1;
-    }
-    true
+    a.iter()
+        .zip(b)
+        .skip(5 * usize::from(t))
+        .all(|(x, y)| x == y)
 }
 
 // What is held at the start of a list, by its desk, with junk for threads that are not running.
@@ -147,10 +133,8 @@ pub fn values_at(desk: &[u64; 640], seed: u64, junk: u64) -> [u32; 2048] {
     let mut kept = [0u64; 2048];
     start::hold(desk, seed, junk, &mut kept);
     let mut values = [0u32; 2048];
-    let mut i: usize = 0;
-    while i < 2048 {
-        values[i] = (kept[i] % 4294967296) as u32;
-        i += 1;
+    for (value, x) in values.iter_mut().zip(kept) {
+        *value = (x % 4294967296) as u32;
     }
     values
 }
@@ -179,12 +163,9 @@ pub fn request(
         lent,
         ThreadNo((k % 256) as u8),
     );
-    let asked = left.asked;
-    let answer = asked.answer;
-    let after = left.records;
-    hold_front(held, asked.site, after, t);
-    if are_same_past(&before, &words_of(after), t) {
-        return reply_of(answer);
+    hold_front(held, left.asked.site, left.records, t);
+    if are_same_past(&before, &words_of(left.records), t) {
+        return reply_of(left.asked.answer);
     }
     reply(255, 0, 0, 0)
 }
@@ -213,11 +194,8 @@ fn call(
     let site = site_in(held);
     let threads = export_state::first_threads(export_state::threads_from(held, 32));
     let left = early_request::call(m, marks, words, site, threads, values, call_of(word));
-    let answer = left.answer;
-    let after = left.site;
-    let records = left.threads;
-    hold_state(held, after, records);
-    reply_of(answer)
+    hold_state(held, left.site, left.threads);
+    reply_of(left.answer)
 }
 
 // With so many held values, or all.
@@ -229,10 +207,8 @@ pub fn call_with(
     word: u64,
     n: usize,
 ) -> Reply {
-    if n < values.len() {
-        return call(file, words, held, &mut values[..n], word);
-    }
-    call(file, words, held, values, word)
+    let n = n.min(values.len());
+    call(file, words, held, &mut values[..n], word)
 }
 
 // The next call of a list, with so many records or sets of held values: every second combined request on lent records, all others on values.
@@ -264,10 +240,8 @@ pub fn ask_all(
     let site = site_in(held);
     let threads = export_state::first_threads(export_state::threads_from(held, 32));
     let o = early_list::calls(m, marks, words, site, threads, values, calls, answers);
-    let left = o.site;
-    let records = o.threads;
-    hold_state(held, left, records);
-    held[layout::ANSWER] = number::wide(o.number);
+    hold_state(held, o.site, o.threads);
+    held[layout::ANSWER] = u64::from(o.number);
     held[layout::RAN] = o.granted;
 }
 
@@ -285,10 +259,8 @@ fn ask_in(
     let site = site_in(held);
     let threads = export_state::first_threads(export_state::threads_from(held, 32));
     let o = early_list::calls_by_rows(m, marks, row, site, threads, values, calls, answers);
-    let left = o.site;
-    let records = o.threads;
-    hold_state(held, left, records);
-    held[layout::ANSWER] = number::wide(o.number);
+    hold_state(held, o.site, o.threads);
+    held[layout::ANSWER] = u64::from(o.number);
     held[layout::RAN] = o.granted;
 }
 
@@ -324,9 +296,7 @@ pub fn ask_few_by_rows(
 // The fresh state.
 pub fn fresh(file: &[u8], held: &mut [u64; 640]) {
     let f = early_request::fresh(model_in(file));
-    let site = f.site;
-    let threads = f.threads;
-    hold_state(held, site, threads);
+    hold_state(held, f.site, f.threads);
 }
 
 pub fn fill_words(file: &[u8], words: &mut [u64; 4096]) {

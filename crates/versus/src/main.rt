@@ -34,16 +34,13 @@ pub const DIFFERENCES: u64 = 23;
 
 pub fn add(totals: &mut [u64; 24], i: u64, x: u64) {
     let k = (i % 24) as usize;
-    totals[k] = number::sum(totals[k], x);
+    totals[k] = totals[k].wrapping_add(x);
 }
 
 fn count_records(totals: &mut [u64; 24], desk: &[u64; 640]) {
-    let t = at(desk, simulator::THREADS, 0);
-    let mut k: u64 = 0;
-    while k < t {
+    for k in 0..at(desk, simulator::THREADS, 0) {
         let x = at(desk, simulator::RECORDS, k);
         add(totals, RECORDS + simulator::kind_of(x) % 4, 1);
-        k += 1;
     }
 }
 
@@ -78,10 +75,10 @@ fn hold<R: Print>(
 // Budgets inside and at the end of a run of n segments.
 fn budget(i: u64, seed: u64, n: u64, most: u64) -> u64 {
     match i {
-        1 => number::less(n),
+        1 => n.saturating_sub(1),
         2 => n,
         3 => draw::pick(seed, i, n),
-        4 => number::sum(n, 1),
+        4 => n.wrapping_add(1),
         5 => 1,
         6 => 0,
         7 | 9 | 11 | 13 | 15 => draw::pick(seed, i, most),
@@ -93,18 +90,12 @@ fn budget(i: u64, seed: u64, n: u64, most: u64) -> u64 {
 fn horizon(i: u64, own: u64, time: u64) -> u64 {
     let h = match i / 2 {
         0 | 1 | 2 | 3 => own,
-        4 => number::less(time),
+        4 => time.saturating_sub(1),
         5 => time,
-        6 => number::sum(time, 1),
+        6 => time.wrapping_add(1),
         _ => 1,
     };
-    if h == 0 {
-        return 1;
-    }
-    if 1000000000 < h {
-        return 1000000000;
-    }
-    h
+    h.max(1).min(1000000000)
 }
 
 // A model of which a run takes n segments and a thread ends at a time, at its horizons and budgets.
@@ -119,11 +110,9 @@ fn hold_each<R: Print>(
     most: u64,
 ) -> Result<()> {
     let own = simulator::field(file, 4, 0, 4);
-    let mut i: u64 = 0;
-    while i < 16 {
+    for i in 0..16 {
         draw::put(file, 4, 4, horizon(i, own, time));
         hold(rt, totals, seed, file, size, budget(i, seed, n, most))?;
-        i += 1;
     }
     Ok(())
 }
@@ -199,10 +188,8 @@ fn hold_drawn<R: Print>(
 fn all_drawn<R: Print>(rt: &R) -> Result<()> {
     let mut runs = [0u64; 24];
     let mut lists = [0u64; 24];
-    let mut i: u64 = 0;
-    while i < MODELS {
-        hold_drawn(rt, &mut runs, &mut lists, SEED + i)?;
-        i += 1;
+    for seed in SEED..SEED + MODELS {
+        hold_drawn(rt, &mut runs, &mut lists, seed)?;
     }
     print::run_counts(rt, &runs)?;
     print::list_counts(rt, &lists)

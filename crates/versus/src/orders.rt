@@ -1,10 +1,11 @@
 // Lists of calls through the scheduler and through the second scheduler, each answer and each state compared, and the claim of document 02,
 // slip 7, at the end. Lists 0 to 2 start fresh, lists 3 to 5 at a drawn state; `second::calls` draws them.
 use crate::{compare, library};
-use second::issue::Reply;
+use second::graph::Graph;
+use second::issue::{How, Reply};
 use second::number::at;
 use second::simulator::{NEVER, key_of};
-use second::{calls, draw, graph, issue, layout, number, simulator, start};
+use second::{calls, graph, issue, layout, number, simulator, start};
 use std::io::Result;
 
 // Places of the counts. Of calls that are not refused, requests, grants and finishes stand from 3 on; refusals with 10 to 15 from 7 on;
@@ -40,8 +41,8 @@ const TABLE_JUNK: u64 = 2863311530;
 
 const ROWS_JUNK: u64 = 1431655765;
 
-// A list: seed and number, how many calls were made and not refused, how many segments were granted, the stamp at which the last call was
-// refused, whether the list goes on, and what each thread has run.
+// A list: seed and number, how many calls were made and not refused, how many segments were granted, the stamp from which it goes on where
+// the last call was refused, whether the list goes on, and what each thread has run.
 #[derive(Clone, Copy)]
 struct List {
     seed: u64,
@@ -49,17 +50,17 @@ struct List {
     made: u64,
     done: u64,
     ran: u64,
-    last: u64,
+    last: Option<u64>,
     goes_on: bool,
     told: [u64; 32],
 }
 
 // Which call a word is, and of which thread; one of no call is a finish of thread 255.
-fn how_of(word: u64) -> u64 {
+fn how_of(word: u64) -> How {
     if word < 768 {
-        word / 256
+        calls::how_of(word / 256)
     } else {
-        issue::FINISH
+        How::Finish
     }
 }
 
@@ -72,16 +73,14 @@ fn count_running(totals: &mut [u64; 24], desk: &[u64; 640]) {
     if 1 < n {
         crate::add(totals, TWO_RUNNING, 1);
     }
-    let most = totals[18];
-    if most < n {
-        crate::add(totals, MOST_RUNNING, n - most);
-    }
+    let most = &mut totals[MOST_RUNNING as usize];
+    *most = n.max(*most);
 }
 
 // A refusal of thread k. Those with 15 at the floor are those of a log that is full for any thread.
 fn count_refusal(
     totals: &mut [u64; 24],
-    g: &[u64; 24576],
+    graph: &Graph,
     desk: &[u64; 640],
     k: u64,
     number: u64,
@@ -91,22 +90,22 @@ fn count_refusal(
         crate::add(totals, OUT_OF_TURN, 1);
         return;
     }
-    crate::add(totals, std::num::wrapping_sub_u64(number, 3), 1);
+    crate::add(totals, number.wrapping_sub(3), 1);
     if number < 14 {
         return;
     }
     if number == 15 && key_of(at(desk, simulator::RECORDS, k)) == floor {
         crate::add(totals, FULL, 1);
     }
-    if 0 < calls::running(desk) && issue::is_by_running(g, desk, k, number) {
+    if 0 < calls::running(desk) && issue::is_by_running(graph, desk, k, number) {
         crate::add(totals, number, 1);
     }
 }
 
 // A call that is not refused, at a key.
-fn count_done(totals: &mut [u64; 24], how: u64, key: u64, floor: u64) {
-    crate::add(totals, number::sum(how, DONE), 1);
-    if how != issue::FINISH && floor < key {
+fn count_done(totals: &mut [u64; 24], how: How, key: u64, floor: u64) {
+    crate::add(totals, DONE + how as u64, 1);
+    if how != How::Finish && floor < key {
         crate::add(totals, LATER, 1);
     }
 }
@@ -114,7 +113,7 @@ fn count_done(totals: &mut [u64; 24], how: u64, key: u64, floor: u64) {
 // What each thread has run, with one more segment if the call is not a finish.
 fn told_by(told: [u64; 32], word: u64, r: Reply) -> [u64; 32] {
     let mut next = told;
-    if how_of(word) != issue::FINISH {
+    if how_of(word) != How::Finish {
         let k = (word % 32) as usize;
         let key = r.time % 4294967296 * 1024 + r.delta % 1024;
         next[k] = simulator::told(next[k], r.segment, key);
@@ -123,19 +122,17 @@ fn told_by(told: [u64; 32], word: u64, r: Reply) -> [u64; 32] {
 }
 
 // One more call made, of a turn's word, with the library's answer.
-fn after(l: List, word: u64, stamp: u64, r: Reply, same: bool) -> List {
+fn after(l: List, word: u64, stamp: Option<u64>, r: Reply, same: bool) -> List {
     let mut next = l;
-    next.made = number::sum(l.made, 1);
+    next.made = l.made.wrapping_add(1);
     next.goes_on = same;
     next.last = stamp;
     if r.number == 0 {
-        next.last = NEVER;
-        next.done = number::sum(l.done, 1);
-        let before = l.told;
-        let told = told_by(before, word, r);
-        next.told = told;
-        if how_of(word) != issue::FINISH {
-            next.ran = number::sum(l.ran, 1);
+        next.last = None;
+        next.done = l.done.wrapping_add(1);
+        next.told = told_by(l.told, word, r);
+        if how_of(word) != How::Finish {
+            next.ran = l.ran.wrapping_add(1);
         }
     }
     next
@@ -155,7 +152,7 @@ fn note(answers: &mut [u64; 20480], n: u64, word: u64, r: Reply) {
 fn issue_next(
     totals: &mut [u64; 24],
     file: &[u8],
-    g: &[u64; 24576],
+    graph: &Graph,
     desk: &mut [u64; 640],
     kept: &mut [u64; 2048],
     word: u64,
@@ -164,12 +161,12 @@ fn issue_next(
     let how = how_of(word);
     let k = thread_of(word);
     let key = key_of(at(desk, simulator::RECORDS, k));
-    let r = issue::call(file, g, desk, kept, how, k);
+    let r = issue::call(file, graph, desk, kept, how, k);
     crate::add(totals, CALLS, 1);
     if r.number == 0 {
         count_done(totals, how, key, floor);
     } else {
-        count_refusal(totals, g, desk, k, r.number, floor);
+        count_refusal(totals, graph, desk, k, r.number, floor);
     }
     count_running(totals, desk);
     crate::add(totals, OVERRUNS, r.overruns);
@@ -220,21 +217,20 @@ fn turn<R: Print>(
     answers: &mut [u64; 20480],
     file: &[u8],
     words: &[u64; 4096],
-    g: &[u64; 24576],
+    graph: &Graph,
     desk: &mut [u64; 640],
     kept: &mut [u64; 2048],
     held: &mut [u64; 640],
     values: &mut [u32; 2048],
     l: List,
 ) -> Result<List> {
-    let now = calls::next(desk, l.seed, l.number, l.made, l.last);
-    if now.word == NEVER {
+    let Some(now) = calls::next(desk, l.seed, l.number, l.made, l.last) else {
         let mut end = l;
         end.goes_on = false;
         return Ok(end);
-    }
+    };
     let t = at(desk, simulator::THREADS, 0);
-    let b = issue_next(totals, file, g, desk, kept, now.word);
+    let b = issue_next(totals, file, graph, desk, kept, now.word);
     let a = library::ask(file, words, held, values, now.word, lent(t, l.made));
     list[(l.made % 4096) as usize] = (now.word % 65536) as u16;
     note(answers, l.made, now.word, b);
@@ -244,10 +240,8 @@ fn turn<R: Print>(
 
 // Some lists are long enough for delta 1,023.
 fn length(seed: u64, list: u64) -> u64 {
-    if seed % 240 == 23 {
-        if list == 1 || list == 2 {
-            return 3500;
-        }
+    if seed % 240 == 23 && (list == 1 || list == 2) {
+        return 3500;
     }
     if list % 3 == 0 { 24 } else { 48 }
 }
@@ -260,7 +254,7 @@ fn one_by_one<R: Print>(
     answers: &mut [u64; 20480],
     file: &[u8],
     words: &[u64; 4096],
-    g: &[u64; 24576],
+    graph: &Graph,
     desk: &mut [u64; 640],
     kept: &mut [u64; 2048],
     held: &mut [u64; 640],
@@ -268,12 +262,13 @@ fn one_by_one<R: Print>(
     l: List,
 ) -> Result<List> {
     let mut now = l;
-    let mut left = length(l.seed, l.number);
-    while 0 < left && now.goes_on {
+    for _ in 0..length(l.seed, l.number) {
+        if !now.goes_on {
+            break;
+        }
         now = turn(
-            rt, totals, list, answers, file, words, g, desk, kept, held, values, now,
+            rt, totals, list, answers, file, words, graph, desk, kept, held, values, now,
         )?;
-        left -= 1;
     }
     Ok(now)
 }
@@ -323,7 +318,7 @@ fn whole<R: Print>(
     begun: &[u64; 640],
     l: List,
 ) -> Result<()> {
-    let asked = number::front(list, l.made as usize);
+    let asked = number::first(list, l.made as usize);
     let mut out = [0u64; 20480];
     let mut held = layout::words_of(begun);
     let mut values = library::values_at(begun, l.seed, TABLE_JUNK);
@@ -342,7 +337,7 @@ fn whole<R: Print>(
 
 // What the words of a row hold beforehand: nothing, all ones, or some distance.
 fn junk(l: List) -> u64 {
-    match number::sum(l.seed / 3, l.number) % 3 {
+    match (l.seed / 3).wrapping_add(l.number) % 3 {
         0 => 0,
         1 => NEVER,
         _ => 1025,
@@ -352,19 +347,15 @@ fn junk(l: List) -> u64 {
 // Histories, in place of the log.
 fn put_histories(words: &mut [u64; 640], told: &[u64; 32]) {
     words[layout::LOG] = 0;
-    let mut k: usize = 0;
-    while k < 32 {
-        number::put(words, layout::PAIRS, k as u64, told[k]);
-        k += 1;
+    for (k, x) in (0..).zip(told) {
+        number::put(words, layout::PAIRS, k, *x);
     }
 }
 
 fn histories_on(desk: &[u64; 640]) -> [u64; 32] {
     let mut told = [0u64; 32];
-    let mut k: usize = 0;
-    while k < 32 {
-        told[k] = at(desk, simulator::HISTORIES, k as u64);
-        k += 1;
+    for (k, x) in told.iter_mut().enumerate() {
+        *x = at(desk, simulator::HISTORIES, k as u64);
     }
     told
 }
@@ -379,11 +370,10 @@ fn hold_ended<R: Print>(
     l: List,
 ) -> Result<()> {
     let mut other = [0u64; 640];
-    simulator::simulate(file, number::sum(l.ran, 1), &mut other);
+    simulator::simulate(file, l.ran.wrapping_add(1), &mut other);
     let mut first = *held;
     first[layout::RAN] = l.ran;
-    let told = l.told;
-    put_histories(&mut first, &told);
+    put_histories(&mut first, &l.told);
     let mut plain = layout::words_of(&other);
     put_histories(&mut plain, &histories_on(&other));
     let n = layout::PLAIN + 33;
@@ -392,17 +382,13 @@ fn hold_ended<R: Print>(
     Ok(())
 }
 
-// The call that "is not refused": a finish of a running thread, or the least stamp's request or grant; NEVER where there is none.
-fn next_done(desk: &[u64; 640], l: List) -> u64 {
-    let k = calls::running_from(desk, l.seed % 32);
-    if k < 32 {
-        return calls::word_of(issue::FINISH, k);
+// The call that "is not refused", if there is one: a finish of a running thread, or the least stamp's request or grant.
+fn next_done(desk: &[u64; 640], l: List) -> Option<u64> {
+    if let Some(k) = calls::running_from(desk, l.seed % 32) {
+        return Some(calls::word_of(How::Finish, k));
     }
-    let least = calls::least_from(desk, 0);
-    if least == NEVER {
-        return NEVER;
-    }
-    calls::word_of(l.seed % 2, least % 256)
+    let least = calls::least_from(desk, 0)?;
+    Some(calls::word_of(calls::how_of(l.seed % 2), least % 256))
 }
 
 fn hold_ending<R: Print>(
@@ -415,11 +401,9 @@ fn hold_ending<R: Print>(
     values: &mut [u32; 2048],
     l: List,
 ) -> Result<()> {
-    let word = next_done(desk, l);
-    if word == NEVER {
-        hold_ended(rt, totals, file, held, l)?;
-        return Ok(());
-    }
+    let Some(word) = next_done(desk, l) else {
+        return hold_ended(rt, totals, file, held, l);
+    };
     let r = library::ask(file, words, held, values, word, 40);
     compare::hold_number(rt, totals, l.seed, l.number, l.made, r.number, 0)?;
     crate::add(totals, WENT_ON, 1);
@@ -433,7 +417,7 @@ fn hold_list<R: Print>(
     number: u64,
     file: &[u8],
     words: &[u64; 4096],
-    g: &[u64; 24576],
+    graph: &Graph,
 ) -> Result<()> {
     let mut desk = [0u64; 640];
     start::set_up(file, seed, number, &mut desk);
@@ -450,7 +434,7 @@ fn hold_list<R: Print>(
         made: 0,
         done: 0,
         ran: 0,
-        last: NEVER,
+        last: None,
         goes_on: true,
         told: [0u64; 32],
     };
@@ -461,7 +445,7 @@ fn hold_list<R: Print>(
         &mut answers,
         file,
         words,
-        g,
+        graph,
         &mut desk,
         &mut kept,
         &mut held,
@@ -486,7 +470,7 @@ fn spoil_thread(held: &mut [u64; 640], way: u64, n: u64, e: u64, h: u64) {
         1 => layout::put_five(held, 0, 0, 1, 0, 0, 1024),
         2 => layout::put_five(held, 0, 0, 3, e, 0, 0),
         3 => layout::put_five(held, 0, 0, 0, 0, 2000000001, 0),
-        4 => layout::put_five(held, 0, 0, 4, 0, number::sum(h, 1), 0),
+        4 => layout::put_five(held, 0, 0, 4, 0, h.wrapping_add(1), 0),
         _ => layout::put_five(held, 0, n, 2, 0, 0, 0),
     }
 }
@@ -501,11 +485,7 @@ fn spoil_pair(held: &mut [u64; 640], way: u64, e: u64) {
 
 // Places past the log's count are 0.
 fn clear_log(held: &mut [u64; 640]) {
-    let mut i: u64 = 0;
-    while i < 385 {
-        number::put(held, layout::LOG as u64, i, 0);
-        i += 1;
-    }
+    held[layout::LOG..layout::LOG + 385].fill(0);
 }
 
 // A state that is not fit: by its first thread, its first notification, or the log's count.
@@ -642,7 +622,7 @@ fn hold_unfit<R: Print>(
     let e = simulator::byte(file, 9, 0);
     spoil(&mut held, seed / 4, n, e, simulator::field(file, 4, 0, 4));
     refuse(rt, totals, seed, file, words, &mut held, k, 40)?;
-    let word = calls::word_of(seed / 12, k);
+    let word = calls::word_of(calls::how_of(seed / 12), k);
     refuse_call(rt, totals, seed, file, words, &mut held, word, 2048)?;
     refuse_by_rows(rt, totals, seed, file, &held, word)
 }
@@ -666,11 +646,15 @@ fn hold_short<R: Print>(
     let mut desk = [0u64; 640];
     let t = start::set_up(file, seed, 0, &mut desk);
     let mut held = layout::words_of(&desk);
-    let few = if seed % 2 == 0 { 0 } else { number::less(t) };
+    let few = if seed % 2 == 0 {
+        0
+    } else {
+        t.saturating_sub(1)
+    };
     let k = calls::any_thread(seed, t);
     refuse(rt, totals, seed, file, words, &mut held, k, few as usize)?;
     let n = (64 * (t % 33)) as usize;
-    let word = calls::word_of(seed / 2, k);
+    let word = calls::word_of(calls::how_of(seed / 2), k);
     refuse_call(
         rt,
         totals,
@@ -689,7 +673,14 @@ fn hold_few<R: Print>(rt: &R, totals: &mut [u64; 24], seed: u64, file: &[u8]) ->
     let t = start::set_up(file, seed, 0, &mut desk);
     let held = layout::words_of(&desk);
     let k = if seed % 2 == 0 { t } else { 0 };
-    refuse_few(rt, totals, seed, file, &held, calls::word_of(seed / 2, k))
+    refuse_few(
+        rt,
+        totals,
+        seed,
+        file,
+        &held,
+        calls::word_of(calls::how_of(seed / 2), k),
+    )
 }
 
 // The fresh state.
@@ -713,12 +704,10 @@ fn hold_all<R: Print>(
     seed: u64,
     file: &[u8],
     words: &[u64; 4096],
-    g: &[u64; 24576],
+    graph: &Graph,
 ) -> Result<()> {
-    let mut list: u64 = 0;
-    while list < 6 {
-        hold_list(rt, totals, seed, list, file, words, g)?;
-        list += 1;
+    for list in 0..6 {
+        hold_list(rt, totals, seed, list, file, words, graph)?;
     }
     crate::add(totals, MODELS, 1);
     Ok(())
@@ -735,13 +724,13 @@ pub fn hold_lists<R: Print>(
     let file = number::first(bytes, size);
     let mut desk = [0u64; 640];
     start::set_up(file, seed, 0, &mut desk);
-    let mut g = [0u64; 24576];
-    graph::fill(file, &desk, &mut g);
+    let mut graph = Graph::new();
+    graph::fill(file, &desk, &mut graph);
     let mut words = [0u64; 4096];
     library::fill_words(file, &mut words);
     hold_fresh(rt, totals, seed, file, &desk)?;
     hold_unfit(rt, totals, seed, file, &words)?;
     hold_short(rt, totals, seed, file, &words)?;
     hold_few(rt, totals, seed, file)?;
-    hold_all(rt, totals, seed, file, &words, &g)
+    hold_all(rt, totals, seed, file, &words, &graph)
 }

@@ -32,12 +32,8 @@ pub fn difference<R: Print>(
 
 // So many counts, and the last: differences.
 fn counts<R: Print>(rt: &R, totals: &[u64; 24], n: usize) -> Result<()> {
-    let mut i: usize = 0;
-    while i < 23 {
-        if i < n {
-            spaced(rt, totals[i])?;
-        }
-        i += 1;
+    for x in totals.iter().take(n) {
+        spaced(rt, *x)?;
     }
     spaced(rt, totals[23])?;
     text(rt, b"\n")

@@ -1,7 +1,7 @@
 -- How many bytes: the records beside a segment's, and the whole file.
 --     end_bytes-frame     a record as the code puts it
---     starts_none, starts-read, starts-past     the length of the threads, counted one by one
---     counted_none, counted-read, counted-past, counted-all     the length, counted segment by segment
+--     starts_none, starts-read, starts-all     the length of the threads, counted one by one
+--     counted_none, counted-read, counted-all     the length, counted segment by segment
 --     file_of-longest     no more than 13,934 for a model that keeps the file rules
 -- Assumes nothing.
 use Prim.Native.Nat.{ℕ, zero, suc, ◌+◌, ◌*◌, ◌<◌, ◌≤◌}
@@ -10,22 +10,18 @@ use mathlib.Core.List.{List, ◌++◌}
 use native.Mathlib.Nat.{zero-add}
 use native.Mathlib.Numerals.{add-one}
 use native.Mathlib.Omega.{arith}
-use lib.ListN.{length, get_or, length-append}
-use Rattle.base.specs.Index.{any_below}
-use Rattle.model.specs.declared.Segment.{Segment}
+use lib.ListN.{length, length-append}
 use Rattle.model.specs.declared.Start.{Start}
 use Rattle.model.specs.declared.Model.{Model}
-use Rattle.model.specs.Port.{no_ports, uses_ports}
-use Rattle.model.specs.Values.{no_segment, no_start, segment_at, start_at}
+use Rattle.model.specs.Values.{segment_at, start_at}
 use Rattle.model.specs.Rules.{model_fault}
 use Rattle.model_rules.proofs.RuleLaws.{model_fault-counts, model_fault-statements}
-use Rattle.model_rules.proofs.FaultLaws.{segment_at-read, segment_at-past, start_at-read, start_at-past}
 use Rattle.reader.specs.Record.{end_kind}
 use Rattle.writer.specs.Bytes.{bytes_of, joined}
 use Rattle.writer.specs.File.{record_bytes, head_bytes, segment_bytes, ports_bytes, start_bytes, end_bytes, file_of}
 use Rattle.writer_laws.proofs.JoinLaws.{joined-more}
 use Rattle.writer_laws.proofs.SegmentLaws.{segment_bytes-length}
-use Rattle.writer_file.proofs.PortLaws.{ports_bytes-most, ports_bytes-empty}
+use Rattle.writer_file.proofs.PortLaws.{ports_bytes-most}
 
 pub start_bytes-length : (s : Start) → length (start_bytes s) ≡ 5 + length (ports_bytes s.ports)
 unfolding start_bytes record_bytes bytes_of
@@ -75,17 +71,8 @@ module _ (m : Model) (k size more : ℕ) (c : CountedTo m k size) where
       (omega (arith, starts_of-longest m (k + 1)), l)
 
   -- thread k, as the code reads it
-  pub starts-read : (d : Start) (n : ℕ) → k < length m.starts → n ≡ 5 + length (ports_bytes (get_or m.starts k d).ports) → more ≡ size + n
-      → CountedTo m (k + 1) more
-  starts-read d n h e p =
-      starts_more n (start_bytes-length (start_at m k) ∙ sym (e ∙ ap (λ (s : Start). 5 + length (ports_bytes s.ports)) (start_at-read m k d h))) p
-
-  -- past the 32 places
-  pub starts-past : length m.starts ≤ k → more ≡ size + 5 → CountedTo m (k + 1) more
-  unfolding uses_ports any_below
-  starts-past h p =
-      starts_more 5
-      (ap (λ (s : Start). length (start_bytes s)) (start_at-past m k h) ∙ start_bytes-length no_start ∙ ap (λ (n : ℕ). 5 + n) (ports_bytes-empty no_ports refl)) p
+  pub starts-read : (s : Start) (n : ℕ) → s ≡ start_at m k → n ≡ 5 + length (ports_bytes s.ports) → more ≡ size + n → CountedTo m (k + 1) more
+  starts-read s n is e p = starts_more n (sym (e ∙ ap (λ (s : Start). 5 + length (ports_bytes s.ports)) is ∙ sym (start_bytes-length (start_at m k)))) p
 
 -- at most 255 threads
 pub starts-all : (m : Model) (k size : ℕ) → k ≡ m.t → k < 256 → CountedTo m k size → (size ≡ length (starts_of m m.t)) × (size ≤ 4335)
@@ -114,16 +101,8 @@ module _ (m : Model) (i size more : ℕ) (c : Counted m i size) where
       (omega (arith, c.0), rw (add-one, joined-more i 0 f, zero-add i) (simp length-append (omega (arith, c.1))))
 
   -- segment i, as the code reads it
-  pub counted-read :
-      (d : Segment) (x : ℕ) → i < length m.segments → x ≡ (get_or m.segments i d).n → x < 256 → more ≡ size + (17 + 6 * x) →
-      Counted m (i + 1) more
-  counted-read d x h e l p =
-      let r : (get_or m.segments i d).n ≡ (segment_at m i).n = ap (λ (g : Segment). g.n) (segment_at-read m i d h) in
-      counted-more (17 + 6 * x) (omega (arith, segment_bytes-length (segment_at m i))) (omega arith) p
-
-  -- past the 64 places
-  pub counted-past : length m.segments ≤ i → more ≡ size + 17 → Counted m (i + 1) more
-  counted-past h p = counted-more 17 (rw (segment_at-past m i h) (segment_bytes-length no_segment)) (omega arith) p
+  pub counted-read : (x : ℕ) → x ≡ (segment_at m i).n → x < 256 → more ≡ size + (17 + 6 * x) → Counted m (i + 1) more
+  counted-read x is l p = counted-more (17 + 6 * x) (omega (arith, segment_bytes-length (segment_at m i))) (omega arith) p
 
 -- a model that keeps the file rules: at most a head of 10 bytes, 64 segments of 209, 32 threads of 17, an end of 4
 pub file_of-longest : (m : Model) → model_fault m ≡ 0 → length (file_of m) ≤ 13934

@@ -14,7 +14,7 @@ ghost use Rattle.writer.specs.Back.{ReadsBack};
 
 use buffers::Written;
 use clock::Time;
-use model::{Closer, Model, Start};
+use model::{Model, Start};
 
 // Document 01: "head, length 10".
 fn put_head(out: &mut [u8], at: usize, horizon: Time, v: u8, e: u8) -> usize
@@ -30,17 +30,11 @@ fn put_head(out: &mut [u8], at: usize, horizon: Time, v: u8, e: u8) -> usize
 fn put_segments(out: &mut [u8], at: usize, m: Model) -> usize
     ensures { Puts out.old at out.new result (joined m.n 0 (λ i. segment_bytes (segment_at m i))) }
 {
-    let n = buffers::wide(m.n);
-    let mut to = buffers::least(at, out.len());
-    let mut i = 0;
-    while i < n {
-        if i < 64 {
-            let g = m.segments[i];
-            to = writer_segment::put_segment(out, to, g);
-        } else {
-            to = writer_segment::put_front(out, to, 0, Closer::End);
-        }
-        i += 1;
+    let none = model_effect::no_segment();
+    let mut to = at.min(out.len());
+    for i in 0..usize::from(m.n) {
+        let g = m.segments.get(i).unwrap_or(&none);
+        to = writer_segment::put_segment(out, to, *g);
     }
     to
 }
@@ -57,12 +51,9 @@ fn put_start(out: &mut [u8], at: usize, first: u8) -> usize
 fn put_eight(out: &mut [u8], at: usize, ports: [u8; 8]) -> usize
     ensures { Puts out.old at out.new result (joined 8 0 (λ p. bytes_of 1 (port_of ports p))) }
 {
-    let mut to = buffers::least(at, out.len());
-    let mut i = 0;
-    while i < 8 {
-        let x = ports[i];
-        to = writer_segment::put_one(out, to, x);
-        i += 1;
+    let mut to = at.min(out.len());
+    for x in &ports {
+        to = writer_segment::put_one(out, to, *x);
     }
     to
 }
@@ -75,33 +66,26 @@ fn put_ports(out: &mut [u8], at: usize, ports: [u8; 8]) -> usize
         let a = writer_segment::put_frame(out, at, 12, 5);
         return put_eight(out, a, ports);
     }
-    buffers::least(at, out.len())
+    at.min(out.len())
 }
 
 // A thread's record, then that of its ports.
 fn put_thread(out: &mut [u8], at: usize, s: Start) -> usize
     ensures { Puts out.old at out.new result (start_bytes s) }
 {
-    let ports = s.ports;
     let a = put_start(out, at, s.first);
-    put_ports(out, a, ports)
+    put_ports(out, a, s.ports)
 }
 
 // A model's threads. Past its 32 places each begins at segment 0 and uses no port.
 fn put_starts(out: &mut [u8], at: usize, m: Model) -> usize
     ensures { Puts out.old at out.new result (joined m.t 0 (λ k. start_bytes (start_at m k))) }
 {
-    let t = buffers::wide(m.t);
-    let mut to = buffers::least(at, out.len());
-    let mut k = 0;
-    while k < t {
-        if k < 32 {
-            let s = m.starts[k];
-            to = put_thread(out, to, s);
-        } else {
-            to = put_start(out, to, 0);
-        }
-        k += 1;
+    let none = model_effect::no_start();
+    let mut to = at.min(out.len());
+    for k in 0..usize::from(m.t) {
+        let s = m.starts.get(k).copied().unwrap_or(none);
+        to = put_thread(out, to, s);
     }
     to
 }
@@ -110,8 +94,7 @@ fn put_starts(out: &mut [u8], at: usize, m: Model) -> usize
 pub fn put_file(m: Model, out: &mut [u8]) -> usize
     ensures { Puts out.old 0 out.new result (file_of m) }
 {
-    let horizon = m.horizon;
-    let a = put_head(out, 0, horizon, m.v, m.e);
+    let a = put_head(out, 0, m.horizon, m.v, m.e);
     let b = put_segments(out, a, m);
     let c = put_starts(out, b, m);
     writer_segment::put_frame(out, c, 4, 4)
@@ -131,18 +114,11 @@ fn start_size(ports: [u8; 8]) -> usize
 fn starts_size(m: Model) -> usize
     ensures { (result ≡ length (joined m.t 0 (λ k. start_bytes (start_at m k)))) × (result ≤ 4335) }
 {
-    let t = buffers::wide(m.t);
+    let none = model_effect::no_start();
     let mut size = 0;
-    let mut i = 0;
-    while i < t {
-        if i < 32 {
-            let s = m.starts[i];
-            let ports = s.ports;
-            size += start_size(ports);
-        } else {
-            size += 5;
-        }
-        i += 1;
+    for i in 0..usize::from(m.t) {
+        let s = m.starts.get(i).copied().unwrap_or(none);
+        size += start_size(s.ports);
     }
     size
 }
@@ -151,16 +127,10 @@ fn starts_size(m: Model) -> usize
 pub fn size_of(m: Model) -> usize
     ensures { result ≡ length (file_of m) }
 {
-    let n = buffers::wide(m.n);
     let mut size = 14 + starts_size(m);
-    let mut i = 0;
-    while i < n {
-        if i < 64 {
-            size += 17 + 6 * buffers::wide(m.segments[i].n);
-        } else {
-            size += 17;
-        }
-        i += 1;
+    for i in 0..usize::from(m.n) {
+        let n = m.segments.get(i).map_or(0, |g| g.n);
+        size += 17 + 6 * usize::from(n);
     }
     size
 }

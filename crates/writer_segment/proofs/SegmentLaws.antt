@@ -1,19 +1,18 @@
 -- The record of a segment as the code puts it.
 --     segment_bytes-parts     the frame and the closer, then the statements
 --     closer_bytes-end     a closer that ends
---     op_bytes-past     a statement past the 32 places
 -- Assumes nothing.
-use Prim.Native.Nat.{ℕ, ◌+◌, ◌*◌, ◌≤◌}
+use Prim.Native.Nat.{ℕ, ◌+◌, ◌*◌}
 use mathlib.Core.Path.{◌≡◌, refl, ap, ◌∙◌}
 use mathlib.Core.List.{List, ◌++◌, append_assoc}
 use native.Mathlib.Omega.{arith}
-use lib.ListN.{length, get_or, get_or-eq_default}
+use lib.ListN.{length, get_or}
 use Rattle.model.specs.declared.Closer.{Closer}
 use Rattle.model.specs.declared.Closer.TheVariants.{End}
 use Rattle.model.specs.declared.Segment.{Segment}
 use Rattle.model.specs.Values.{no_statement}
 use Rattle.reader.specs.Record.{segment_kind}
-use Rattle.writer.specs.Bytes.{bytes_of, joined, next_bytes, closer_bytes, statement_of, op_bytes}
+use Rattle.writer.specs.Bytes.{bytes_of, joined, next_bytes, closer_bytes, op_bytes}
 use Rattle.writer.specs.File.{record_bytes, segment_bytes}
 use Rattle.writer_laws.proofs.SegmentLaws.{body-length}
 
@@ -40,8 +39,3 @@ pub closer_bytes-end :
     bytes_of 1 0 ++ (bytes_of 1 0 ++ (bytes_of 4 0 ++ next_bytes (record { a = 0; b = 0; test = 0; limit = 0 }))) ≡ closer_bytes z
 unfolding bytes_of next_bytes closer_bytes
 closer_bytes-end z e = rw e refl
-
--- statement j, past the 32 places: variable 0 is set to 0
-pub op_bytes-past : (g : Segment) (j : ℕ) → length g.statements ≤ j → statement_of 1 0 0 ≡ statement_at g j
-unfolding op_bytes
-op_bytes-past g j h = rw (get_or-eq_default g.statements no_statement h) refl

@@ -8,7 +8,7 @@ ghost use Rattle.reader.specs.Record.{segment_kind};
 ghost use Rattle.writer.specs.Bytes.{bytes_of, joined, next_bytes, closer_bytes, statement_of, op_bytes};
 ghost use Rattle.writer.specs.File.{segment_bytes};
 
-use model::{Closer, Next, Op, Segment};
+use model::{Closer, Next, Op, Segment, Statement};
 
 // Document 01: "Little-endian." One, two and four bytes; each put answers where the next byte goes.
 pub fn put_one(out: &mut [u8], at: usize, x: u8) -> usize
@@ -48,7 +48,7 @@ fn put_next(out: &mut [u8], at: usize, x: Next) -> usize
     let a = put_one(out, at, x.a);
     let b = put_one(out, a, x.b);
     let c = put_one(out, b, x.test);
-    put_four(out, c, buffers::long_word(x.limit))
+    put_four(out, c, u64::from(x.limit))
 }
 
 // A closer's kind, event and delay, then its next.
@@ -57,7 +57,7 @@ fn put_wait(out: &mut [u8], at: usize, kind: u8, e: u8, delay: u32, x: Next) -> 
 {
     let a = put_one(out, at, kind);
     let b = put_one(out, a, e);
-    let c = put_four(out, b, buffers::long_word(delay));
+    let c = put_four(out, b, u64::from(delay));
     put_next(out, c, x)
 }
 
@@ -86,7 +86,7 @@ fn put_statement(out: &mut [u8], at: usize, op: u8, a: u8, b: u32) -> usize
 {
     let c = put_one(out, at, op);
     let d = put_one(out, c, a);
-    put_four(out, d, buffers::long_word(b))
+    put_four(out, d, u64::from(b))
 }
 
 fn put_op(out: &mut [u8], at: usize, op: Op) -> usize
@@ -106,18 +106,11 @@ fn put_op(out: &mut [u8], at: usize, op: Op) -> usize
 fn put_statements(out: &mut [u8], at: usize, g: Segment) -> usize
     ensures { Puts out.old at out.new result (joined g.n 0 (λ j. op_bytes (get_or g.statements j no_statement).op)) }
 {
-    let n = buffers::wide(g.n);
-    let mut to = buffers::least(at, out.len());
-    let mut j = 0;
-    while j < n {
-        if j < 32 {
-            let x = g.statements[j];
-            let op = x.op;
-            to = put_op(out, to, op);
-        } else {
-            to = put_statement(out, to, 1, 0, 0);
-        }
-        j += 1;
+    let none = Statement { op: Op::Set(0, 0) };
+    let mut to = at.min(out.len());
+    for j in 0..usize::from(g.n) {
+        let x = g.statements.get(j).copied().unwrap_or(none);
+        to = put_op(out, to, x.op);
     }
     to
 }
@@ -126,14 +119,13 @@ fn put_statements(out: &mut [u8], at: usize, g: Segment) -> usize
 pub fn put_front(out: &mut [u8], at: usize, n: u8, closer: Closer) -> usize
     ensures { Puts out.old at out.new result ((bytes_of 2 (17 + 6 * n) ++ bytes_of 2 segment_kind) ++ closer_bytes closer) }
 {
-    let a = put_frame(out, at, 17 + 6 * buffers::long_byte(n), 2);
+    let a = put_frame(out, at, 17 + 6 * u64::from(n), 2);
     put_closer(out, a, closer)
 }
 
 pub fn put_segment(out: &mut [u8], at: usize, g: Segment) -> usize
     ensures { Puts out.old at out.new result (segment_bytes g) }
 {
-    let closer = g.closer;
-    let a = put_front(out, at, g.n, closer);
+    let a = put_front(out, at, g.n, g.closer);
     put_statements(out, a, g)
 }

@@ -3,4 +3,4 @@ use Rattle.clock.proofs.WaitLaws.{over-units}
 use Rattle.clock.proofs.after_units.Goals as goal
 
 pub returns : goal.returns
-returns c = rw c.wrapping_add_u64.ensures.value (over-units _ _)
+returns c = rw c.from.ensures (over-units _ _)

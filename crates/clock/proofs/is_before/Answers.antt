@@ -1,10 +1,8 @@
--- `clock::is_before` meets its contract: one case for equal times, one for others.
-use Rattle.std.proofs.Common.{arith}
-use Rattle.clock.proofs.CycleLaws.{is_before-same, is_before-other}
+-- `clock::is_before` meets its contract: the derived order compares the times, and the deltas of equal times.
+use Rattle.std.proofs.Common.{rules, tests}
+use Rattle.clock.specs.Cycle.{is_before}
 use Rattle.clock.proofs.is_before.Goals as goal
 
-pub returns-then-a-b : goal.returns-then-a-b
-returns-then-a-b c = is_before-same _ _ (omega arith)
-
 pub returns : goal.returns
-returns c = is_before-other _ _ (λ e. omega arith)
+unfolding is_before
+returns c = rw c.lt.ensures (search (rules, tests))

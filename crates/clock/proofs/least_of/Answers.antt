@@ -6,5 +6,5 @@ use Rattle.clock.proofs.least_of.Goals as goal
 pub returns-then-is_bound_before : goal.returns-then-is_bound_before
 returns-then-is_bound_before c = least-before _ _ (sym c.is_bound_before.ensures ∙ c.if-is_bound_before.true)
 
-pub returns : goal.returns
-returns c = least_other _ _ (sym c.is_bound_before.ensures ∙ c.if-is_bound_before.false)
+pub returns-else-is_bound_before : goal.returns-else-is_bound_before
+returns-else-is_bound_before c = least_other _ _ (sym c.is_bound_before.ensures ∙ c.if-is_bound_before.false)

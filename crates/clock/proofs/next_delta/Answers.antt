@@ -8,5 +8,5 @@ pub returns-then-c-lt1023 : goal.returns-then-c-lt1023
 returns-then-c-lt1023 c = event-ready _ (omega arith)
 
 -- at 1,023 or above
-pub returns : goal.returns
-returns c = event-overrun _ (omega arith)
+pub returns-else-c-lt1023 : goal.returns-else-c-lt1023
+returns-else-c-lt1023 c = event-overrun _ (omega arith)

@@ -7,4 +7,4 @@ pub returns-then-t-ge70368744177664 : goal.returns-then-t-ge70368744177664
 returns-then-t-ge70368744177664 c = limit_of_cycle-never _ (omega arith)
 
 pub returns : goal.returns
-returns c = limit_of_cycle-at _ _ (omega arith) c.delta_word.ensures
+returns c = limit_of_cycle-at _ _ (omega arith) c.from.ensures

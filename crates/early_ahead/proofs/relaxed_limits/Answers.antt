@@ -1,11 +1,9 @@
 -- `early_ahead::relaxed_limits` meets its contract: a store for each thread.
 use native.Mathlib.Omega.{arith}
+use Rattle.early_ahead.proofs.LimitLaws.{at_most-min}
 use Rattle.early_ahead.proofs.LengthLaws.{limits-length, events-length}
-use Rattle.early_ahead.proofs.AheadLaws.{relaxed_at-read, relaxed_to-none, relaxed_to-more, relaxed_to-all}
+use Rattle.early_ahead.proofs.AheadLaws.{relaxed_at-read, relaxed_to-more, relaxed_to-all}
 use Rattle.early_ahead.proofs.relaxed_limits.Goals as goal
-
-pub loop-k-init : goal.loop-k-init
-loop-k-init c = let start = c in (omega arith, relaxed_to-none _ _ _ _ (limits-length start.args.xs _ start.well_formed.1.1.0))
 
 pub loop-k-preserved : goal.loop-k-preserved
 loop-k-preserved c =
@@ -15,9 +13,9 @@ loop-k-preserved c =
     let size = limits-length start.args.xs _ start.well_formed.1.1.0 in
     let events = events-length start.args.crew _ start.well_formed.1.0 in
     let next = relaxed_at-read _ start.args.crew _ _ l.k _ (omega arith) (omega arith) c.relaxed_by.ensures in
-    (omega arith, relaxed_to-more _ _ _ _ l.k _ _ l.invariant.1 (omega arith) next)
+    relaxed_to-more _ _ _ _ l.k _ _ l.invariant (omega arith) next
 
 pub returns : goal.returns
 returns c =
     let start = c in
-    relaxed_to-all _ _ _ _ c.loop-k.k _ c.loop-k.invariant.1 (omega arith) (limits-length start.args.xs _ start.well_formed.1.1.0)
+    relaxed_to-all _ _ _ _ c.loop-k.k _ c.loop-k.invariant (omega (arith, at_most-min 32 start.args.t)) (limits-length start.args.xs _ start.well_formed.1.1.0)

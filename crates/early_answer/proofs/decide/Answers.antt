@@ -23,7 +23,7 @@ returns-in_default c =
     record {
       kept = refl;
       number = λ es l same ws shown.
-          c.unready_number.ensures
+          c.unready.ensures
           ∙ number-unready _ _ _ _ x.desk.now.t (x.desk.now.horizon.0 + 1) x.threads.at x.k.0 (omega arith) _ (ap (λ j. (get_or x.threads.at j no_thread).state) (sym i.ensures)) c.in_default.not-Ready;
     }
 

@@ -14,7 +14,7 @@ returns-then-is_finish c =
     record {
       kept = refl;
       number = λ es l same ws shown.
-          c.finish_number.ensures
+          c.decide_finish.ensures
           ∙ (ap (finish_number x.desk.now.t x.threads.at) c.thread_of-k.ensures
           ∙ number-finish (x.desk.now.horizon.0 + 1) x.desk.now.n x.desk.now.t es (conflicts_on x.desk.now.marks x.desk.now.names.now x.desk.now.starts) ws x.desk.now.reach.now l (log_of x.site) x.threads.at
           x.call (sym c.is_finish.ensures ∙ c.if-is_finish.true));

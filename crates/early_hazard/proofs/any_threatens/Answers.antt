@@ -4,8 +4,8 @@ use native.Mathlib.Omega.{arith}
 use Rattle.base.proofs.IndexLaws.{any_below-start, any_below-here}
 use Rattle.early_limits.specs.Limit.{at_most}
 use Rattle.early_ahead.proofs.LengthLaws.{limits-length}
-use Rattle.early_ahead.proofs.LimitLaws.{at_most-≤}
-use Rattle.early_hazard.proofs.HazardLaws.{at_most-min, knows-kept, any_below-more, threat_at-self, threat_at-other}
+use Rattle.early_ahead.proofs.LimitLaws.{at_most-≤, at_most-min}
+use Rattle.early_hazard.proofs.HazardLaws.{knows-kept, any_below-more, threat_at-self, threat_at-other}
 use Rattle.early_hazard.proofs.any_threatens.Goals.{then-j-asker+else-threatens, else-j-asker}
 use Rattle.early_hazard.proofs.any_threatens.Goals as goal
 

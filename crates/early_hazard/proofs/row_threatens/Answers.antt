@@ -6,8 +6,9 @@ use lib.ListN.{get_or}
 use Rattle.base.proofs.IndexLaws.{any_below-start}
 use Rattle.early_limits.specs.Limit.{limit_of_word, at_most}
 use Rattle.early_hazard.specs.Store.{conflicts_by}
-use Rattle.early_hazard.proofs.HazardLaws.{at_most-min, any_below-more, threat_by-apart, threat_by-late, threatens_limit-found, threatens_limit-none}
+use Rattle.early_hazard.proofs.HazardLaws.{any_below-more, threat_by-apart, threat_by-late, threatens_limit-found, threatens_limit-none}
 use Rattle.early_hazard.proofs.row_threatens.Goals.{then-conflicts_at+else-is_sooner_limit, else-conflicts_at}
+use Rattle.early_ahead.proofs.LimitLaws.{at_most-min}
 use Rattle.early_hazard.proofs.row_threatens.Goals as goal
 
 pub loop-s-init : goal.loop-s-init

@@ -6,7 +6,8 @@ use Rattle.model_effect.proofs.LengthLaws.{segments-length}
 use Rattle.model_rules.proofs.FaultLaws.{segment_at-read}
 use Rattle.early_limits.specs.Limit.{at_most}
 use Rattle.early_reach.proofs.NoteLaws.{all_notes-none, all_notes-more, all_notes-taken}
-use Rattle.early_reach.proofs.StoreLaws.{cleared-all, reached-rows, reached-all, reach_in-short, reach_in-filled, at_most-min}
+use Rattle.early_reach.proofs.StoreLaws.{cleared-all, reached-rows, reached-all, reach_in-short, reach_in-filled}
+use Rattle.early_ahead.proofs.LimitLaws.{at_most-min}
 use Rattle.early_reach.proofs.fill_reach.Goals as goal
 
 pub returns-then-reach-lt2048-clause-reach : goal.returns-then-reach-lt2048-clause-reach

@@ -4,7 +4,8 @@ use native.Mathlib.Omega.{arith}
 use borrow.Author.Rules.{rules}
 use lib.ListN.{length}
 use Rattle.early_limits.specs.Limit.{at_most}
-use Rattle.early_reach.proofs.StoreLaws.{rows_lowered-none, rows_lowered-more, row_lowered-row, at_most-min}
+use Rattle.early_reach.proofs.StoreLaws.{rows_lowered-none, rows_lowered-more, row_lowered-row}
+use Rattle.early_ahead.proofs.LimitLaws.{at_most-min}
 use Rattle.early_reach.proofs.lower_all.Goals as goal
 
 pub loop-r-init : goal.loop-r-init

@@ -6,8 +6,9 @@ use native.Mathlib.Nat.{zero-add}
 use lib.ListN.{get_or}
 use Rattle.early_limits.specs.Limit.{limit_of_word}
 use Rattle.early_reach.specs.Store.{Places, row_lowered}
-use Rattle.early_reach.proofs.StoreLaws.{row_lowered-none, row_lowered-more, row_lowered-never, lesser-min}
+use Rattle.early_reach.proofs.StoreLaws.{row_lowered-none, row_lowered-more, row_lowered-never}
 use Rattle.early_reach.proofs.lower_row.Goals.{then-leads, else-leads}
+use Rattle.early_ahead.proofs.LimitLaws.{lesser-min}
 use Rattle.early_reach.proofs.lower_row.Goals as goal
 
 pub loop-note-init : goal.loop-note-init

@@ -5,9 +5,9 @@ use native.Mathlib.Omega.{arith}
 use Rattle.std.proofs.lemmas.List.{length-take}
 use Rattle.model_effect.proofs.LengthLaws.{statements-length}
 use Rattle.early_limits.specs.Limit.{at_most}
-use Rattle.early_reach.proofs.StoreLaws.{at_most-min}
 use Rattle.early_reach.proofs.NoteLaws.{notes_of-none, notes_of-event, notes_of-other, notes_of-body, event_of-event, event_of-other, statement-read}
 use Rattle.early_reach.proofs.note_segment.Goals.{in-Notify+then-e-lt32, in-Notify+else-e-lt32, in_default}
+use Rattle.early_ahead.proofs.LimitLaws.{at_most-min}
 use Rattle.early_reach.proofs.note_segment.Goals as goal
 
 pub loop-x-init : goal.loop-x-init

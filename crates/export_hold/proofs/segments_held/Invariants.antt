@@ -1,5 +1,4 @@
 -- `export_hold::segments_held` meets its contract. The invariant: the first i segments stand in their places.
-use Prim.Native.Nat.{◌≤◌, ◌-◌}
 use mathlib.Core.Path.{◌≡◌}
 use Rattle.model.specs.Values.{no_segment}
 use Rattle.export_model.specs.Judged.{segment_held}
@@ -7,7 +6,4 @@ use Rattle.export_hold.proofs.FillLaws.{filled_to}
 use Rattle.export_hold.proofs.segments_held.Given as goal
 
 abbrev pub invariant-loop-i : goal.invariant-loop-i
-invariant-loop-i l = (l.i ≤ l.n) × (l.segments ≡ filled_to 64 no_segment (segment_held l.xs) l.i)
-
-abbrev pub decreases-loop-i : goal.decreases-loop-i
-decreases-loop-i l = l.n - l.i
+invariant-loop-i l = l.segments ≡ filled_to 64 no_segment (segment_held l.xs) l.i

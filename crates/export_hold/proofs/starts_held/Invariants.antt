@@ -1,12 +1,8 @@
 -- `export_hold::starts_held` meets its contract. The invariant: the first k threads stand in their places.
-use Prim.Native.Nat.{◌≤◌, ◌-◌}
 use mathlib.Core.Path.{◌≡◌}
 use Rattle.model.specs.Values.{no_start}
 use Rattle.export_hold.proofs.FillLaws.{filled_to, start_held}
 use Rattle.export_hold.proofs.starts_held.Given as goal
 
 abbrev pub invariant-loop-k : goal.invariant-loop-k
-invariant-loop-k l = (l.k ≤ l.t) × (l.starts ≡ filled_to 32 no_start (start_held l.xs l.n) l.k)
-
-abbrev pub decreases-loop-k : goal.decreases-loop-k
-decreases-loop-k l = l.t - l.k
+invariant-loop-k l = l.starts ≡ filled_to 32 no_start (start_held l.xs l.n) l.k

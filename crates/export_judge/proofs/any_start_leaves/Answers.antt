@@ -1,23 +1,19 @@
--- `export_judge::any_start_leaves` meets its contract. The invariant: none of the first k threads starts outside the model.
+-- `export_judge::any_start_leaves` meets its contract: a thread whose first segment is not below N, below t.
+use mathlib.Core.Path.{refl, ◌∙◌}
+use mathlib.Core.Bool.{not}
+use lib.Dec.{ltb}
 use native.Mathlib.Omega.{arith}
-use borrow.Author.Count.{below_none, below_more}
-use Rattle.export_judge.proofs.JudgedLaws.{start_leaves-above, start_leaves-below, any_start-here, any_start-none}
+use borrow.Author.Rules.{rules}
+use borrow.Author.Tests.{tests}
+use Rattle.std.proofs.lemmas.Iterator.{YieldsList-from_range}
+use Rattle.std.proofs.lemmas.Iterator.Search.{any_from_yields_List}
+use Rattle.export_model.specs.Numbers.{number_at, count_n, start_place}
+use Rattle.export_judge.proofs.JudgedLaws.{list_any-below}
 use Rattle.export_judge.proofs.any_start_leaves.Goals as goal
 
-pub loop-k-init : goal.loop-k-init
-loop-k-init c = (omega arith, below_none _)
-
-pub returns-then-xs-n : goal.returns-then-xs-n
-returns-then-xs-n c =
-    let l = c in
-    let a = l.args in
-    any_start-here a.xs.now a.n _ l.loop-k.k (omega arith) (start_leaves-above a.xs.now a.n l.loop-k.k c.if-xs-n.true)
-
-pub loop-k-preserved : goal.loop-k-preserved
-loop-k-preserved c =
-    let l = c in
-    let a = l.args in
-    (omega arith, below_more _ _ l.loop-k.invariant.1 (start_leaves-below a.xs.now a.n l.loop-k.k c.if-xs-n.false))
-
 pub returns : goal.returns
-returns c = let a = c.args in any_start-none a.xs.now a.n _ (λ k l. c.loop-k.invariant.1 k (omega arith))
+returns c =
+    let a = c.args in
+    any_from_yields_List (λ k. not (ltb (number_at a.xs.now (start_place a.n k)) (count_n a.xs.now))) _ _ _ c.any.ensures.ran
+    (YieldsList-from_range 0 a.t a.t refl (omega arith)) (λ x b q k. search (rules, tests))
+    ∙ list_any-below _ a.t

@@ -1,9 +1,12 @@
 -- `export_judge::leaves_model` meets its contract, by the kind.
-use Rattle.export_model.specs.Numbers.{number_at, next_held}
-use Rattle.export_judge.proofs.JudgedLaws.{leaves_model-kind}
+use native.Mathlib.Omega.{arith}
+use Rattle.model.specs.Rules.{leaves_model}
 use Rattle.export_judge.proofs.leaves_model.Goals as goal
 
-pub returns : goal.returns
-returns c =
-    let a = c.args in
-    leaves_model-kind (number_at a.xs.now 3) (number_at a.xs.now a.p) _ _ (next_held a.xs.now a.p)
+pub returns-after-xs-p : goal.returns-after-xs-p
+unfolding leaves_model
+returns-after-xs-p c = grind arith
+
+pub returns-else-matches : goal.returns-else-matches
+unfolding leaves_model
+returns-else-matches c = grind arith

@@ -1,19 +1,18 @@
--- `export_judge::rest_is_zero` meets its contract. The invariant: the numbers passed are 0.
-use native.Mathlib.Omega.{arith}
-use borrow.Author.Count.{below_none, below_more}
-use Rattle.export_judge.proofs.JudgedLaws.{rest-zero, rest-stray}
+-- `export_judge::rest_is_zero` meets its contract: the six numbers after the kind.
+use Prim.Native.Nat.{◌+◌}
+use mathlib.Core.Path.{◌≡◌}
+use lib.Dec.{eqb}
+use borrow.Author.Rules.{rules}
+use borrow.Author.Tests.{tests}
+use Rattle.std.proofs.lemmas.Iterator.{YieldsList-from_slice}
+use Rattle.std.proofs.lemmas.Iterator.Search.{all_from_yields_List}
+use Rattle.std.specs.List.{list_all, slice_range}
+use Rattle.export_judge.proofs.JudgedLaws.{rest-zero}
 use Rattle.export_judge.proofs.rest_is_zero.Goals as goal
 
-pub loop-i-init : goal.loop-i-init
-loop-i-init c = (omega arith, below_none _)
-
-pub returns-then-xs-p-ne0 : goal.returns-then-xs-p-ne0
-returns-then-xs-p-ne0 c =
-    let a = c.args in
-    rest-stray a.xs.now a.p _ c.loop-i-test.true c.if-xs-p-ne0.true
-
-pub loop-i-preserved : goal.loop-i-preserved
-loop-i-preserved c = (omega arith, below_more _ _ c.loop-i.invariant.1 c.if-xs-p-ne0.false)
-
 pub returns : goal.returns
-returns c = let a = c.args in rest-zero a.xs.now a.p (λ k l. c.loop-i.invariant.1 k (omega arith))
+returns c =
+    let a = c.args in
+    let e : c.all.result ≡ list_all (λ x. eqb x 0) (slice_range a.xs.now (a.p + 1) (a.p + 7)) =
+    all_from_yields_List _ _ _ c.all.result c.all.ensures.ran (YieldsList-from_slice _ c.iter.ensures.rest) (λ x b q k. search (rules, tests)) in
+    rest-zero a.xs.now a.p _ c.requires e

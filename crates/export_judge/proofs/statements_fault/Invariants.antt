@@ -1,5 +1,4 @@
 -- `export_judge::statements_fault` meets its contract. The invariant: the first j statements have no fault.
-use Prim.Native.Nat.{◌≤◌, ◌-◌}
 use mathlib.Core.Path.{◌≡◌}
 use Rattle.base.specs.Index.{first_below}
 use Rattle.export_model.specs.Numbers.{statement_place}
@@ -7,7 +6,4 @@ use Rattle.export_model.specs.Judged.{op_numbers_fault}
 use Rattle.export_judge.proofs.statements_fault.Given as goal
 
 abbrev pub invariant-loop-j : goal.invariant-loop-j
-invariant-loop-j l = (l.j ≤ l.n) × (first_below l.j (λ k. op_numbers_fault l.xs (statement_place l.i k)) ≡ 0)
-
-abbrev pub decreases-loop-j : goal.decreases-loop-j
-decreases-loop-j l = l.n - l.j
+invariant-loop-j l = first_below l.j (λ k. op_numbers_fault l.xs (statement_place l.i k)) ≡ 0

@@ -17,53 +17,38 @@ fit e = sym e.model_fault.ensures ∙ e.if-model_fault-ne0.false
 
 pub returns-then-model_fault-ne0 : goal.returns-then-model_fault-ne0
 returns-then-model_fault-ne0 c =
-    let s = c in
-    writes-none s.args.m s.args.xs.now (λ z. c.if-model_fault-ne0.true (c.model_fault.ensures ∙ z))
+    writes-none c.args.m c.args.xs.now (λ z. c.if-model_fault-ne0.true (c.model_fault.ensures ∙ z))
 
 pub returns-then-xs-size : goal.returns-then-xs-size
 returns-then-xs-size c =
-    let e = c in
-    let s = e in
-    let n = c.wide.ensures.0 in
-    let t = c.wide-2.ensures.0 in
-    writes-few s.args.m (fit (goal.at.returns-then-xs-size c).Else-model_fault-ne0) s.args.xs.now _ (omega (arith, n, t)) c.if-xs-size.true
+    let n = c.from.ensures in
+    let t = c.from-2.ensures in
+    writes-few c.args.m (fit (goal.at.returns-then-xs-size c).Else-model_fault-ne0) c.args.xs.now _ (omega (arith, n, t)) c.if-xs-size.true
 
 pub put_head-requires : goal.put_head-requires
 put_head-requires c =
-    let e = c in
-    let m = e.args.m in
+    let m = c.args.m in
     (omega (arith, (model_fault-horizon m (fit (goal.at.put_head-requires c).Else-model_fault-ne0)).1), omega (arith, c.if-xs-size.false))
 
 pub put_segments-requires : goal.put_segments-requires
 put_segments-requires c =
-    let a = c in
-    let e = a in
-    let s = e in
-    let m = s.args.m in
-    let h = stored-length s.args.xs.now _ (m.horizon.0 ∷ m.v ∷ m.e ∷ m.n ∷ m.t ∷ []) 0
+    let m = c.args.m in
+    let h = stored-length c.args.xs.now _ (m.horizon.0 ∷ m.v ∷ m.e ∷ m.n ∷ m.t ∷ []) 0
     c.put_head.ensures in
-    (fit (goal.at.put_segments-requires c).Else-model_fault-ne0, (model_fault-counts m (fit (goal.at.put_segments-requires c).Else-model_fault-ne0)).segments, omega (arith, h, a.if-xs-size.false, a.wide.ensures.0))
+    (fit (goal.at.put_segments-requires c).Else-model_fault-ne0, (model_fault-counts m (fit (goal.at.put_segments-requires c).Else-model_fault-ne0)).segments, omega (arith, h, c.if-xs-size.false, c.from.ensures))
 
 pub put_starts-requires : goal.put_starts-requires
 put_starts-requires c =
-    let b = c in
-    let a = b in
-    let e = a in
-    let s = e in
-    let m = s.args.m in
-    let h = stored-length s.args.xs.now _ (m.horizon.0 ∷ m.v ∷ m.e ∷ m.n ∷ m.t ∷ []) 0 b.put_head.ensures in
+    let m = c.args.m in
+    let h = stored-length c.args.xs.now _ (m.horizon.0 ∷ m.v ∷ m.e ∷ m.n ∷ m.t ∷ []) 0 c.put_head.ensures in
     let g = stored-length _ _ (joined m.n 0 (λ i. segment_numbers (segment_at m i))) 5
     c.put_segments.ensures in
     let k = model_fault-counts m (fit (goal.at.put_starts-requires c).Else-model_fault-ne0) in
-    (k.segments, k.threads, omega (arith, h, g, a.if-xs-size.false, a.wide.ensures.0, a.wide-2.ensures.0))
+    (k.segments, k.threads, omega (arith, h, g, c.if-xs-size.false, c.from.ensures, c.from-2.ensures))
 
 pub returns : goal.returns
 returns c =
-    let b = c in
-    let a = b in
-    let e = a in
-    let s = e in
-    let n = a.wide.ensures.0 in
-    let t = a.wide-2.ensures.0 in
-    writes-model s.args.m (fit (goal.at.returns c).Else-model_fault-ne0) s.args.xs.now _ _ _ _ (omega (arith, n, t)) a.if-xs-size.false
-    b.put_head.ensures b.put_segments.ensures c.put_starts.ensures
+    let n = c.from.ensures in
+    let t = c.from-2.ensures in
+    writes-model c.args.m (fit (goal.at.returns c).Else-model_fault-ne0) c.args.xs.now _ _ _ _ (omega (arith, n, t)) c.if-xs-size.false
+    c.put_head.ensures c.put_segments.ensures c.put_starts.ensures

@@ -3,8 +3,8 @@ use native.Mathlib.Omega.{arith}
 use Rattle.masks.proofs.MaskLaws.{with_bit-past, with_bit-below}
 use Rattle.masks.proofs.with.Goals as goal
 
-pub returns-then-i-ge64 : goal.returns-then-i-ge64
-returns-then-i-ge64 c = with_bit-past _ _ (omega arith)
+pub returns-then-i-lt64 : goal.returns-then-i-lt64
+returns-then-i-lt64 c = with_bit-below _ _ (omega arith)
 
-pub returns : goal.returns
-returns c = with_bit-below _ _ (omega arith)
+pub returns-else-i-lt64 : goal.returns-else-i-lt64
+returns-else-i-lt64 c = with_bit-past _ _ (omega arith)

@@ -1,13 +1,7 @@
--- `model_effect::mapped_long` meets its contract: itself below the ports and above them, else its port.
+-- `model_effect::mapped_long` meets its contract: what a byte can't hold is no port.
 use Rattle.std.proofs.Common.{sym, arith}
-use Rattle.model_effect.proofs.PortLaws.{mapped-below, mapped-above, mapped-port}
+use Rattle.model_effect.proofs.PortLaws.{mapped-above}
 use Rattle.model_effect.proofs.mapped_long.Goals as goal
 
-pub returns-then-x-lt128 : goal.returns-then-x-lt128
-returns-then-x-lt128 c = sym (mapped-below _ _ (omega arith))
-
-pub returns-then-x-gt135 : goal.returns-then-x-gt135
-returns-then-x-gt135 c = sym (mapped-above _ _ (omega arith))
-
-pub returns : goal.returns
-returns c = sym (mapped-port _ _ (omega arith) (omega arith))
+pub returns-in-Err : goal.returns-in-Err
+returns-in-Err c = sym (mapped-above _ _ (omega (arith, c.in-Err.ensures)))

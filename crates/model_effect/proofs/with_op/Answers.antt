@@ -7,4 +7,4 @@ pub returns-in_default : goal.returns-in_default
 returns-in_default c = with_op-other _ c.args.op c.in_default.not-Notify
 
 pub returns : goal.returns
-returns c = rw c.in-Notify.is refl
+returns c = rw (c.in-Notify.is, c.from.ensures) refl

@@ -11,5 +11,5 @@ returns-in-End c = rw c.in-End.is c.with-own.ensures
 pub returns-in-Time : goal.returns-in-Time
 unfolding first_row
 returns-in-Time c =
-    rw (c.with-in-Time.ensures, c.with.ensures, c.with-own.ensures)
+    rw (c.with-in-Time.ensures, c.with.ensures, c.with-own.ensures, c.from.ensures, c.from-in-Time.ensures)
     (⊎_elim (λ w. rw w.1 refl) (λ w. rw w.1 refl) c.in-Time.is)

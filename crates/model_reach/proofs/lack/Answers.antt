@@ -5,4 +5,4 @@ use Rattle.model_reach.proofs.lack.Goals as goal
 
 pub returns : goal.returns
 unfolding lack_of
-returns c = c.meeting-2.ensures ∙ rw (c.meeting.ensures, c.unused_ports.ensures) refl
+returns c = c.meeting-2.ensures ∙ rw (c.meeting.ensures, c.unused_ports.ensures, c.requires) refl

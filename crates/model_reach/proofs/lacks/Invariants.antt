@@ -1,12 +1,8 @@
 -- `model_reach::lacks` meets its contract. The invariant: the first s segments have their names and their first rows.
-use Prim.Native.Nat.{◌≤◌, ◌-◌}
 use mathlib.Core.Path.{◌≡◌}
 use lib.ListN.{replicate}
 use Rattle.model_reach.specs.Store.{ports_to, first_rows}
 use Rattle.model_reach.proofs.lacks.Given as goal
 
 abbrev pub invariant-loop-s : goal.invariant-loop-s
-invariant-loop-s l = (l.s ≤ l.n) × (l.names ≡ ports_to l.m l.s) × (l.rows ≡ first_rows l.m (replicate 64 0) l.s)
-
-abbrev pub decreases-loop-s : goal.decreases-loop-s
-decreases-loop-s l = l.n - l.s
+invariant-loop-s l = (l.names ≡ ports_to l.fn.m l.s) × (l.rows ≡ first_rows l.fn.m (replicate 64 0) l.s)

@@ -2,7 +2,8 @@
 use Prim.Native.Nat.{ℕ}
 use mathlib.Core.Path.{sym, ap, ◌∙◌}
 use mathlib.Core.List.{List}
-use Rattle.model_reach.specs.Store.{lacks_to}
+use lib.ListN.{length}
+use Rattle.model_reach.specs.Store.{lacks_to, rounds_to}
 use Rattle.model_reach.proofs.StoreLaws.{lacks_by-none, lacks_by-some}
 use Rattle.model_reach.proofs.lacks_by.Goals as goal
 
@@ -12,5 +13,5 @@ returns-then-meeting-eq0 c = lacks_by-none _ _ _ _ (sym c.meeting.ensures ∙ c.
 pub returns : goal.returns
 returns c =
     let a = c.args in
-    (c.lacks_to.ensures ∙ ap (λ (ws : List ℕ). lacks_to a.starts a.names ws a.n 32) c.all_rounds.ensures)
-    ∙ lacks_by-some a.starts a.names a.first a.n (λ z. c.if-meeting-eq0.false (c.meeting.ensures ∙ z))
+    (c.lacks_to.ensures ∙ ap (λ (ws : List ℕ). lacks_to a.starts.now a.names.now ws (length a.names.now) 32) (c.all_rounds.ensures ∙ ap (λ (n : ℕ). rounds_to a.rows.now n n) (sym c.requires)))
+    ∙ lacks_by-some a.starts.now a.names.now a.rows.now (length a.names.now) (λ z. c.if-meeting-eq0.false (c.meeting.ensures ∙ z))

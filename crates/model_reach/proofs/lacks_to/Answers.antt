@@ -11,18 +11,15 @@ use Rattle.model_reach.proofs.lacks_to.Goals as goal
 
 pub loop-k-init : goal.loop-k-init
 unfolding lacks_to
-loop-k-init c = (omega arith, store_to-none _ _ _)
+loop-k-init c = store_to-none _ _ _
 
 pub loop-k-preserved : goal.loop-k-preserved
 unfolding lacks_to
 loop-k-preserved c =
     let x = c.args in
     let l = c.loop-k in
-    let size : length x.starts ≡ 32 = c.well_formed.0.1.0.1 in (
-      omega arith,
-      store_to-more _ 0 _ l.k l.k _ _ l.invariant.1 (omega arith)
-          (c.lack.ensures ∙ ap (λ (s : Start). lack_of x.names x.rows x.n s.ports) (get_d_any x.starts l.k _ no_start (omega arith))),
-    )
+    store_to-more _ 0 _ l.k l.k _ _ l.invariant (omega arith)
+    (c.lack.ensures ∙ ap (λ (s : Start). lack_of x.names.now x.rows.now (length x.names.now) s.ports) (get_d_any x.starts.now l.k _ no_start (omega (arith, c.told-starts))))
 
 pub returns : goal.returns
-returns c = let e : c.loop-k.k ≡ 32 = omega arith in rw e at c.loop-k.invariant.1
+returns c = let e : c.loop-k.k ≡ 32 = omega arith in rw e at c.loop-k.invariant

@@ -6,5 +6,5 @@ use Rattle.model_reach.proofs.port_bit.Goals as goal
 pub returns-then-x-lt128 : goal.returns-then-x-lt128
 returns-then-x-lt128 c = port_bit-none _ (omega arith)
 
-pub returns : goal.returns
-returns c = port_bit-some _ _ (omega arith) c.with.ensures
+pub returns-else-x-lt128 : goal.returns-else-x-lt128
+returns-else-x-lt128 c = port_bit-some _ _ (omega arith) c.with.ensures

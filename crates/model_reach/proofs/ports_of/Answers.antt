@@ -1,22 +1,18 @@
 -- `model_reach::ports_of` meets its contract: the statements, one after the other, and the test variable.
-use native.Mathlib.Omega.{arith}
-use Rattle.model_reach.proofs.ReadLaws.{statements-length}
+use mathlib.Core.Path.{refl}
+use mathlib.Core.List.{[]}
 use Rattle.model_reach.proofs.StoreLaws.{ports_in-none, ports_in-more, ports_of-made}
 use Rattle.model_reach.proofs.ports_of.Goals as goal
 
-pub loop-j-init : goal.loop-j-init
-loop-j-init c = (omega arith, c.places-n.ensures, ports_in-none c.args.g.statements)
+pub loop-x-init : goal.loop-x-init
+loop-x-init c = ports_in-none []
 
-pub loop-j-preserved : goal.loop-j-preserved
-loop-j-preserved c =
-    let g = c.args.g in
-    let l = c.loop-j in
-    let size = statements-length g _ c.well_formed.0 in
-    (omega arith, l.invariant.1, ports_in-more g.statements l.j _ _ _ (omega arith) l.invariant.2 c.op_ports-w.ensures)
+pub loop-x-preserved : goal.loop-x-preserved
+loop-x-preserved c =
+    let l = c.loop-x in
+    ports_in-more _ l.x-index _ _ _ c.loop-x-test.true l.invariant c.op_ports-w.ensures
 
 pub returns : goal.returns
 returns c =
-    let g = c.args.g in
-    let l = c.loop-j in
-    let size = statements-length g _ c.well_formed.0 in
-    ports_of-made g l.j _ _ size (omega (arith, l.invariant.1)) l.invariant.2 c.test_port.ensures
+    let l = c.loop-x in
+    ports_of-made c.args.g.now l.x-index _ _ _ (rw (c.min.ensures, c.from.ensures) refl) c.loop-x-test.false l.invariant c.test_port.ensures

@@ -11,4 +11,4 @@ returns-in-End c = search rules
 
 pub returns-in-Time : goal.returns-in-Time
 unfolding test_port
-returns-in-Time c = c.port_bit.ensures ∙ ⊎_elim (λ w. rw w.1 refl) (λ w. rw w.1 refl) c.in-Time.is
+returns-in-Time c = (rw c.from.ensures at c.port_bit.ensures) ∙ ⊎_elim (λ w. rw w.1 refl) (λ w. rw w.1 refl) c.in-Time.is

@@ -8,14 +8,14 @@ use Rattle.model_reach.specs.Store.{unused_of}
 use Rattle.model_reach.proofs.unused_ports.Goals as goal
 
 pub loop-p-init : goal.loop-p-init
-loop-p-init c = (omega arith, mask_of-start _)
+loop-p-init c = mask_of-start _
 
 pub loop-p-preserved : goal.loop-p-preserved
 loop-p-preserved c =
-    let x = c.args.x in
+    let ps = c.args.ports.now in
     let l = c.loop-p in
-    (omega arith, mask_of-more (λ q. eqb (port_of x.ports q) unused) l.p _ _ _ l.invariant.1 refl c.with_if-out.ensures)
+    mask_of-more (λ q. eqb (port_of ps q) unused) l.p _ _ _ l.invariant refl c.with_if-out.ensures
 
 pub returns : goal.returns
 unfolding unused_of
-returns c = let e : c.loop-p.p ≡ 8 = omega arith in rw e at c.loop-p.invariant.1
+returns c = let e : c.loop-p.p ≡ 8 = omega arith in rw e at c.loop-p.invariant

@@ -1,7 +1,8 @@
 -- `model_rules::head_fault` meets its contract.
+use native.Mathlib.Omega.{arith}
 use Rattle.model.specs.Rules.{head_fault}
 use Rattle.model_rules.proofs.head_fault.Goals as goal
 
 pub returns : goal.returns
 unfolding head_fault
-returns c = c.unless.ensures
+returns c = grind arith

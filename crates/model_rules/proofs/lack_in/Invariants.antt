@@ -1,5 +1,5 @@
--- `model_rules::lack_in` meets its contract. The invariant: none of the first k threads lacks a port.
-use Prim.Native.Nat.{ℕ, ◌≤◌, ◌<◌, ◌-◌}
+-- The invariant: none of the first k threads lacks a port.
+use Prim.Native.Nat.{ℕ, ◌<◌}
 use mathlib.Core.Bool.{false}
 use mathlib.Core.List.{List}
 use mathlib.Core.Path.{◌≡◌}
@@ -14,7 +14,4 @@ abbrev pub Held : List Start → ℕ → List ℕ → (Model → Type 0) → Typ
 Held starts t ws A = (m : Model) → m.starts ≡ starts → m.t ≡ t → Linked m ws → A m
 
 abbrev pub invariant-loop-k : goal.invariant-loop-k
-invariant-loop-k l = (l.k ≤ l.count) × ((l.k ≤ 32) × Held l.starts l.t l.lacking (λ m. (i : ℕ) → i < l.k → start_lacks m i ≡ false))
-
-abbrev pub decreases-loop-k : goal.decreases-loop-k
-decreases-loop-k l = l.count - l.k
+invariant-loop-k l = Held l.starts l.t l.lacking (λ m. (i : ℕ) → i < l.k → start_lacks m i ≡ false)

@@ -1,19 +1,17 @@
--- `model_rules::ports_fault` meets its contract. The invariant: the ports before p keep the rule.
+-- `model_rules::ports_fault` meets its contract.
+use mathlib.Core.Logic.{⊎_elim}
 use native.Mathlib.Omega.{arith}
-use borrow.Author.Count.{below_none, below_more}
-use Rattle.model_rules.proofs.FaultLaws.{port_wrong-is, ports_fault-here, ports_fault-none}
-use mathlib.Core.Path.{ap}
-use mathlib.Core.Bool.{not}
+use borrow.Author.Count.{below_more}
+use Rattle.model_rules.proofs.FaultLaws.{port_wrong-at, port_wrong-unused, port_wrong-below, ports_fault-here, ports_fault-none}
 use Rattle.model_rules.proofs.ports_fault.Goals as goal
 
-pub loop-p-init : goal.loop-p-init
-loop-p-init c = (omega arith, below_none _)
+pub returns-then-v-x : goal.returns-then-v-x
+returns-then-v-x c = ports_fault-here _ _ c.loop-x.x-index c.loop-x-test.true (port_wrong-at _ _ c.loop-x.x-index c.if-x.true c.if-v-x.true)
 
-pub returns-then-not-x-v : goal.returns-then-not-x-v
-returns-then-not-x-v c = ports_fault-here _ _ c.loop-p.p (omega arith) (port_wrong-is _ _ _ _ (ap not c.if-not-x-v.true))
-
-pub loop-p-preserved : goal.loop-p-preserved
-loop-p-preserved c = (omega arith, below_more _ _ c.loop-p.invariant.1 (port_wrong-is _ _ _ _ (ap not c.if-not-x-v.false)))
+pub loop-x-preserved : goal.loop-x-preserved
+loop-x-preserved c =
+    below_more _ _ c.loop-x.invariant
+    (⊎_elim (λ w. port_wrong-below _ _ c.loop-x.x-index w.1) (λ w. port_wrong-unused _ _ c.loop-x.x-index w) c.else-x.either)
 
 pub returns : goal.returns
-returns c = ports_fault-none _ _ c.loop-p.p (omega arith) c.loop-p.invariant.1
+returns c = ports_fault-none _ _ c.loop-x.x-index (omega arith) c.loop-x.invariant

@@ -1,65 +1,42 @@
--- `model_rules::starts_fault` meets its contract. The invariant: none of the first k threads has a fault.
-use Prim.Native.Nat.{ℕ, ◌<◌}
-use mathlib.Core.List.{List}
+-- `model_rules::starts_fault` meets its contract: thread by thread, then the count.
 use mathlib.Core.Path.{◌≡◌, sym, ap, ◌∙◌}
-use native.Mathlib.Omega.{arith}
 use native.Mathlib.Numerals.{add-one}
-use lib.ListN.{length, get_or}
+use native.Mathlib.Omega.{arith}
+use lib.ListN.{length}
+use Rattle.std.proofs.lemmas.Result.{err_from_is_err_and}
+use Rattle.refusal.proofs.NumberLaws.{number_of-not_0}
 use Rattle.base.proofs.IndexLaws.{first_below-none, first_below-more}
-use Rattle.model.specs.declared.Model.{Model}
 use Rattle.model.specs.declared.Start.{Start}
-use Rattle.model.specs.Rules.{ports_fault}
-use Rattle.model_rules.proofs.FaultLaws.{start_fault, start_fault-read, starts_fault-here, starts_fault-end, both_below, not-both-below}
-use Rattle.model_rules.proofs.starts_fault.Goals.{In-loop-k}
+use Rattle.model.specs.Values.{ports_at}
+use Rattle.model.specs.Rules.{ports_fault, starts_fault}
+use Rattle.model_rules.proofs.FaultLaws.{start_at-taken, placed_fault-here, placed_fault-end}
 use Rattle.model_rules.proofs.starts_fault.Goals as goal
 
--- a turn: a thread, and a place
-within : (c : In-loop-k) → (c.loop-k.k < c.args.t) × (c.loop-k.k < 32)
-within c = both_below _ _ 32 c.loop-k-test.true
+pub loop-x-init : goal.loop-x-init
+loop-x-init c = first_below-none _
 
--- the fault of thread k, for a model with these starts
-asked : (m : Model) (starts : List Start) (v k x : ℕ) (d : Start) → m.starts ≡ starts → m.v ≡ v → length starts ≡ 32 → k < 32 → x ≡ ports_fault v (get_or starts k d).ports → x ≡ start_fault m k
-asked m starts v k x d e g size l f = start_fault-read m k d x l (ap length e ∙ size) (rw (e, g) f)
+pub returns-in_err-ports_fault : goal.returns-in_err-ports_fault
+unfolding starts_fault ports_at
+returns-in_err-ports_fault c =
+    let p = err_from_is_err_and c.from_residual.result c.from_residual.ensures.1 in
+    rw (p.1, p.2)
+    (let m = c.args.m.now in
+    let k = c.loop-x.x-index in
+    placed_fault-here m.t 32 (λ k. ports_fault m.v (ports_at m k)) k _ (omega arith) (omega arith) c.loop-x.invariant
+    (c.in_err-ports_fault.ensures ∙ ap (λ (x : Start). ports_fault m.v x.ports) (start_at-taken m _ k _ c.loop-x-test.true))
+    (number_of-not_0 c.in_err-ports_fault.field-0.0))
 
-pub loop-k-init : goal.loop-k-init
-loop-k-init c = (omega arith, (omega arith, λ m e f g. first_below-none _))
-
-pub offset_bounds-starts-k : goal.offset_bounds-starts-k
-offset_bounds-starts-k c = let l = within c in omega (arith, l.0, l.1)
-
-pub bounds-starts-k : goal.bounds-starts-k
-bounds-starts-k c = let l = within c in omega (arith, l.0, l.1)
-
-pub returns-then-fault-ne0 : goal.returns-then-fault-ne0
-returns-then-fault-ne0 c m e f g =
-    let start = c in
-    let here = c.loop-k in
-    let l = within (goal.at.returns-then-fault-ne0 c).In-loop-k in
-    starts_fault-here m here.k _ (omega (arith, l.0, f)) (here.invariant.1.1 m e f g)
-    (asked m start.args.starts start.args.v here.k _ _ e g start.well_formed.0.1.0.1 l.1 c.ports_fault-fault.ensures) c.if-fault-ne0.true
-
-pub overflow_add-k : goal.overflow_add-k
-overflow_add-k c = let l = within (goal.at.overflow_add-k c).In-loop-k in omega (arith, l.0, l.1)
-
-pub loop-k-smaller : goal.loop-k-smaller
-loop-k-smaller c = let l = within (goal.at.loop-k-smaller c).In-loop-k in omega (arith, l.0, l.1)
-
-pub loop-k-preserved : goal.loop-k-preserved
-loop-k-preserved c =
-    let start = c in
-    let here = c.loop-k in
-    let l = within (goal.at.loop-k-preserved c).In-loop-k in (
-      omega (arith, l.0, l.1),
-      (
-        omega (arith, l.0, l.1),
-        λ m e f g.
-            rw add-one
-            (first_below-more here.k (start_fault m) (here.invariant.1.1 m e f g)
-            ∙ (sym (asked m start.args.starts start.args.v here.k _ _ e g start.well_formed.0.1.0.1 l.1 c.ports_fault-fault.ensures) ∙ c.if-fault-ne0.false)),
-      ),
-    )
+pub loop-x-preserved : goal.loop-x-preserved
+unfolding ports_at
+loop-x-preserved c =
+    let m = c.args.m.now in
+    rw add-one
+    (first_below-more _ _ c.loop-x.invariant
+    ∙ (sym (ap (λ (x : Start). ports_fault m.v x.ports) (start_at-taken m _ c.loop-x.x-index _ c.loop-x-test.true)) ∙ sym c.in_ok-ports_fault.ensures))
 
 pub returns : goal.returns
-returns c m e f g =
-    let here = c.loop-k in
-    c.unless.ensures ∙ rw (← f) (starts_fault-end m here.k (omega (arith, here.invariant.0, f)) (λ i. not-both-below _ _ _ c.loop-k-test.false (omega (arith, i, f))) here.invariant.1.0 (here.invariant.1.1 m e f g))
+unfolding starts_fault
+returns c =
+    let m = c.args.m.now in
+    let s : length m.starts ≡ 32 = omega arith in
+    c.unless.ensures ∙ placed_fault-end m.t 32 (λ k. ports_fault m.v (ports_at m k)) c.loop-x.x-index (omega arith) c.loop-x.invariant

@@ -1,26 +1,25 @@
--- `model_rules::statements_fault` meets its contract. The invariant: the first j statements have no fault.
+-- `model_rules::statements_fault` meets its contract.
 use mathlib.Core.Path.{sym, ◌∙◌}
 use native.Mathlib.Numerals.{add-one}
 use native.Mathlib.Omega.{arith}
+use Rattle.std.proofs.lemmas.Result.{err_from_is_err_and}
+use Rattle.refusal.proofs.NumberLaws.{number_of-not_0}
 use Rattle.base.proofs.IndexLaws.{first_below-none, first_below-more}
-use Rattle.model_rules.proofs.FaultLaws.{statement_fault, statements_fault-here, statements_fault-none}
+use Rattle.model_rules.proofs.FaultLaws.{statement_fault-taken, statements_fault-here, statements_fault-none}
 use Rattle.model_rules.proofs.statements_fault.Goals as goal
 
-pub loop-j-init : goal.loop-j-init
-loop-j-init c = (omega arith, first_below-none _)
+pub loop-x-init : goal.loop-x-init
+loop-x-init c = first_below-none _
 
-pub returns-then-fault-ne0 : goal.returns-then-fault-ne0
-unfolding statement_fault
-returns-then-fault-ne0 c = statements_fault-here _ _ _ c.loop-j.j _ (omega arith) c.loop-j.invariant.1
-    c.op_fault-fault.ensures c.if-fault-ne0.true
+pub returns-in_err-op_fault : goal.returns-in_err-op_fault
+returns-in_err-op_fault c =
+    let p = err_from_is_err_and c.from_residual.result c.from_residual.ensures.1 in
+    rw (p.1, p.2)
+    (statements_fault-here _ _ _ c.loop-x.x-index _ (omega arith) c.loop-x.invariant (statement_fault-taken _ _ _ _ c.loop-x.x-index _ _ c.loop-x-test.true c.in_err-op_fault.ensures) (number_of-not_0 c.in_err-op_fault.field-0.0))
 
-pub loop-j-preserved : goal.loop-j-preserved
-unfolding statement_fault
-loop-j-preserved c = (
-  omega arith,
-  rw add-one
-      (first_below-more _ _ c.loop-j.invariant.1 ∙ (sym c.op_fault-fault.ensures ∙ c.if-fault-ne0.false)),
-)
+pub loop-x-preserved : goal.loop-x-preserved
+loop-x-preserved c = rw add-one
+    (first_below-more _ _ c.loop-x.invariant ∙ sym (statement_fault-taken _ _ _ _ c.loop-x.x-index 0 _ c.loop-x-test.true c.in_ok-op_fault.ensures))
 
 pub returns : goal.returns
-returns c = statements_fault-none _ _ _ c.loop-j.j (omega arith) c.loop-j.invariant.1
+returns c = statements_fault-none _ _ _ c.loop-x.x-index (omega arith) c.loop-x.invariant

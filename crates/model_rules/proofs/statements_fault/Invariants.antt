@@ -1,12 +1,8 @@
--- `model_rules::statements_fault` meets its contract. The invariant: the first j statements have no fault.
-use Prim.Native.Nat.{◌≤◌, ◌-◌}
+-- The invariant: the statements so far have no fault.
 use mathlib.Core.Path.{◌≡◌}
 use Rattle.base.specs.Index.{first_below}
 use Rattle.model_rules.proofs.FaultLaws.{statement_fault}
 use Rattle.model_rules.proofs.statements_fault.Given as goal
 
-abbrev pub invariant-loop-j : goal.invariant-loop-j
-invariant-loop-j l = (l.j ≤ l.n) × (first_below l.j (statement_fault l.v l.e l.g) ≡ 0)
-
-abbrev pub decreases-loop-j : goal.decreases-loop-j
-decreases-loop-j l = l.n - l.j
+abbrev pub invariant-loop-x : goal.invariant-loop-x
+invariant-loop-x l = first_below l.x-index (statement_fault l.v l.e l.g) ≡ 0

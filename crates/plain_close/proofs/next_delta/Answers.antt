@@ -5,5 +5,5 @@ use Rattle.plain_close.proofs.next_delta.Goals as goal
 pub returns-then-key-lt1023 : goal.returns-then-key-lt1023
 returns-then-key-lt1023 c = next_word-ready c.args.key c.if-key-lt1023.true
 
-pub returns : goal.returns
-returns c = next_word-overrun c.args.key c.if-key-lt1023.false
+pub returns-else-key-lt1023 : goal.returns-else-key-lt1023
+returns-else-key-lt1023 c = next_word-overrun c.args.key c.if-key-lt1023.false

@@ -1,22 +1,9 @@
--- `plain_close::past_late` meets its contract. The invariant: none of the threads looked at is late.
-use Prim.Native.Nat.{◌-◌}
-use mathlib.Core.Path.{sym, ◌∙◌}
-use native.Mathlib.Omega.{arith}
-use lib.ListN.{get_or}
+-- `plain_close::past_late` meets its contract.
+use Rattle.std.proofs.Common.{◌-◌, get_or, sym, ◌∙◌}
 use Rattle.plain_state.proofs.DueLaws.{is_late-not, none-less}
 use Rattle.plain_close.proofs.past_late.Goals as goal
 
-pub loop-k-init : goal.loop-k-init
-loop-k-init c = (omega (arith, c.requires.from_le_to), (omega arith, λ i h. absurd (omega arith)))
-
-pub returns-then-is_late : goal.returns-then-is_late
-returns-then-is_late c = let here = c.loop-k in record { order = (here.invariant.0, omega arith); none = here.invariant.1.1 }
-
 pub loop-k-preserved : goal.loop-k-preserved
-loop-k-preserved c = let at = c in
-    let a = at.args in
-    let here = at.loop-k in
-    (omega arith, (omega arith, none-less a.state.now here.k a.to here.invariant.1.1 (is_late-not (get_or a.state.now (here.k - 1) 0) (sym c.is_late.ensures ∙ c.if-is_late.false))))
-
-pub returns : goal.returns
-returns c = let here = c.loop-k in record { order = (here.invariant.0, omega arith); none = here.invariant.1.1 }
+loop-k-preserved c = let a = c.args in
+    let here = c.loop-k in
+    none-less a.state.now here.k a.to here.invariant (is_late-not (get_or a.state.now (here.k - 1) 0) (sym c.is_late.ensures ∙ c.if-is_late.false))

@@ -38,8 +38,8 @@ kept : (p : After-prepare) → Kept p.pack-code.result (code p)
 kept p i h = p.prepare.ensures.kept i h ∙ p.loop-code.invariant.1.1.1.0 i h
 
 -- the cycle that begins at a turn of the loop, for every model whose words these are
-begun-of : (p : After-prepare) (m : Model) → Runs m p.args.m.t (limit_of p.args.m) (words_for p.pack-code.result) p.first_rows-rows.result →
-    Cycled m p.args.budget (words_for (code p)) p.loop-code.due.key (stood p) p.args.m.t p.loop-code.due.from p.loop-code.due.to
+begun-of : (p : After-prepare) (m : Model) → Runs m p.from-t.result (limit_of p.args.m) (words_for p.pack-code.result) p.first_rows-rows.result →
+    Cycled m p.args.budget (words_for (code p)) p.loop-code.due.key (stood p) p.from-t.result p.loop-code.due.from p.loop-code.due.to
 begun-of p m r =
     let few = (model_fault-counts m r.fit).threads in
     record {
@@ -51,7 +51,7 @@ begun-of p m r =
     }
 
 -- and for the model that runs
-runs : (p : After-prepare) → Runs p.args.m p.args.m.t (limit_of p.args.m) (words_for p.pack-code.result) p.first_rows-rows.result
+runs : (p : After-prepare) → Runs p.args.m p.from-t.result (limit_of p.args.m) (words_for p.pack-code.result) p.first_rows-rows.result
 runs p =
     let m = p.args.m in
     let fit = p.requires in
@@ -60,12 +60,12 @@ runs p =
     record {
       fit = fit;
       code = λ k h. is_code_for-by m _ p.pack-code.ensures.held p.pack-code.ensures.ports k (omega arith);
-      threads = refl;
+      threads = p.from-t.ensures;
       limit = refl;
       first = λ k h. p.first_rows-rows.ensures.first k (omega arith) ∙ mod-eq_of_lt (omega (arith, model_fault-first m fit k h, counts.segments));
     }
 
-begun-here : (p : After-prepare) → Cycled p.args.m p.args.budget (words_for (code p)) p.loop-code.due.key (stood p) p.args.m.t p.loop-code.due.from p.loop-code.due.to
+begun-here : (p : After-prepare) → Cycled p.args.m p.args.budget (words_for (code p)) p.loop-code.due.key (stood p) p.from-t.result p.loop-code.due.from p.loop-code.due.to
 begun-here p = begun-of p p.args.m (runs p)
 
 -- the cycle has run

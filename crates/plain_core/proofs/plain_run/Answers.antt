@@ -1,16 +1,19 @@
 -- `plain_core::plain_run` meets its contract.
-use mathlib.Core.Path.{refl, sym, ◌∙◌}
+use Rattle.std.proofs.Common.{refl, sym, ◌∙◌}
+use Rattle.refusal.proofs.NumberLaws.{number_of-not_0}
 use Rattle.plain_core.proofs.RunLaws.{plain_run-fit, plain_run-fault}
 use Rattle.plain_core.proofs.plain_run.Goals as goal
 
-pub returns-then-model_fault-ne0 : goal.returns-then-model_fault-ne0
-returns-then-model_fault-ne0 c =
-    plain_run-fault c.args.m _ _ _
-    (λ e. c.if-model_fault-ne0.true (c.model_fault.ensures ∙ e))
-    refl
-    c.no_threads-threads.ensures
+pub cycles-requires : goal.cycles-requires
+cycles-requires c = sym c.in-Ok.ensures
 
-pub returns : goal.returns
-returns c =
-    c.cycles.ensures ∙
-    plain_run-fit c.args.m _ (sym c.model_fault.ensures ∙ c.if-model_fault-ne0.false)
+pub returns-in-Ok : goal.returns-in-Ok
+returns-in-Ok c = c.cycles.ensures ∙ plain_run-fit c.args.m _ (sym c.in-Ok.ensures)
+
+pub returns-in-Err : goal.returns-in-Err
+returns-in-Err c =
+    rw c.from.ensures
+    (plain_run-fault c.args.m _ _ _
+    (λ e. number_of-not_0 c.in-Err.field-0 (c.in-Err.ensures ∙ e))
+    refl
+    c.no_threads.ensures)

@@ -11,5 +11,5 @@ returns-then-w-lt-ENDED c = state_from-waiting c.args.w c.if-w-lt-WAITING.false 
 pub returns-then-w-lt-OVERRUN : goal.returns-then-w-lt-OVERRUN
 returns-then-w-lt-OVERRUN c = state_from-ended c.args.w c.if-w-lt-WAITING.false c.if-w-lt-ENDED.false c.if-w-lt-OVERRUN.true
 
-pub returns : goal.returns
-returns c = state_from-overrun c.args.w c.if-w-lt-WAITING.false c.if-w-lt-ENDED.false c.if-w-lt-OVERRUN.false
+pub returns-else-w-lt-OVERRUN : goal.returns-else-w-lt-OVERRUN
+returns-else-w-lt-OVERRUN c = state_from-overrun c.args.w c.if-w-lt-WAITING.false c.if-w-lt-ENDED.false c.if-w-lt-OVERRUN.false

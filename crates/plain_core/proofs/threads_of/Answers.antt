@@ -6,12 +6,12 @@ use Rattle.plain_state.proofs.FillLaws.{threads_to-none, threads_to-set}
 use Rattle.plain_core.proofs.threads_of.Goals as goal
 
 pub loop-k-init : goal.loop-k-init
-loop-k-init c = (omega arith, ap (λ (x : Threads). x.at) c.no_threads-ts.ensures ∙ threads_to-none c.args.state.now c.args.segments.now)
+loop-k-init c = ap (λ (x : Threads). x.at) c.no_threads-ts.ensures ∙ threads_to-none c.args.state.now c.args.segments.now
 
 pub loop-k-preserved : goal.loop-k-preserved
 loop-k-preserved c = let here = c in
     let a = here.args in
-    (omega arith, threads_to-set a.state.now a.segments.now _ here.loop-k.k _ (omega arith) here.loop-k.invariant.1 c.state_of-s.ensures)
+    threads_to-set a.state.now a.segments.now _ here.loop-k.k _ (omega arith) here.loop-k.invariant c.state_of.ensures
 
 pub returns : goal.returns
-returns c = let e : c.loop-k.k ≡ c.args.t = omega arith in rw (← e) c.loop-k.invariant.1
+returns c = let e : c.loop-k.k ≡ c.args.t = omega arith in rw (← e) c.loop-k.invariant

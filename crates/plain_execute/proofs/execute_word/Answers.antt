@@ -11,7 +11,7 @@ pub returns-in-1 : goal.returns-in-1
 returns-in-1 c = let at = c in
     let a = at.args in
     let code = at.in-1.is in
-    execute_word-sets a.w a.v.now a.told.now a.ranges.now _ (op_of-add a.w (λ e. omega arith) code) refl _ (ap (λ (x : ℕ). set a.v.now (a.w / 8 % 64) x) c.wrapping_add_u32.ensures.value)
+    execute_word-sets a.w a.v.now a.told.now a.ranges.now _ (op_of-add a.w (λ e. omega arith) code) refl _ refl
 
 pub returns-in-2 : goal.returns-in-2
 returns-in-2 c = let at = c in
@@ -23,13 +23,13 @@ pub returns-in-3 : goal.returns-in-3
 returns-in-3 c = let at = c in
     let a = at.args in
     let code = at.in-3.is in
-    execute_word-sets a.w a.v.now a.told.now a.ranges.now _ (op_of-add-variable a.w (λ e. omega arith) (λ e. omega arith) (λ e. omega arith) code) refl _ (ap (λ (x : ℕ). set a.v.now (a.w / 8 % 64) x) c.wrapping_add_u32-in-3.ensures.value)
+    execute_word-sets a.w a.v.now a.told.now a.ranges.now _ (op_of-add-variable a.w (λ e. omega arith) (λ e. omega arith) (λ e. omega arith) code) refl _ refl
 
 pub returns-in-4 : goal.returns-in-4
 returns-in-4 c = let at = c in
     let a = at.args in
     let code = at.in-4.is in
-    execute_word-sets a.w a.v.now a.told.now a.ranges.now _ (op_of-sub-variable a.w (λ e. omega arith) (λ e. omega arith) (λ e. omega arith) (λ e. omega arith) code) refl _ (ap (λ (x : ℕ). set a.v.now (a.w / 8 % 64) x) c.difference.ensures)
+    execute_word-sets a.w a.v.now a.told.now a.ranges.now _ (op_of-sub-variable a.w (λ e. omega arith) (λ e. omega arith) (λ e. omega arith) (λ e. omega arith) code) refl _ (ap (λ (x : ℕ). set a.v.now (a.w / 8 % 64) (x % 4294967296)) (omega (arith, at.fits-v (a.w / 2048 % 64))))
 
 pub returns-in-5 : goal.returns-in-5
 returns-in-5 c = let a = c.args in

@@ -5,13 +5,10 @@ use Rattle.plain_words.proofs.ExitLaws.{follow_by-over, follow_by-on}
 use Rattle.plain_execute.proofs.follow.Goals as goal
 
 pub returns-then-code-base-eq0 : goal.returns-then-code-base-eq0
-returns-then-code-base-eq0 c = let start = c in
-    let a = start.args in
-    follow_by-over a.code.now a.s a.v.now (rw start.wide-i.ensures.0 at c.if-code-base-eq0.true)
+returns-then-code-base-eq0 c = let a = c.args in follow_by-over a.code.now a.s a.v.now (rw c.from.ensures at c.if-code-base-eq0.true)
 
-pub returns : goal.returns
-returns c = let start = c in
-    let a = start.args in
+pub returns-else-code-base-eq0 : goal.returns-else-code-base-eq0
+returns-else-code-base-eq0 c = let a = c.args in
     c.next_segment.ensures ∙
-    (ap (λ (i : ℕ). next_by (get_or a.code.now (34 * (i % 128) + 1) 0) a.v.now) start.wide-i.ensures.0 ∙
-    follow_by-on a.code.now a.s a.v.now (rw start.wide-i.ensures.0 at c.if-code-base-eq0.false))
+    (ap (λ (i : ℕ). next_by (get_or a.code.now (34 * (i % 128) + 1) 0) a.v.now) c.from.ensures ∙
+    follow_by-on a.code.now a.s a.v.now (rw c.from.ensures at c.if-code-base-eq0.false))

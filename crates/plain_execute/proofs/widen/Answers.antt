@@ -1,7 +1,7 @@
 -- `plain_execute::widen` meets its contract.
 use Rattle.std.proofs.Common.{◌%◌}
-use Rattle.plain_words.proofs.ReachLaws.{widened-as}
+use Rattle.plain_execute.proofs.OrderLaws.{widened-by}
 use Rattle.plain_execute.proofs.widen.Goals as goal
 
 pub returns : goal.returns
-returns c = let a = c.args in widened-as (a.i % 33) a.first a.past a.ranges.now _ _ c.lesser.ensures c.greater.ensures
+returns c = let a = c.args in widened-by (a.i % 33) a.first a.past a.ranges.now _ _ c.min.ensures c.max.ensures

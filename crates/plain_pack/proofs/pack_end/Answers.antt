@@ -12,8 +12,8 @@ returns-in-End c = let size = c.few-size.ensures in
 
 pub returns-in-Time : goal.returns-in-Time
 returns-in-Time c = let size = c.few-size.ensures in
-    let a = c.args in record { word = rw (c.in-Time.is, ← size.word) refl; range = omega (arith, size.range); statements = end-few 1 _ _ size.range (omega arith) }
+    let a = c.args in record { word = rw (c.in-Time.is, ← size.word, c.from.ensures) refl; range = omega (arith, size.range); statements = end-few 1 _ _ size.range (omega arith) }
 
 pub returns-in-Event : goal.returns-in-Event
 returns-in-Event c = let size = c.few-size.ensures in
-    let a = c.args in record { word = rw (c.in-Event.is, ← size.word) refl; range = omega (arith, size.range); statements = end-few 2 _ _ size.range (omega arith) }
+    let a = c.args in record { word = rw (c.in-Event.is, ← size.word, c.from-in-Event.ensures) refl; range = omega (arith, size.range); statements = end-few 2 _ _ size.range (omega arith) }

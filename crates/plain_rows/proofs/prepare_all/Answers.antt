@@ -5,18 +5,18 @@ use Rattle.plain_words.proofs.RowLaws.{prepared-start, prepared-more}
 use Rattle.plain_rows.proofs.prepare_all.Goals as goal
 
 pub loop-turn-init : goal.loop-turn-init
-loop-turn-init c = let pre = c.requires in (pre.from_le_to.0, prepared-start c.args.code.now c.args.held.now c.args.rows.now pre.rowed pre.in_rows c.args.from c.args.to)
+loop-turn-init c = let pre = c.requires in prepared-start c.args.code.now c.args.held.now c.args.rows.now pre.rowed pre.in_rows c.args.from c.args.to
 
 pub prepare_one-requires : goal.prepare_one-requires
 prepare_one-requires c = let at = c in
-    let done = at.loop-turn.invariant.1 in record { turn_bound = omega (arith, at.requires.from_le_to.1); rowed_2 = done.rowed; in_rows = done.placed }
+    let done = at.loop-turn.invariant in record { turn_bound = omega (arith, at.requires.from_le_to.1); rowed_2 = done.rowed; in_rows = done.placed }
 
 pub loop-turn-preserved : goal.loop-turn-preserved
 loop-turn-preserved c = let at = c in
     let one = c.prepare_one.ensures in
-    (omega arith, prepared-more at.loop-turn.invariant.1 one.rowed one.rows one.same one.plain one.others one.kept)
+    prepared-more at.loop-turn.invariant one.rowed one.rows one.same one.plain one.others one.kept
 
 pub returns : goal.returns
 returns c = let at = c in
     let e : at.loop-turn.turn ≡ at.args.to = omega arith in
-    rw (← e) at.loop-turn.invariant.1
+    rw (← e) at.loop-turn.invariant

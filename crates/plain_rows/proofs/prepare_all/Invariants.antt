@@ -1,10 +1,6 @@
 -- `plain_rows::prepare_all` meets its contract. The invariant: the threads before this one are prepared.
-use Prim.Native.Nat.{◌≤◌, ◌-◌}
 use Rattle.plain_words.specs.Rows.{Prepared}
 use Rattle.plain_rows.proofs.prepare_all.Given as goal
 
 abbrev pub invariant-loop-turn : goal.invariant-loop-turn
-invariant-loop-turn l = (l.turn ≤ l.to) × Prepared l.initial.code l.initial.held l.initial.rows l.code l.held l.rows l.from l.turn
-
-abbrev pub decreases-loop-turn : goal.decreases-loop-turn
-decreases-loop-turn l = l.to - l.turn
+invariant-loop-turn l = Prepared l.initial.code l.initial.held l.initial.rows l.code l.held l.rows l.from l.turn

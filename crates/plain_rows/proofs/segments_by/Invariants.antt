@@ -1,12 +1,9 @@
 -- `plain_rows::segments_by` meets its contract. The invariant: the segments of the first k threads are stored.
-use Prim.Native.Nat.{ℕ, ◌≤◌, ◌<◌, ◌-◌}
+use Prim.Native.Nat.{ℕ, ◌<◌}
 use mathlib.Core.Path.{◌≡◌}
-use lib.ListN.{length, get_or}
+use lib.ListN.{get_or}
 use Rattle.plain_words.specs.Rows.{segment_by}
 use Rattle.plain_rows.proofs.segments_by.Given as goal
 
 abbrev pub invariant-loop-k : goal.invariant-loop-k
-invariant-loop-k l = (l.k ≤ 32) × ((length l.segments ≡ 32) × ((i : ℕ) → i < l.k → get_or l.segments i 0 ≡ segment_by (get_or l.held i 0) (get_or l.rows i 0)))
-
-abbrev pub decreases-loop-k : goal.decreases-loop-k
-decreases-loop-k l = 32 - l.k
+invariant-loop-k l = (i : ℕ) → i < l.k → get_or l.x-items i 0 ≡ segment_by (get_or l.held i 0) (get_or l.rows i 0)

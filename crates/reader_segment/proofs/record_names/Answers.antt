@@ -12,10 +12,10 @@ use Rattle.reader_segment.proofs.record_names.Goals as goal
 
 -- the bytes of the statement are there
 left : (c : In-loop-j) → 23 + 6 * c.loop-j.j ≤ length c.args.r.now
-left c = count_in-left c.args.r.now c.loop-j.j (omega (arith, c.loop-j.invariant.0))
+left c = count_in-left c.args.r.now c.loop-j.j (omega (arith, c.count_in-j-end.ensures))
 
 pub loop-j-init : goal.loop-j-init
-loop-j-init c = (c.count_in-n.ensures, (omega arith, below_none _))
+loop-j-init c = below_none _
 
 pub overflow_mul-at : goal.overflow_mul-at
 overflow_mul-at c = omega (arith, left c)
@@ -29,27 +29,18 @@ slice_bounds-op_names-count c = omega (arith, left c)
 pub slice_bounds-op_names-start : goal.slice_bounds-op_names-start
 slice_bounds-op_names-start c = omega (arith, left c)
 
-pub slice_bounds-op_names-end : goal.slice_bounds-op_names-end
-slice_bounds-op_names-end c = omega (arith, left c)
-
 pub op_names-requires : goal.op_names-requires
 op_names-requires c = rw part-rest (simp length-drop (omega (arith, left (goal.at.op_names-requires c).In-loop-j)))
 
 pub returns-then-op_names : goal.returns-then-op_names
 returns-then-op_names c =
-    let l = c in
-    record_names-here _ l.loop-j.j (omega (arith, l.loop-j.invariant.0)) (op_names_at-is _ l.loop-j.j _ (sym c.op_names.ensures ∙ c.if-op_names.true))
-
-pub overflow_add-j : goal.overflow_add-j
-overflow_add-j c = omega (arith, left (goal.at.overflow_add-j c).In-loop-j)
+    record_names-here _ c.loop-j.j (omega (arith, c.count_in-j-end.ensures)) (op_names_at-is _ c.loop-j.j _ (sym c.op_names.ensures ∙ c.if-op_names.true))
 
 pub loop-j-preserved : goal.loop-j-preserved
 loop-j-preserved c =
-    let l = c in
-    (l.loop-j.invariant.0, (omega arith, below_more _ _ l.loop-j.invariant.1.1 (op_names_at-is _ l.loop-j.j _ (sym c.op_names.ensures ∙ c.if-op_names.false))))
+    below_more _ _ c.loop-j.invariant (op_names_at-is _ c.loop-j.j _ (sym c.op_names.ensures ∙ c.if-op_names.false))
 
 pub returns : goal.returns
 returns c =
-    let l = c in
-    let e : l.loop-j.j ≡ count_in l.args.r.now = omega (arith, l.loop-j.invariant.0) in
-    c.test_names.ensures ∙ (ap test_names c.closer_in.ensures ∙ record_names-none _ (λ i h. l.loop-j.invariant.1.1 i (rw e h)))
+    let e : c.loop-j.j ≡ count_in c.args.r.now = omega (arith, c.count_in-j-end.ensures) in
+    c.test_names.ensures ∙ (ap test_names c.closer_in.ensures ∙ record_names-none _ (λ i h. c.loop-j.invariant i (rw e h)))

@@ -1,5 +1,7 @@
 -- `reader_segment::segment_fault` meets its contract: 3, then the closer's faults, then the statements'.
-use mathlib.Core.Path.{◌≡◌, sym, ◌∙◌}
+use mathlib.Core.Path.{◌≡◌, refl, sym, ◌∙◌}
+use Rattle.std.proofs.lemmas.Result.{err_from_is_err_and}
+use Rattle.refusal.proofs.NumberLaws.{number_of-not_0}
 use mathlib.Core.Bool.{true}
 use native.Mathlib.Omega.{arith}
 use lib.ListN.{length-drop}
@@ -23,14 +25,17 @@ slice_bounds-closer_bytes_fault-count c = omega (arith, (fits-length c.args.r.no
 pub slice_bounds-closer_bytes_fault-start : goal.slice_bounds-closer_bytes_fault-start
 slice_bounds-closer_bytes_fault-start c = omega (arith, (fits-length c.args.r.now (fit c)).0)
 
-pub closer_bytes_fault-closer-requires : goal.closer_bytes_fault-closer-requires
-closer_bytes_fault-closer-requires c = rw part-rest (simp length-drop (omega (arith, (fits-length c.args.r.now (fit (goal.at.closer_bytes_fault-closer-requires c).Else-not-segment_length_fits)).0)))
+pub closer_bytes_fault-requires : goal.closer_bytes_fault-requires
+closer_bytes_fault-requires c = rw part-rest (simp length-drop (omega (arith, (fits-length c.args.r.now (fit (goal.at.closer_bytes_fault-requires c).Else-not-segment_length_fits)).0)))
 
-pub statements_fault-statements-requires : goal.statements_fault-statements-requires
-statements_fault-statements-requires c = fits-length c.args.r.now (fit (goal.at.statements_fault-statements-requires c).Else-not-segment_length_fits)
+pub statements_fault-requires : goal.statements_fault-requires
+statements_fault-requires c = fits-length c.args.r.now (fit (goal.at.statements_fault-requires c).Else-not-segment_length_fits)
 
-pub returns-then-closer-ne0 : goal.returns-then-closer-ne0
-returns-then-closer-ne0 c = segment_record_fault-closer _ _ _ (fit (goal.at.returns-then-closer-ne0 c).Else-not-segment_length_fits) _ c.closer_bytes_fault-closer.ensures c.if-closer-ne0.true
+pub returns-in_err-closer_bytes_fault : goal.returns-in_err-closer_bytes_fault
+returns-in_err-closer_bytes_fault c =
+    let p = err_from_is_err_and c.from_residual.result c.from_residual.ensures.1 in
+    rw (p.1, p.2)
+    (segment_record_fault-closer _ _ _ (fit (goal.at.returns-in_err-closer_bytes_fault c).Else-not-segment_length_fits) _ c.in_err-closer_bytes_fault.ensures (number_of-not_0 c.in_err-closer_bytes_fault.field-0.0))
 
 pub returns : goal.returns
-returns c = segment_record_fault-statements _ _ _ (fit (goal.at.returns c).Else-not-segment_length_fits) _ c.closer_bytes_fault-closer.ensures _ c.if-closer-ne0.false c.statements_fault-statements.ensures
+returns c = segment_record_fault-statements _ _ _ (fit (goal.at.returns c).Else-not-segment_length_fits) 0 c.in_ok-closer_bytes_fault.ensures _ refl c.statements_fault.ensures

@@ -1,9 +1,18 @@
 -- `reader_segment::statement_fault` meets its contract: its 6, then its 7.
-use Rattle.reader_segment.proofs.StatementLaws.{op_bytes_fault-shape, op_bytes_fault-name}
+use mathlib.Core.Path.{sym, ap, ◌∙◌}
+use Rattle.std.proofs.lemmas.Result.{err_from_is_err_and}
+use Rattle.refusal.proofs.NumberLaws.{number_of-not_0}
+use Rattle.model.specs.Rules.{op_fault}
+use Rattle.model_rules.proofs.FaultLaws.{fault-here, fault-later}
+use Rattle.reader.specs.Statement.{op_bytes_fault}
 use Rattle.reader_segment.proofs.statement_fault.Goals as goal
 
-pub returns-then-x-ne0 : goal.returns-then-x-ne0
-returns-then-x-ne0 c = op_bytes_fault-shape _ _ _ _ c.decode-x.ensures c.if-x-ne0.true
+pub returns-in_err-op : goal.returns-in_err-op
+unfolding op_bytes_fault
+returns-in_err-op c =
+    let p = err_from_is_err_and c.from_residual.result c.from_residual.ensures.1 in
+    rw (p.1, p.2) (fault-here _ _ _ c.in_err-op.ensures.fault (number_of-not_0 c.in_err-op.field-0.0))
 
 pub returns : goal.returns
-returns c = op_bytes_fault-name _ _ _ _ c.decode-x.ensures _ c.if-x-ne0.false c.op_fault.ensures
+unfolding op_bytes_fault
+returns c = fault-later _ _ _ (sym c.in_ok-op.ensures.fault) (c.op_fault.ensures ∙ ap (op_fault _ _) c.in_ok-op.ensures.op)

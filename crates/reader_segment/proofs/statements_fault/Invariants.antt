@@ -1,11 +1,7 @@
 -- `reader_segment::statements_fault` meets its contract. The invariant: the first j statements have no fault.
-use Prim.Native.Nat.{◌≤◌, ◌-◌}
 use mathlib.Core.Path.{◌≡◌}
 use Rattle.reader_segment.specs.Parts.{statements_bytes_fault}
 use Rattle.reader_segment.proofs.statements_fault.Given as goal
 
 abbrev pub invariant-loop-j : goal.invariant-loop-j
-invariant-loop-j l = (l.j ≤ l.n) × (statements_bytes_fault l.j l.v l.e l.r ≡ 0)
-
-abbrev pub decreases-loop-j : goal.decreases-loop-j
-decreases-loop-j l = l.n - l.j
+invariant-loop-j l = statements_bytes_fault l.j l.v l.e l.r ≡ 0

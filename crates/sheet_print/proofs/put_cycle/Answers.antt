@@ -7,4 +7,4 @@ use Rattle.sheet_print.proofs.put_cycle.Goals as goal
 
 pub returns : goal.returns
 unfolding cycle_words rest_of
-returns c = (puts_then c.put_number-a.ensures.0 (rw c.long_word.ensures at c.put_last.ensures.0), omega arith)
+returns c = (puts_then c.put_number-a.ensures.0 (rw c.from.ensures at c.put_last.ensures.0), omega arith)

@@ -9,6 +9,6 @@ pub returns-then-spent : goal.returns-then-spent
 unfolding n_line spent_line rest_of
 returns-then-spent c = (rw c.if-spent.true (puts_then (puts_then c.put_byte-a.ensures c.put_last-b.ensures.0) c.put_word.ensures), omega arith)
 
-pub returns : goal.returns
+pub returns-else-spent : goal.returns-else-spent
 unfolding n_line spent_line rest_of
-returns c = (rw c.if-spent.false (puts_then (puts_then c.put_byte-a.ensures c.put_last-b.ensures.0) (puts_none _ _ _ (omega arith))), omega arith)
+returns-else-spent c = (rw c.if-spent.false (puts_then (puts_then c.put_byte-a.ensures c.put_last-b.ensures.0) (puts_none _ _ _ (omega arith))), omega arith)

@@ -18,6 +18,6 @@ pub returns : goal.returns
 unfolding refused_line rest_of
 returns c =
     let k = c in
-    let p = puts_then k.put_word-a.ensures (rw k.long_byte.ensures at k.put_last-n.ensures.0) in
+    let p = puts_then k.put_word-a.ensures (rw k.from.ensures at k.put_last-n.ensures.0) in
     let w = writes-uncut p (omega arith) c.copy_in.ensures in
     record { writes = w.0; number_len_bound = omega (arith, w.1) }

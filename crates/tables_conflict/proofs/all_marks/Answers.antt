@@ -1,5 +1,4 @@
 -- `tables_conflict::all_marks` meets its contract: a row for each segment.
-use mathlib.Core.Path.{◌≡◌}
 use native.Mathlib.Omega.{arith}
 use Rattle.base.proofs.IndexLaws.{store_to-none, store_to-more}
 use Rattle.tables_conflict.specs.Mask.{rows_to}
@@ -7,13 +6,8 @@ use Rattle.tables_conflict.proofs.all_marks.Goals as goal
 
 pub loop-r-init : goal.loop-r-init
 unfolding rows_to
-loop-r-init c = (omega arith, store_to-none _ _ _)
+loop-r-init c = store_to-none _ _ _
 
 pub loop-r-preserved : goal.loop-r-preserved
 unfolding rows_to
-loop-r-preserved c =
-    let l = c.loop-r in
-    (omega arith, store_to-more _ 0 _ l.r l.r _ _ l.invariant.1 (omega arith) c.row_marks.ensures)
-
-pub returns : goal.returns
-returns c = let e : c.loop-r.r ≡ c.args.n = omega arith in rw e at c.loop-r.invariant.1
+loop-r-preserved c = let l = c.loop-r in store_to-more _ 0 _ l.r l.r _ _ l.invariant (omega arith) c.row_marks.ensures

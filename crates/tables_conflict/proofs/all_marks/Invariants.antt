@@ -1,11 +1,7 @@
 -- `tables_conflict::all_marks` meets its contract: a row for each segment.
-use Prim.Native.Nat.{◌≤◌, ◌-◌}
 use mathlib.Core.Path.{◌≡◌}
 use Rattle.tables_conflict.specs.Mask.{rows_to}
 use Rattle.tables_conflict.proofs.all_marks.Given as goal
 
 abbrev pub invariant-loop-r : goal.invariant-loop-r
-invariant-loop-r l = (l.r ≤ l.n) × (l.out ≡ rows_to l.all l.n l.r)
-
-abbrev pub decreases-loop-r : goal.decreases-loop-r
-decreases-loop-r l = l.n - l.r
+invariant-loop-r l = l.out ≡ rows_to l.all l.n l.r

@@ -1,11 +1,11 @@
--- `tables_conflict::conflict_number` meets its contract: 11, or 0.
+-- `tables_conflict::conflict_number` meets its contract: unfit, or none.
 use mathlib.Core.Path.{sym, ◌∙◌}
-use native.Mathlib.Omega.{arith}
 use Rattle.tables.proofs.OutcomeLaws.{conflict-unfit, conflict-held}
+use Rattle.tables_conflict.proofs.MarkLaws.{told-refused, told-held}
 use Rattle.tables_conflict.proofs.conflict_number.Goals as goal
 
-pub returns-then-model_fault-ne0 : goal.returns-then-model_fault-ne0
-returns-then-model_fault-ne0 c = (conflict-unfit c.args.m (λ e. omega arith)).0
+pub returns-then-is_err : goal.returns-then-is_err
+returns-then-is_err c = (conflict-unfit c.args.m (told-refused c.model_fault.result _ c.model_fault.ensures (sym c.is_err.ensures.value ∙ c.if-is_err.true))).0
 
 pub returns : goal.returns
-returns c = (conflict-held c.args.m (sym c.model_fault.ensures ∙ c.if-model_fault-ne0.false)).0
+returns c = (conflict-held c.args.m (told-held c.model_fault.result _ c.model_fault.ensures (sym c.is_err.ensures.value ∙ c.if-is_err.false))).0

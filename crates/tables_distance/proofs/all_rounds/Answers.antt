@@ -1,19 +1,13 @@
 -- `tables_distance::all_rounds` meets its contract: a round for each place.
-use mathlib.Core.Path.{◌≡◌, refl, ap, ◌∙◌}
-use native.Mathlib.Omega.{arith}
-use lib.ListN.{length}
-use Rattle.tables_distance.proofs.StoreLaws.{rounds_to-length, rounds_to-none, rounds_to-more}
+use Rattle.tables_distance.proofs.StoreLaws.{rounds_to-none, rounds_to-more}
 use Rattle.tables_distance.proofs.all_rounds.Goals as goal
 
 pub loop-k-init : goal.loop-k-init
-loop-k-init c = (omega arith, refl, rounds_to-none _ _)
+loop-k-init c = rounds_to-none _ _
 
 pub loop-k-preserved : goal.loop-k-preserved
 loop-k-preserved c =
     let x = c.args in
     let l = c.loop-k in
-    let e = rounds_to-more x.n x.words.now l.k _ _ l.invariant.2 c.round.ensures in
-    (omega arith, ap length e ∙ rounds_to-length x.n x.words.now _, e)
-
-pub returns : goal.returns
-returns c = let e : c.loop-k.k ≡ c.args.n = omega arith in rw e at c.loop-k.invariant.2
+    let e = rounds_to-more x.n x.words.now l.k _ _ l.invariant c.round.ensures in
+    e

@@ -1,26 +1,24 @@
 -- `tables_distance::cut_words` meets its contract: a store, or none, for each place.
-use Prim.Native.Nat.{◌+◌}
-use mathlib.Core.Path.{◌≡◌, refl, ap, ◌∙◌}
-use Rattle.tables_distance.specs.Store.{cut_to}
-use Rattle.tables_distance.proofs.cut_words.Goals.{then-words-i-ge-CUT_WORD, else-words-i-ge-CUT_WORD}
+use mathlib.Core.Path.{sym, ◌∙◌}
 use native.Mathlib.Omega.{arith}
-use lib.ListN.{length}
-use Rattle.base.proofs.IndexLaws.{store_to-none, store_to-length}
+use lib.ListN.{drop, take-append-drop, get_or-append}
+use lib.Seq.{set-append_left, set-get_or}
+use Rattle.base.proofs.IndexLaws.{store_to-none}
+use Rattle.tables.specs.Word.{all_ones}
 use Rattle.tables_distance.proofs.StoreLaws.{cut_to-stored, cut_to-left}
+use Rattle.tables_distance.proofs.cut_words.Goals.{then-w-ge-CUT_WORD, else-w-ge-CUT_WORD}
 use Rattle.tables_distance.proofs.cut_words.Goals as goal
 
-pub loop-i-init : goal.loop-i-init
-loop-i-init c = (omega arith, refl, store_to-none _ _ _)
+pub loop-w-init : goal.loop-w-init
+loop-w-init c = take-append-drop c.args.count c.args.words.now ∙ store_to-none _ _ _
 
-pub loop-i-preserved : goal.loop-i-preserved
-loop-i-preserved c =
+pub loop-w-preserved : goal.loop-w-preserved
+loop-w-preserved c =
     let x = c.args in
-    let l = c.loop-i in
-    let e : c.if-words-i-ge-CUT_WORD.words ≡ cut_to x.words.now (l.i + 1) = elim c.if-words-i-ge-CUT_WORD.branch [
-      | then-words-i-ge-CUT_WORD w ↦ w.words-is ∙ cut_to-stored x.words.now l.i _ l.invariant.2 (omega arith)
-      | else-words-i-ge-CUT_WORD w ↦ w.words-is ∙ cut_to-left x.words.now l.i _ l.invariant.2 (omega arith)
-    ] in
-    (omega arith, ap length e ∙ store_to-length _ 0 x.words.now _, e)
-
-pub returns : goal.returns
-returns c = let e : c.loop-i.i ≡ c.args.count = omega arith in rw e at c.loop-i.invariant.2
+    let l = c.loop-w in
+    let rest = drop x.count x.words.now in
+    let read = get_or-append l.w-items rest 0 l.w-index (omega arith) in
+    elim c.if-w-ge-CUT_WORD.branch [
+      | then-w-ge-CUT_WORD w ↦ rw w.w-items-is (sym (set-append_left l.w-items rest l.w-index all_ones (omega arith)) ∙ cut_to-stored x.words.now l.w-index _ l.invariant (omega arith))
+      | else-w-ge-CUT_WORD w ↦ rw (w.w-items-is, set-get_or l.w-items l.w-index 0) (cut_to-left x.words.now l.w-index _ l.invariant (omega arith))
+    ]

@@ -1,24 +1,20 @@
 -- `tables_distance::refusal` meets its contract: 11, then 16, then 0.
 use Prim.Native.Nat.{◌*◌}
 use mathlib.Core.Path.{refl, sym, ◌∙◌}
-use native.Mathlib.Omega.{arith}
 use borrow.Author.Tests.{lt-ltb, le-ltb}
 use Rattle.tables.proofs.OutcomeLaws.{if_held-yes, if_held-no}
-use Rattle.tables_distance.proofs.StoreLaws.{square-small}
+use Rattle.tables_distance.proofs.RefusalLaws.{told-refused, told-held}
 use Rattle.tables_distance.proofs.refusal.Goals as goal
 
-pub returns-then-model_fault-ne0 : goal.returns-then-model_fault-ne0
-returns-then-model_fault-ne0 c = sym (if_held-no c.args.m _ 11 (λ e. omega arith))
-
-pub overflow_mul-n : goal.overflow_mul-n
-overflow_mul-n c = let h = square-small c.args.m (sym c.model_fault.ensures ∙ c.if-model_fault-ne0.false) in omega arith
+pub returns-then-is_err : goal.returns-then-is_err
+returns-then-is_err c = sym (if_held-no c.args.m _ 11 (told-refused c.model_fault.result _ c.model_fault.ensures (sym c.is_err.ensures.value ∙ c.if-is_err.true)))
 
 pub returns-then-size-n : goal.returns-then-size-n
 returns-then-size-n c =
     let x = c.args.m in
-    sym (if_held-yes x _ 11 (sym c.model_fault.ensures ∙ c.if-model_fault-ne0.false) ∙ rw (lt-ltb c.args.size (x.n * x.n) c.if-size-n.true) refl)
+    sym (if_held-yes x _ 11 (told-held c.model_fault.result _ c.model_fault.ensures (sym c.is_err.ensures.value ∙ c.if-is_err.false)) ∙ rw (lt-ltb c.args.size (x.n * x.n) c.if-size-n.true) refl)
 
 pub returns : goal.returns
 returns c =
     let x = c.args.m in
-    sym (if_held-yes x _ 11 (sym c.model_fault.ensures ∙ c.if-model_fault-ne0.false) ∙ rw (le-ltb c.args.size (x.n * x.n) c.if-size-n.false) refl)
+    sym (if_held-yes x _ 11 (told-held c.model_fault.result _ c.model_fault.ensures (sym c.is_err.ensures.value ∙ c.if-is_err.false)) ∙ rw (le-ltb c.args.size (x.n * x.n) c.if-size-n.false) refl)

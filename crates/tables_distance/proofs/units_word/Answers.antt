@@ -1,13 +1,10 @@
--- `tables_distance::units_word` meets its contract: one delta, past the cut, a time.
+-- `tables_distance::units_word` meets its contract: one delta, or a time, up to the cut.
 use native.Mathlib.Omega.{arith}
-use Rattle.tables_distance.proofs.StoreLaws.{units_word-none, units_word-far, units_word-more}
+use Rattle.tables_distance.proofs.StoreLaws.{units_word-none, units_word-more}
 use Rattle.tables_distance.proofs.units_word.Goals as goal
 
 pub returns-then-units-eq0 : goal.returns-then-units-eq0
 returns-then-units-eq0 c = units_word-none _ (omega arith)
 
-pub returns-then-units-ge-CUT_TIME : goal.returns-then-units-ge-CUT_TIME
-returns-then-units-ge-CUT_TIME c = units_word-far _ (omega arith)
-
 pub returns : goal.returns
-returns c = units_word-more _ (λ e. omega arith) (omega arith)
+returns c = rw (c.min.ensures, c.from-units.ensures) (units_word-more _ (omega arith))

@@ -3,5 +3,5 @@ use native.Mathlib.Omega.{arith}
 use Rattle.tables_row.proofs.StepLaws.{steps_in-short}
 use Rattle.tables_row.proofs.fill_steps.Goals as goal
 
-pub returns-then-steps-lt64 : goal.returns-then-steps-lt64
-returns-then-steps-lt64 c = steps_in-short _ _ (omega arith)
+pub returns-else-steps-ge64 : goal.returns-else-steps-ge64
+returns-else-steps-ge64 c = steps_in-short _ _ (omega arith)

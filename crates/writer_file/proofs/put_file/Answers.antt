@@ -7,7 +7,5 @@ use Rattle.writer_file.proofs.put_file.Goals as goal
 pub returns : goal.returns
 unfolding head_bytes file_of
 returns c =
-    let k = c in
-    let s = k in
     let end = rw end_bytes-frame at c.put_frame.ensures in
-    puts_then s.put_head-a.ensures (puts_then s.put_segments-b.ensures (puts_then k.put_starts-c.ensures end))
+    puts_then c.put_head-a.ensures (puts_then c.put_segments-b.ensures (puts_then c.put_starts-c.ensures end))

@@ -8,7 +8,4 @@ use Rattle.writer_file.proofs.put_head.Goals as goal
 pub returns : goal.returns
 unfolding bytes_of
 returns c =
-    let v = c in
-    let h = v in
-    let body = puts_then h.put_four-b.ensures (puts_then v.put_one-c.ensures c.put_one.ensures) in
-    puts-record 10 1 h.put_frame-a.ensures body refl
+    puts-record 10 1 c.put_frame-a.ensures (puts_then c.put_four-b.ensures (puts_then c.put_one-c.ensures c.put_one.ensures)) refl

@@ -1,5 +1,4 @@
 -- `writer_file::put_starts` meets its contract. The invariant: the records of the first k threads are put.
-use Prim.Native.Nat.{◌≤◌, ◌-◌}
 use Rattle.buffers.specs.Put.{Puts}
 use Rattle.model.specs.Values.{start_at}
 use Rattle.writer.specs.File.{start_bytes}
@@ -7,7 +6,4 @@ use Rattle.writer.specs.Bytes.{joined}
 use Rattle.writer_file.proofs.put_starts.Given as goal
 
 abbrev pub invariant-loop-k : goal.invariant-loop-k
-invariant-loop-k l = (l.k ≤ l.t) × Puts l.initial.out l.at l.out l.to (joined l.k 0 (λ k. start_bytes (start_at l.m k)))
-
-abbrev pub decreases-loop-k : goal.decreases-loop-k
-decreases-loop-k l = l.t - l.k
+invariant-loop-k l = Puts l.initial.out l.at l.out l.to (joined l.k 0 (λ k. start_bytes (start_at l.m k)))

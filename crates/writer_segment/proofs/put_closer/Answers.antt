@@ -5,8 +5,7 @@ use Rattle.writer_segment.proofs.put_closer.Goals as goal
 
 pub returns-in-End : goal.returns-in-End
 returns-in-End c =
-    let m = c in
-    rw (← closer_bytes-end m.args.closer m.in-End.is) c.put_wait.ensures
+    rw (← closer_bytes-end c.args.closer c.in-End.is) c.put_wait.ensures
 
 pub returns-in-Time : goal.returns-in-Time
 unfolding closer_bytes

@@ -4,5 +4,4 @@ use Rattle.writer_segment.proofs.put_front.Goals as goal
 
 pub returns : goal.returns
 returns c =
-    let f = c in
-    puts_then (rw f.long_byte.ensures at f.put_frame-a.ensures) c.put_closer.ensures
+    puts_then (rw c.from.ensures at c.put_frame-a.ensures) c.put_closer.ensures

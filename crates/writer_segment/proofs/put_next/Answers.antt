@@ -6,7 +6,4 @@ use Rattle.writer_segment.proofs.put_next.Goals as goal
 pub returns : goal.returns
 unfolding next_bytes
 returns c =
-    let t = c in
-    let b = t in
-    let limit = rw c.long_word.ensures at c.put_four.ensures in
-    puts_then b.put_one-a.ensures (puts_then b.put_one-b.ensures (puts_then t.put_one-c.ensures limit))
+    puts_then c.put_one-a.ensures (puts_then c.put_one-b.ensures (puts_then c.put_one-c.ensures (rw c.from.ensures at c.put_four.ensures)))

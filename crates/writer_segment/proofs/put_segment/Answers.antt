@@ -5,5 +5,4 @@ use Rattle.writer_segment.proofs.put_segment.Goals as goal
 
 pub returns : goal.returns
 returns c =
-    let f = c in
-    rw (← segment_bytes-parts f.args.g) (puts_then f.put_front-a.ensures c.put_statements.ensures)
+    rw (← segment_bytes-parts c.args.g) (puts_then c.put_front-a.ensures c.put_statements.ensures)

@@ -6,6 +6,4 @@ use Rattle.writer_segment.proofs.put_statement.Goals as goal
 pub returns : goal.returns
 unfolding statement_of
 returns c =
-    let a = c in
-    let b = rw c.long_word.ensures at c.put_four.ensures in
-    puts_then a.put_one-c.ensures (puts_then a.put_one-d.ensures b)
+    puts_then c.put_one-c.ensures (puts_then c.put_one-d.ensures (rw c.from.ensures at c.put_four.ensures))

@@ -4,7 +4,4 @@ use Rattle.writer_segment.proofs.put_wait.Goals as goal
 
 pub returns : goal.returns
 returns c =
-    let d = c in
-    let e = d in
-    let delay = rw d.long_word.ensures at d.put_four-c.ensures in
-    puts_then e.put_one-a.ensures (puts_then e.put_one-b.ensures (puts_then delay c.put_next.ensures))
+    puts_then c.put_one-a.ensures (puts_then c.put_one-b.ensures (puts_then (rw c.from.ensures at c.put_four-c.ensures) c.put_next.ensures))

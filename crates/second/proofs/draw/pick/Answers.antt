@@ -2,10 +2,7 @@
 use Rattle.std.proofs.Common.{◌/◌, mod-lt, arith}
 use Rattle.second.proofs.draw.pick.Goals as goal
 
-pub mixed-requires : goal.mixed-requires
-mixed-requires c = tt
-
-pub returns : goal.returns
-returns c =
+pub returns-else-n-eq0 : goal.returns-else-n-eq0
+returns-else-n-eq0 c =
     let n = c.args.n in
     omega (arith, mod-lt (c.mixed.result / 16) {m = n} (omega arith))

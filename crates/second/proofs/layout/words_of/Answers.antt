@@ -2,21 +2,6 @@
 use Rattle.second.specs.Layout.{words_of}
 use Rattle.second.proofs.layout.words_of.Goals as goal
 
-pub put_records-requires : goal.put_records-requires
-put_records-requires c = tt
-
-pub at-n-requires : goal.at-n-requires
-at-n-requires c = tt
-
-pub put_pairs-requires : goal.put_pairs-requires
-put_pairs-requires c = tt
-
-pub copy-requires : goal.copy-requires
-copy-requires c = tt
-
-pub copy-requires-2 : goal.copy-requires-2
-copy-requires-2 c = tt
-
 pub returns : goal.returns
 unfolding words_of
 returns c =

@@ -1,9 +1,6 @@
--- `second::log::keep` is safe and ends.
-use Rattle.std.proofs.Common.{◌-◌}
+-- `second::log::keep` is safe.
+use Rattle.std.proofs.Common.{◌≤◌}
 use Rattle.second.proofs.log.keep.Given as goal
 
 abbrev pub invariant-loop-i : goal.invariant-loop-i
-invariant-loop-i l = Unit {0}
-
-abbrev pub decreases-loop-i : goal.decreases-loop-i
-decreases-loop-i l = 160 - l.i
+invariant-loop-i l = l.n ≤ l.i

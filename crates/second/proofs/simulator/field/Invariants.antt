@@ -4,6 +4,3 @@ use Rattle.second.proofs.simulator.field.Given as goal
 
 abbrev pub invariant-loop-n : goal.invariant-loop-n
 invariant-loop-n l = l.x < 72057594037927936
-
-abbrev pub decreases-loop-n : goal.decreases-loop-n
-decreases-loop-n l = l.n

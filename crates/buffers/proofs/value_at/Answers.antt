@@ -1,7 +1,0 @@
--- `buffers::value_at` meets its contract: 0 past the end.
-use mathlib.Core.Path.{sym}
-use lib.ListN.{get_or-eq_default}
-use Rattle.buffers.proofs.value_at.Goals as goal
-
-pub returns : goal.returns
-returns c = sym (get_or-eq_default c.args.values.now 0 c.if-i-values.false)

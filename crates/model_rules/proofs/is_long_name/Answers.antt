@@ -1,9 +1,0 @@
--- `model_rules::is_long_name` meets its contract.
-use borrow.Author.Rules.{rules}
-use Rattle.model.specs.Port.{is_port}
-use Rattle.model.specs.Rules.{is_name}
-use Rattle.model_rules.proofs.is_long_name.Goals as goal
-
-pub returns : goal.returns
-unfolding is_name is_port
-returns c = search rules

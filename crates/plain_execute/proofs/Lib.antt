@@ -1,0 +1,2 @@
+pub mod ItemsLaws
+pub mod OrderLaws

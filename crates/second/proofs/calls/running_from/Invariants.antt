@@ -1,9 +1,0 @@
--- `second::calls::running_from` is safe and ends.
-use Rattle.std.proofs.Common.{◌-◌}
-use Rattle.second.proofs.calls.running_from.Given as goal
-
-abbrev pub invariant-loop-i : goal.invariant-loop-i
-invariant-loop-i l = Unit {0}
-
-abbrev pub decreases-loop-i : goal.decreases-loop-i
-decreases-loop-i l = 32 - l.i

@@ -1,8 +1,0 @@
--- `second::draw::drawn_ports` is safe and ends.
-use Rattle.second.proofs.draw.drawn_ports.Given as goal
-
-abbrev pub invariant-loop-p : goal.invariant-loop-p
-invariant-loop-p l = Unit {0}
-
-abbrev pub decreases-loop-p : goal.decreases-loop-p
-decreases-loop-p l = l.p

@@ -1,9 +1,0 @@
--- `second::graph::fill` meets its contract.
-use Rattle.std.proofs.Common.{◌-◌}
-use Rattle.second.proofs.graph.fill.Given as goal
-
-abbrev pub invariant-loop-r : goal.invariant-loop-r
-invariant-loop-r l = Unit {0}
-
-abbrev pub decreases-loop-r : goal.decreases-loop-r
-decreases-loop-r l = l.n - l.r

@@ -1,9 +1,0 @@
--- `second::graph::use_of` is safe and ends.
-use Rattle.std.proofs.Common.{◌-◌}
-use Rattle.second.proofs.graph.use_of.Given as goal
-
-abbrev pub invariant-loop-p : goal.invariant-loop-p
-invariant-loop-p l = Unit {0}
-
-abbrev pub decreases-loop-p : goal.decreases-loop-p
-decreases-loop-p l = 8 - l.p

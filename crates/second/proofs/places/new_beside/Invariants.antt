@@ -1,9 +1,0 @@
--- `second::places::new_beside` is safe and ends.
-use Rattle.std.proofs.Common.{◌-◌}
-use Rattle.second.proofs.places.new_beside.Given as goal
-
-abbrev pub invariant-loop-e : goal.invariant-loop-e
-invariant-loop-e l = Unit {0}
-
-abbrev pub decreases-loop-e : goal.decreases-loop-e
-decreases-loop-e l = 32 - l.e

@@ -1,9 +1,0 @@
--- `second::simulator::replace_first` is safe and ends.
-use Rattle.std.proofs.Common.{◌-◌}
-use Rattle.second.proofs.simulator.replace_first.Given as goal
-
-abbrev pub invariant-loop-i : goal.invariant-loop-i
-invariant-loop-i l = Unit {0}
-
-abbrev pub decreases-loop-i : goal.decreases-loop-i
-decreases-loop-i l = 31 - l.i

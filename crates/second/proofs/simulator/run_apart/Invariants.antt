@@ -1,8 +1,0 @@
--- `second::simulator::run_apart` is safe and ends.
-use Rattle.second.proofs.simulator.run_apart.Given as goal
-
-abbrev pub invariant-loop-left : goal.invariant-loop-left
-invariant-loop-left l = Unit {0}
-
-abbrev pub decreases-loop-left : goal.decreases-loop-left
-decreases-loop-left l = l.left

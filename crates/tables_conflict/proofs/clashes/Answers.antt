@@ -1,8 +1,0 @@
--- `tables_conflict::clashes` meets its contract.
-use mathlib.Core.Path.{refl}
-use Rattle.tables_conflict.specs.Mask.{clash}
-use Rattle.tables_conflict.proofs.clashes.Goals as goal
-
-pub returns : goal.returns
-unfolding clash
-returns c = refl

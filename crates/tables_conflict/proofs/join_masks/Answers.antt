@@ -1,8 +1,0 @@
--- `tables_conflict::join_masks` meets its contract.
-use mathlib.Core.Path.{refl}
-use Rattle.tables_conflict.specs.Mask.{join_masks}
-use Rattle.tables_conflict.proofs.join_masks.Goals as goal
-
-pub returns : goal.returns
-unfolding join_masks
-returns c = refl

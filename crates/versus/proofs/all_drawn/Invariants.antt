@@ -1,9 +1,0 @@
--- `versus::all_drawn` is safe and ends.
-use Rattle.std.proofs.Common.{◌-◌}
-use Rattle.versus.proofs.all_drawn.Given as goal
-
-abbrev pub invariant-loop-i : goal.invariant-loop-i
-invariant-loop-i g l = Unit {0}
-
-abbrev pub decreases-loop-i : goal.decreases-loop-i
-decreases-loop-i g l = 2400 - l.i

@@ -1,9 +1,0 @@
--- `versus::library::hold_values` is safe and ends.
-use Rattle.std.proofs.Common.{◌-◌}
-use Rattle.versus.proofs.library.hold_values.Given as goal
-
-abbrev pub invariant-loop-i : goal.invariant-loop-i
-invariant-loop-i l = Unit {0}
-
-abbrev pub decreases-loop-i : goal.decreases-loop-i
-decreases-loop-i l = 64 - l.i

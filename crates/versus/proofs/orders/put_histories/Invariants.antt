@@ -1,9 +1,0 @@
--- `versus::orders::put_histories` is safe and ends.
-use Rattle.std.proofs.Common.{◌-◌}
-use Rattle.versus.proofs.orders.put_histories.Given as goal
-
-abbrev pub invariant-loop-k : goal.invariant-loop-k
-invariant-loop-k l = Unit {0}
-
-abbrev pub decreases-loop-k : goal.decreases-loop-k
-decreases-loop-k l = 32 - l.k
