@@ -62,7 +62,7 @@ run_call-requires c =
     let (below, fits) = called-room (x.desk.now.horizon.0 + 1) x.desk.now.n x.desk.now.t (segment_with (ports_in x.desk.now.starts (thread_of x.call)) x.g) x.g (conflicts_on x.desk.now.marks x.desk.now.names.now x.desk.now.starts) x.desk.now.reach.now x.counted x.site
     x.threads.at x.held.now x.call (number_told c.decide_call-decided.result) c.listed.result c.listed.ensures (segment_with-listed _ x.g) _ (told (goal.at.run_call-requires c).After-decide_call-decided) (told-none _ c.in_default.not-Err) ws shown room in
     let same = c.thread_of-k.ensures in
-    let own = own-segment x.desk.now.starts (thread_of x.call) x.g _ _ _ (c.from.ensures ∙ same) c.ports_of-ports.ensures c.segment_for-own.ensures in
+    let own = own-segment x.desk.now.starts (thread_of x.call) x.g _ _ _ (c.from-2.ensures ∙ same) c.ports_of-ports.ensures c.segment_for-own.ensures in
     record {
       t_bound = few;
       k_lt_t = omega (arith, below, same);
@@ -76,7 +76,7 @@ returns c =
     let k = c.thread_of-k in
     let b = c.is_finish in
     let a = c.run_call in
-    let own = own-segment x.desk.now.starts (thread_of x.call) x.g _ _ _ (c.from.ensures ∙ k.ensures) c.ports_of-ports.ensures c.segment_for-own.ensures in
+    let own = own-segment x.desk.now.starts (thread_of x.call) x.g _ _ _ (c.from-2.ensures ∙ k.ensures) c.ports_of-ports.ensures c.segment_for-own.ensures in
     let (after, left) = called-run (x.desk.now.horizon.0 + 1) x.desk.now.n x.desk.now.t (segment_with (ports_in x.desk.now.starts (thread_of x.call)) x.g) x.g (conflicts_on x.desk.now.marks x.desk.now.names.now x.desk.now.starts) x.desk.now.reach.now x.counted x.site
     x.threads.at x.held.now x.call (number_told c.decide_call-decided.result) c.listed.result c.listed.ensures (segment_with-listed _ x.g) _ (told (goal.at.returns c).After-decide_call-decided) (told-none _ c.in_default.not-Err) k.result k.ensures _ a.result b.result b.ensures (sym c.is_grant.ensures ∙ c.if-is_grant.false) a.ensures.held
     (a.ensures.left ∙ ap (λ h. after_of (run_on b.result x.desk.now.reach.now x.desk.now.t h x.site x.threads.at x.held.now k.result)) own) in
