@@ -33,17 +33,17 @@ FAULTS = [
     (PLAIN, "a row keeps the first segment with a port", "plain_rows/src/lib.rt", "if held[turn] == s {", "if held[turn] < 64 {"),
     (EARLY, "a hazard of the segments that threads are in now alone", "early_hazard/src/lib.rt", "        if conflicts_at(marked, own, names, ports, s) {", "        if conflicts_at(marked, own, names, ports, s) && s * k == p {"),
     (EARLY, "the first notification logged, not the least", "early_log/src/lib.rt", "best = clock::least_of(Bound::At(c), best);", "best = Bound::At(c);"),
-    (EARLY, "a notification in the cycle of the wait is lost", "early_log/src/lib.rt", "            if !clock::is_before(c, since) {", "            if clock::is_before(since, c) {"),
-    (EARLY, "a forecast equal to the logged cycle", "early_deliver/src/lib.rt", "xs, t, e) < early_ahead::limit_of(c) {", "xs, t, e) <= early_ahead::limit_of(c) {"),
+    (EARLY, "a notification in the cycle of the wait is lost", "early_log/src/lib.rt", "            if c >= since {", "            if c > since {"),
+    (EARLY, "a forecast equal to the logged cycle", "early_deliver/src/lib.rt", "o.limits, t, e) < early_ahead::limit_of(c) {", "o.limits, t, e) <= early_ahead::limit_of(c) {"),
     (EARLY, "96 counted in", "early_answer/src/lib.rt", "    if places <= 96 {", "    if places < 96 {"),
-    (EARLY, "notifications at the floor dropped", "early_log/src/lib.rt", "    clock::is_before(c, f)\n", "    !clock::is_before(f, c)\n"),
+    (EARLY, "notifications at the floor dropped", "early_log/src/lib.rt", "    x.cycle < f\n", "    x.cycle <= f\n"),
     (EARLY, "equal cycles are no hazard", "early_ahead/src/lib.rt", "        return j < i;\n", "        return false;\n"),
     (EARLY, "a conflict through a port only if both use one", "early_ports/src/lib.rt", "(a.ported | b.ported)", "(a.ported & b.ported)"),
     (EARLY, "a wait raises no bound", "early_ahead/src/lib.rt", "raised_limit(since, forecast(", "raised_limit(0, forecast("),
     (EARLY, "a granted segment with ports not mapped", "early_answer/src/lib.rt", "        t,\n        own,\n", "        t,\n        g,\n"),
     (PLAIN, "a finish reads the variables anew", "early_answer/src/lib.rt", "        return held_for(held, k);\n", "        return v;\n"),
     (EARLY, "a finish stores all values", "early_answer/src/lib.rt", "chosen(masks::has(written, i), w.at[i], v.at[i])", "chosen(true, w.at[i], v.at[i])"),
-    (EARLY, "a running thread is no hazard", "early_deliver/src/lib.rt", "        State::Running(c) => early_ahead::limit_of(c),\n", "        State::Running(_) => NEVER,\n"),
+    (EARLY, "a running thread is no hazard", "early_deliver/src/lib.rt", "        State::Ready(c) | State::Running(c) => early_ahead::limit_of(c),\n", "        State::Ready(c) => early_ahead::limit_of(c),\n        State::Running(_) => NEVER,\n"),
 ]
 
 

@@ -1,10 +1,10 @@
 // Document 01, "Early issue": bounds as limits, forecast and earliest on them, by the ways to the events.
 #![tactic(auto)]
 
-ghost use Rattle.std.specs.Prelude.{◌≡◌, true, ◌+◌, ◌*◌, ◌≤◌, get_or};
+ghost use Rattle.std.specs.Prelude.{◌≡◌, ◌+◌, ◌*◌, ◌≤◌, ◌<◌, get_or};
 ghost use Rattle.tables.specs.Word.{all_ones};
 ghost use Rattle.early_limits.specs.Limit.{limit_of_cycle, limit_of_word, lesser, sum_of, raised_limit, is_sooner_limit, at_most};
-ghost use Rattle.early_limits.specs.Ahead.{forecast_at, relaxed_by, relaxed_limits, earliest_limits};
+ghost use Rattle.early_limits.specs.Ahead.{forecast_at, relaxed_at, relaxed_limits, earliest_limits};
 
 use clock::Cycle;
 use early_limits::{Crew, Limits};
@@ -100,24 +100,18 @@ pub fn forecast(reach: &[u64], segments: [u8; 32], xs: Limits, t: u8, e: u8) -> 
     least
 }
 
-// The limit x of a thread after one more round: one that waits on event e is woken one delta after it, and not before the delta after its
+// The limit of thread k after one more round: one that waits on an event is woken one delta after it, and not before the delta after its
 // wait began.
-fn relaxed_by(
-    reach: &[u64],
-    segments: [u8; 32],
-    xs: Limits,
-    t: u8,
-    x: u64,
-    e: u8,
-    since: u64,
-) -> u64
-    ensures { result ≡ relaxed_by reach.now segments xs.at t x e since }
+fn relaxed_at(reach: &[u64], crew: &Crew, xs: &Limits, t: u8, k: usize) -> u64
+    requires { k < 32 }
+    ensures { result ≡ relaxed_at reach.now crew.now xs.now.at t k }
 {
+    let e = crew.events[k];
     if e >= 32 {
-        return x;
+        return xs.at[k];
     }
-    let notified = raised_limit(since, forecast(reach, segments, xs, t, e));
-    x.min(sum_of(notified, 1))
+    let notified = raised_limit(crew.since[k], forecast(reach, crew.segments, *xs, t, e));
+    xs.at[k].min(sum_of(notified, 1))
 }
 
 // One more round, from the limits of the last.
@@ -126,15 +120,7 @@ fn relaxed_limits(reach: &[u64], crew: Crew, xs: Limits, t: u8) -> Limits
 {
     let mut out = xs;
     for k in 0..usize::from(t).min(32) {
-        out.at[k] = relaxed_by(
-            reach,
-            crew.segments,
-            xs,
-            t,
-            xs.at[k],
-            crew.events[k],
-            crew.since[k],
-        );
+        out.at[k] = relaxed_at(reach, &crew, &xs, t, k);
     }
     out
 }

@@ -9,13 +9,13 @@ ghost use Rattle.early.specs.Log.{log_of};
 ghost use Rattle.early.specs.Deliver.{heard_by, swept_by, settled_by};
 ghost use Rattle.early_limits.specs.Limit.{sum_of, at_most};
 ghost use Rattle.early_limits.specs.Ahead.{event_awaited, since_awaited, crew_of};
-ghost use Rattle.early_log.specs.Spread.{log_in};
-ghost use Rattle.early_deliver.specs.Awake.{bound_limit, first_limit, first_limits, sooner_at, sooner_on, outlook_of, with_woken};
+ghost use Rattle.early_deliver.specs.Awake.{log_on, bound_limit, first_limit, first_limits, sooner_at, sooner_on, outlook_of, with_woken};
 
 use clock::{Bound, Cycle, Step, Wait};
 use early::Site;
 use early_limits::{Crew, Limits};
-use model::{State, Thread, Threads};
+use early_log::Rows;
+use model::{State, Threads};
 
 // A limit that stands for never, and the least that does so in a sum.
 const NEVER: u64 = 18446744073709551615;
@@ -32,16 +32,15 @@ pub struct Outlook {
 }
 
 // The number of threads, 32 where it is above that.
+#[tactic(auto, unfolding(early_limits::specs::Limit::at_most))]
 fn few(t: u8) -> u8
     ensures { (result ≡ at_most 32 t) × (result ≤ 32) }
 {
-    if t < 32 {
-        return t;
-    }
-    32
+    t.min(32)
 }
 
 // The event that a thread waits on, or 255.
+#[tactic(auto, unfolding(early_limits::specs::Ahead::event_awaited))]
 fn event_awaited(s: State) -> u8
     ensures { result ≡ event_awaited (awaited_by s) }
 {
@@ -52,6 +51,7 @@ fn event_awaited(s: State) -> u8
 }
 
 // The limit of the cycle in which a thread's wait began, or 0.
+#[tactic(auto, unfolding(early_limits::specs::Ahead::since_awaited))]
 fn since_awaited(s: State) -> u64
     ensures { result ≡ since_awaited (awaited_by s) }
 {
@@ -65,18 +65,14 @@ fn crew_of(threads: Threads, t: u8) -> Crew
     requires { t ≤ 32 }
     ensures { result ≡ crew_of t threads.at }
 {
-    let n = buffers::wide(t);
+    let n = usize::from(t);
     let mut segments = [0u8; 32];
     let mut events = [255u8; 32];
     let mut since = [0u64; 32];
-    let mut k = 0;
-    while k < n {
-        let x = threads.at[k];
-        let s = x.state;
+    for (k, x) in threads.at[..n].iter().enumerate() {
         segments[k] = x.segment;
-        events[k] = event_awaited(s);
-        since[k] = since_awaited(s);
-        k += 1;
+        events[k] = event_awaited(x.state);
+        since[k] = since_awaited(x.state);
     }
     Crew {
         segments,
@@ -86,13 +82,11 @@ fn crew_of(threads: Threads, t: u8) -> Crew
 }
 
 // One delta later.
+#[tactic(auto, unfolding(early_limits::specs::Limit::sum_of))]
 fn one_later(x: u64) -> u64
     ensures { result ≡ sum_of x 1 }
 {
-    if x < TOP {
-        return x + 1;
-    }
-    NEVER
+    if x < TOP { x + 1 } else { NEVER }
 }
 
 fn bound_limit(b: Bound) -> u64
@@ -105,64 +99,34 @@ fn bound_limit(b: Bound) -> u64
 }
 
 // Document 01: chains "begin at a ready thread or a logged notification"; a running thread counts at its cycle as a ready one.
-fn first_limit(
-    events: &[u8; 128],
-    times: &[u64; 128],
-    deltas: &[u32; 128],
-    logged: usize,
-    s: State,
-) -> u64
-    ensures { result ≡ first_limit (log_in events.now times.now deltas.now logged) s }
+fn first_limit(rows: &Rows, s: State) -> u64
+    ensures { result ≡ first_limit (log_on rows.now) s }
 {
     match s {
-        State::Ended(_) => NEVER,
-        State::Overrun(_) => NEVER,
-        State::Ready(c) => early_ahead::limit_of(c),
-        State::Waiting(e, since) => one_later(bound_limit(early_log::least_in(
-            events, times, deltas, logged, e, since,
-        ))),
-        State::Running(c) => early_ahead::limit_of(c),
+        State::Ended(_) | State::Overrun(_) => NEVER,
+        State::Ready(c) | State::Running(c) => early_ahead::limit_of(c),
+        State::Waiting(e, since) => one_later(bound_limit(early_log::least_in(rows, e, since))),
     }
 }
 
-fn first_limits(
-    events: &[u8; 128],
-    times: &[u64; 128],
-    deltas: &[u32; 128],
-    logged: usize,
-    threads: Threads,
-    t: u8,
-) -> Limits
+fn first_limits(rows: &Rows, threads: Threads, t: u8) -> Limits
     requires { t ≤ 32 }
-    ensures { result.at ≡ first_limits t (log_in events.now times.now deltas.now logged) threads.at }
+    ensures { result.at ≡ first_limits t (log_on rows.now) threads.at }
 {
-    let n = buffers::wide(t);
+    let n = usize::from(t);
     let mut at = [NEVER; 32];
-    let mut k = 0;
-    while k < n {
-        let x = threads.at[k];
-        let s = x.state;
-        at[k] = first_limit(events, times, deltas, logged, s);
-        k += 1;
+    for (k, x) in threads.at[..n].iter().enumerate() {
+        at[k] = first_limit(rows, x.state);
     }
     Limits { at }
 }
 
-fn outlook_with(
-    reach: &[u64],
-    events: &[u8; 128],
-    times: &[u64; 128],
-    deltas: &[u32; 128],
-    logged: usize,
-    threads: Threads,
-    t: u8,
-    heard: bool,
-) -> Outlook
+fn outlook_with(reach: &[u64], rows: &Rows, threads: Threads, t: u8, heard: bool) -> Outlook
     requires { t ≤ 32 }
-    ensures { result ≡ outlook_of reach.now t (log_in events.now times.now deltas.now logged) threads.at heard }
+    ensures { result ≡ outlook_of reach.now t (log_on rows.now) threads.at heard }
 {
     let crew = crew_of(threads, t);
-    let first = first_limits(events, times, deltas, logged, threads, t);
+    let first = first_limits(rows, threads, t);
     let limits = early_ahead::earliest(reach, crew, first, t);
     let segments = crew.segments;
     Outlook {
@@ -174,26 +138,16 @@ fn outlook_with(
 }
 
 // Document 01: "A delivery is looked for only if the thread waits".
-fn heard_by(
-    reach: &[u64],
-    events: &[u8; 128],
-    times: &[u64; 128],
-    deltas: &[u32; 128],
-    logged: usize,
-    segments: [u8; 32],
-    xs: Limits,
-    t: u8,
-    s: State,
-) -> Bound
-    ensures { result ≡ heard_by (sooner_at reach.now t segments xs.at) (log_in events.now times.now deltas.now logged) (awaited_by s) }
+fn heard_by(reach: &[u64], rows: &Rows, o: &Outlook, t: u8, s: State) -> Bound
+    ensures { result ≡ heard_by (sooner_at reach.now t o.now.segments o.now.limits.at) (log_on rows.now) (awaited_by s) }
 {
     let State::Waiting(e, since) = s else {
         return Bound::Never;
     };
-    let Bound::At(c) = early_log::least_in(events, times, deltas, logged, e, since) else {
+    let Bound::At(c) = early_log::least_in(rows, e, since) else {
         return Bound::Never;
     };
-    if early_ahead::forecast(reach, segments, xs, t, e) < early_ahead::limit_of(c) {
+    if early_ahead::forecast(reach, o.segments, o.limits, t, e) < early_ahead::limit_of(c) {
         return Bound::Never;
     }
     Bound::At(c)
@@ -210,97 +164,45 @@ fn woken_at(c: Cycle) -> State
 }
 
 // Thread k hears at c: its record anew, and what is known of the records.
-fn wake(
-    reach: &[u64],
-    events: &[u8; 128],
-    times: &[u64; 128],
-    deltas: &[u32; 128],
-    logged: usize,
-    threads: Threads,
-    t: u8,
-    k: usize,
-    c: Cycle,
-) -> Outlook
+fn wake(reach: &[u64], rows: &Rows, threads: Threads, t: u8, k: usize, c: Cycle) -> Outlook
     requires t_bound { t ≤ 32 }
     requires k_lt_t { k < t }
-    ensures { result ≡ outlook_of reach.now t (log_in events.now times.now deltas.now logged) (with_woken threads.at k c) true }
+    ensures { result ≡ outlook_of reach.now t (log_on rows.now) (with_woken threads.at k c) true }
 {
     let mut after = threads;
-    let x = after.at[k];
-    let state = woken_at(c);
-    after.at[k] = Thread {
-        segment: x.segment,
-        state,
-    };
-    outlook_with(reach, events, times, deltas, logged, after, t, true)
+    after.at[k].state = woken_at(c);
+    outlook_with(reach, rows, after, t, true)
 }
 
 // Document 01: "every thread is looked at".
-fn sweep(
-    reach: &[u64],
-    events: &[u8; 128],
-    times: &[u64; 128],
-    deltas: &[u32; 128],
-    logged: usize,
-    o: Outlook,
-    t: u8,
-) -> Outlook
+fn sweep(reach: &[u64], rows: &Rows, o: Outlook, t: u8) -> Outlook
     requires t_bound { t ≤ 32 }
-    requires o_value { o ≡ outlook_of reach.now t (log_in events.now times.now deltas.now logged) o.threads.at o.heard }
-    ensures seen { result ≡ outlook_of reach.now t (log_in events.now times.now deltas.now logged) (swept_by (sooner_on reach.now t (log_in events.now times.now deltas.now logged)) (log_in events.now times.now deltas.now logged) o.threads.at t) result.heard }
+    requires o_value { o ≡ outlook_of reach.now t (log_on rows.now) o.threads.at o.heard }
+    ensures seen { result ≡ outlook_of reach.now t (log_on rows.now) (swept_by (sooner_on reach.now t (log_on rows.now)) (log_on rows.now) o.threads.at t) result.heard }
     ensures still { result.heard ≡ false → result.threads.at ≡ o.threads.at }
 {
-    let n = buffers::wide(t);
-    let mut threads = o.threads;
-    let mut segments = o.segments;
-    let mut limits = o.limits;
-    let mut heard = false;
-    let mut k = 0;
-    while k < n {
-        let j = k;
-        let x = threads.at[j];
-        let s = x.state;
-        k += 1;
-        let Bound::At(c) = heard_by(reach, events, times, deltas, logged, segments, limits, t, s)
-        else {
+    let mut seen = Outlook { heard: false, ..o };
+    for k in 0..usize::from(t) {
+        let s = seen.threads.at[k].state;
+        let Bound::At(c) = heard_by(reach, rows, &seen, t, s) else {
             continue;
         };
-        let w = wake(reach, events, times, deltas, logged, threads, t, j, c);
-        threads = w.threads;
-        segments = w.segments;
-        limits = w.limits;
-        heard = true;
+        seen = wake(reach, rows, seen.threads, t, k, c);
     }
-    Outlook {
-        threads,
-        segments,
-        limits,
-        heard,
-    }
+    seen
 }
 
 // Document 01: "again and again until none hears anything".
-fn settle_below(
-    reach: &[u64],
-    events: &[u8; 128],
-    times: &[u64; 128],
-    deltas: &[u32; 128],
-    logged: usize,
-    threads: Threads,
-    t: u8,
-) -> Threads
+fn settle_below(reach: &[u64], rows: &Rows, threads: Threads, t: u8) -> Threads
     requires { t ≤ 32 }
-    ensures { result.at ≡ settled_by (sooner_on reach.now t (log_in events.now times.now deltas.now logged)) (log_in events.now times.now deltas.now logged) t threads.at }
+    ensures { result.at ≡ settled_by (sooner_on reach.now t (log_on rows.now)) (log_on rows.now) t threads.at }
 {
-    let n = buffers::wide(t);
-    let mut o = outlook_with(reach, events, times, deltas, logged, threads, t, false);
-    let mut i = 0;
-    while i < n {
-        o = sweep(reach, events, times, deltas, logged, o, t);
+    let mut o = outlook_with(reach, rows, threads, t, false);
+    for _ in 0..t {
+        o = sweep(reach, rows, o, t);
         if !o.heard {
             return o.threads;
         }
-        i += 1;
     }
     o.threads
 }
@@ -309,14 +211,10 @@ fn settle_below(
 pub fn floor_of(threads: Threads, t: u8) -> Bound
     ensures { result ≡ floor_below (at_most 32 t) threads.at }
 {
-    let n = buffers::wide(few(t));
+    let n = usize::from(few(t));
     let mut least = Bound::Never;
-    let mut k = 0;
-    while k < n {
-        let x = threads.at[k];
-        let s = x.state;
-        least = clock::least_of(least, model_effect::ready_cycle(s));
-        k += 1;
+    for x in &threads.at[..n] {
+        least = clock::least_of(least, model_effect::ready_cycle(x.state));
     }
     least
 }
@@ -325,29 +223,12 @@ pub fn floor_of(threads: Threads, t: u8) -> Bound
 pub fn outlook_of(reach: &[u64], site: Site, threads: Threads, t: u8) -> Outlook
     ensures { result ≡ outlook_of reach.now (at_most 32 t) (log_of site) threads.at false }
 {
-    let mut events = [0u8; 128];
-    let mut times = [0u64; 128];
-    let mut deltas = [0u32; 128];
-    let logged = early_log::spread(site, &mut events, &mut times, &mut deltas);
-    outlook_with(
-        reach,
-        &events,
-        &times,
-        &deltas,
-        logged,
-        threads,
-        few(t),
-        false,
-    )
+    outlook_with(reach, &early_log::spread(site), threads, few(t), false)
 }
 
 // The records after all deliveries.
 pub fn settle(reach: &[u64], site: Site, threads: Threads, t: u8) -> Threads
     ensures { result.at ≡ settled_by (sooner_on reach.now (at_most 32 t) (log_of site)) (log_of site) (at_most 32 t) threads.at }
 {
-    let mut events = [0u8; 128];
-    let mut times = [0u64; 128];
-    let mut deltas = [0u32; 128];
-    let logged = early_log::spread(site, &mut events, &mut times, &mut deltas);
-    settle_below(reach, &events, &times, &deltas, logged, threads, few(t))
+    settle_below(reach, &early_log::spread(site), threads, few(t))
 }

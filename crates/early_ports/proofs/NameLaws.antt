@@ -4,18 +4,23 @@
 --     names_for-none, names_for-word     a buffer of zeros, as `fill_names` leaves it
 use Prim.Native.Nat.{ℕ, zero, suc, ◌+◌, ◌*◌, ◌-◌, ◌≤◌, ◌<◌, ◌^◌, min}
 use mathlib.Core.Path.{◌≡◌, refl, ap, ap₂, sym, ◌∙◌}
-use mathlib.Core.Logic.{inl}
+use mathlib.Core.Logic.{◌⊎◌, inl, inr}
 use mathlib.Core.Bool.{Bool, true, false, not, cond, ◌&&◌, ◌||◌, or-false, or_self, or_self_left}
 use mathlib.Core.List.{List, [], ◌∷◌, ◌++◌}
 use native.Mathlib.Omega.{arith}
 use native.Mathlib.Numerals.{add-one}
 use native.Mathlib.Decide.{dec_lt, ℕ_discrete}
 use lib.Bits.{bit_or, or_lt}
-use lib.Dec.{eqb}
-use lib.ListN.{length, get_or, take}
-use lib.Seq.{take-suc, take_all}
+use lib.Dec.{T, eqb}
+use lib.ListN.{length, get_or, take, length-take}
+use lib.Seq.{take-suc, take_all, get_or-take}
+use Rattle.std.specs.List.{list_any}
+use Rattle.std.proofs.lemmas.List.Elements.{All-from_get_or}
+use Rattle.std.proofs.lemmas.List.Folds.{list_any_at, list_any_none}
 use borrow.Author.Tests.{lt-ltb, le-ltb, eq-eqb, ne_eqb}
-use Rattle.base.proofs.IndexLaws.{store_to-length, store_to-other, store_to-at}
+use Rattle.base.specs.Index.{any_below}
+use Rattle.base.proofs.BoolLaws.{T-case, T→true, T→false}
+use Rattle.base.proofs.IndexLaws.{any_below-some, any_below-none, store_to-length, store_to-other, store_to-at}
 use Rattle.masks.specs.Mask.{bit_at, with_bit}
 use Rattle.masks.proofs.MaskLaws.{bit_at-zero, bit_at-or, bit_at-with_bit-below, with_bit-lt}
 use Rattle.model.specs.declared.Op.{Op}
@@ -25,7 +30,9 @@ use Rattle.model.specs.declared.Closer.{Closer}
 use Rattle.model.specs.declared.Closer.TheVariants.{End, Time, Event}
 use Rattle.model.specs.declared.Segment.{Segment}
 use Rattle.model.specs.declared.Model.{Model}
-use Rattle.model.specs.Values.{segment_at, body_of}
+use Rattle.model.specs.declared.Start.{Start}
+use Rattle.model.specs.Port.{uses_ports}
+use Rattle.model.specs.Values.{no_start, segment_at, body_of}
 use Rattle.model.specs.Footprint.{writes_op, reads_op, writes, reads, tests, tests_next, writes_of, uses_of}
 use Rattle.early_ports.specs.Names.{bit_from, read_from, op_names, test_name, names_in, names_of, name_word, stretch, stretches, any_ports, names_for}
 
@@ -49,9 +56,12 @@ unfolding names_in
 names_in-none from b xs = refl
 
 pub names_in-more :
-    (from : ℕ) (b : Bool) (xs : List Statement) (j : ℕ) (d : Statement) (w o : ℕ) → j < length xs → w ≡ names_in from b 0 (take j xs) →
-    o ≡ op_names from b (get_or xs j d).op → bit_or w o ≡ names_in from b 0 (take (j + 1) xs)
-names_in-more from b xs j d w o h e f = rw (add-one, take-suc xs j d h, names_in-last from b 0 (take j xs) (get_or xs j d)) (ap₂ bit_or e f)
+    (from : ℕ) (b : Bool) (xs : List Statement) (n j : ℕ) (d : Statement) (w o : ℕ) → j < length (take n xs) → w ≡ names_in from b 0 (take j xs) →
+    o ≡ op_names from b (get_or (take n xs) j d).op → bit_or w o ≡ names_in from b 0 (take (j + 1) xs)
+names_in-more from b xs n j d w o h e f =
+    let size = length-take n xs in
+    let read = get_or-take n xs j d (omega arith) in
+    rw (add-one, take-suc xs j d (omega arith), names_in-last from b 0 (take j xs) (get_or xs j d)) (ap₂ bit_or e (rw read at f))
 
 pub names_of-made :
     (from : ℕ) (b : Bool) (g : Segment) (j w o : ℕ) → length g.statements ≡ 32 → j ≡ min g.n 32 → w ≡ names_in from b 0 (take j g.statements) →
@@ -62,6 +72,25 @@ names_of-made from b g j w o size h e f = ap₂ bit_or (e ∙ ap (names_in from 
     go : Dec (g.n < 32) → take j g.statements ≡ take g.n g.statements
     go (yes l) = let i : j ≡ g.n = omega arith in rw i
     go (no l) = take_all j g.statements (omega arith) ∙ sym (take_all g.n g.statements (omega arith))
+
+-- a list searched by a test, and an index searched by one
+list_any-below :
+    {A : Type 0} (p : A → Bool) (xs : List A) (d : A) (n : ℕ) (f : ℕ → Bool) → length xs ≡ n → ((i : ℕ) → i < n → p (get_or xs i d) ≡ f i) → list_any p xs ≡ any_below n f
+list_any-below p xs d n f e h = go (T-case (any_below n f))
+  where
+    go : T (any_below n f) ⊎ T (not (any_below n f)) → list_any p xs ≡ any_below n f
+    go (inl t) = let (i, l, u) = any_below-some n f t in list_any_at p xs i d (omega arith) (h i l ∙ T→true (f i) u) ∙ sym (T→true (any_below n f) t)
+    go (inr t) =
+        list_any_none p xs (All-from_get_or (λ x. p x ≡ false) xs d (λ i l. h i (omega arith) ∙ T→false (f i) (any_below-none n f t i (omega arith))))
+        ∙ sym (T→false (any_below n f) t)
+
+-- the threads
+pub any_ports-list : (starts : List Start) (t n : ℕ) → length starts ≡ 32 → n ≡ min t 32 → list_any (λ (x : Start). uses_ports x.ports) (take n starts) ≡ any_ports starts t
+unfolding any_ports
+any_ports-list starts t n size e =
+    let front = length-take n starts in
+    list_any-below (λ (x : Start). uses_ports x.ports) (take n starts) no_start (min t 32) (λ k. uses_ports (get_or starts k no_start).ports) (omega arith)
+    (λ i l. ap (λ (x : Start). uses_ports x.ports) (get_or-take n starts i no_start (omega arith)))
 
 -- a number x is bit v where it is from + v
 

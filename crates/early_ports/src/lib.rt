@@ -17,57 +17,53 @@ pub struct Footprint {
     pub ported: u64,
 }
 
-// The lesser of a count and the number of places.
-fn places(n: u8, most: usize) -> usize
-    ensures { result ≡ min n most }
-{
-    let count = n as usize;
-    if count < most {
-        return count;
-    }
-    most
+// What is asked of a segment: the numbers from a first one on that it writes, or those that it writes, reads or tests.
+#[derive(Clone, Copy)]
+struct Asked {
+    from: u32,
+    written: bool,
 }
 
-// Number x as bit x - from; none where there is no such bit.
-fn bit_from(from: u32, x: u32) -> u64
-    ensures { result ≡ bit_from from x }
-{
-    if x < from {
-        return 0;
-    }
-    masks::with(0, (x - from) as usize)
-}
-
-// A number that is read: none where only those written are asked for.
-fn read_from(from: u32, x: u32, written: bool) -> u64
-    ensures { result ≡ read_from from written x }
-{
-    if written {
-        return 0;
-    }
-    bit_from(from, x)
-}
-
-// The numbers that an operation writes, or those that it writes or reads; b is the whole 32-bit number.
-fn op_names(op: Op, from: u32, written: bool) -> u64
-    ensures { result ≡ op_names from written op }
-{
-    match op {
-        Op::Set(a, _) | Op::Add(a, _) => bit_from(from, a as u32),
-        Op::Copy(a, b) | Op::AddVariable(a, b) | Op::SubVariable(a, b) => {
-            bit_from(from, a as u32) | read_from(from, b, written)
+impl Asked {
+    // Number x as bit x - from; none where there is no such bit.
+    fn bit(self, x: u32) -> u64
+        ensures { result ≡ bit_from self.from x }
+    {
+        if x < self.from {
+            0
+        } else {
+            masks::with(0, (x - self.from) as usize)
         }
-        Op::Notify(_) => 0,
     }
-}
 
-// Document 01: "The test variable counts as read."
-fn test_name(closer: Closer, from: u32, written: bool) -> u64
-    ensures { result ≡ test_name from written closer }
-{
-    match closer {
-        Closer::End => 0,
-        Closer::Time(_, x) | Closer::Event(_, x) => read_from(from, x.test as u32, written),
+    // A number that is read: none where only those written are asked for.
+    fn read(self, x: u32) -> u64
+        ensures { result ≡ read_from self.from self.written x }
+    {
+        if self.written { 0 } else { self.bit(x) }
+    }
+
+    // Of an operation; b is the whole 32-bit number.
+    fn op(self, op: Op) -> u64
+        ensures { result ≡ op_names self.from self.written op }
+    {
+        match op {
+            Op::Set(a, _) | Op::Add(a, _) => self.bit(u32::from(a)),
+            Op::Copy(a, b) | Op::AddVariable(a, b) | Op::SubVariable(a, b) => {
+                self.bit(u32::from(a)) | self.read(b)
+            }
+            Op::Notify(_) => 0,
+        }
+    }
+
+    // Document 01: "The test variable counts as read."
+    fn test(self, closer: Closer) -> u64
+        ensures { result ≡ test_name self.from self.written closer }
+    {
+        match closer {
+            Closer::End => 0,
+            Closer::Time(_, x) | Closer::Event(_, x) => self.read(u32::from(x.test)),
+        }
     }
 }
 
@@ -75,17 +71,12 @@ fn test_name(closer: Closer, from: u32, written: bool) -> u64
 pub fn names_of(g: Segment, from: u32, written: bool) -> u64
     ensures { result ≡ names_of from written g }
 {
-    let n = places(g.n, 32);
+    let asked = Asked { from, written };
     let mut w = 0;
-    let mut j = 0;
-    while j < n {
-        let x = g.statements[j];
-        let op = x.op;
-        w = w | op_names(op, from, written);
-        j += 1;
+    for x in &g.statements[..usize::from(g.n).min(32)] {
+        w |= asked.op(x.op);
     }
-    let closer = g.closer;
-    w | test_name(closer, from, written)
+    w | asked.test(g.closer)
 }
 
 // Word q of a segment: the variables that it writes, those that it uses, the ports that it writes, those that it uses.
@@ -93,9 +84,10 @@ fn name_word(g: Segment, q: usize) -> u64
     ensures { result ≡ name_word q g }
 {
     if q < 2 {
-        return names_of(g, 0, q == 0);
+        names_of(g, 0, q == 0)
+    } else {
+        names_of(g, 128, q == 2)
     }
-    names_of(g, 128, q == 2)
 }
 
 // Word q of each segment, from place 64 × q on.
@@ -103,11 +95,8 @@ fn fill_stretch(m: Model, names: &mut [u64], n: usize, q: usize)
     requires { (n ≤ 64) × (q < 4) × (256 ≤ length names.old) }
     ensures { names.new ≡ stretch m n names.old q }
 {
-    let mut s = 0;
-    while s < n {
-        let g = m.segments[s];
-        names[64 * q + s] = name_word(g, q);
-        s += 1;
+    for (s, g) in m.segments[..n].iter().enumerate() {
+        names[64 * q + s] = name_word(*g, q);
     }
 }
 
@@ -116,54 +105,37 @@ pub fn segment_for(ports: [u8; 8], g: Segment) -> Segment
     ensures { result ≡ segment_with ports g }
 {
     if model_effect::uses_ports(ports) {
-        return model_effect::mapped_segment(ports, g);
+        model_effect::mapped_segment(ports, g)
+    } else {
+        g
     }
-    g
 }
 
 // The ports of thread k; none past the threads.
 pub fn ports_of(starts: [Start; 32], k: usize) -> [u8; 8]
     ensures { result ≡ ports_in starts k }
 {
-    if k < 32 {
-        let x = starts[k];
-        return x.ports;
-    }
-    [255; 8]
+    if k < 32 { starts[k].ports } else { [255; 8] }
 }
 
 fn any_ports(starts: [Start; 32], t: u8) -> bool
     ensures { result ≡ any_ports starts t }
 {
-    let n = places(t, 32);
-    let mut k = 0;
-    while k < n {
-        let x = starts[k];
-        let ports = x.ports;
-        if model_effect::uses_ports(ports) {
-            return true;
-        }
-        k += 1;
-    }
-    false
+    starts[..usize::from(t).min(32)]
+        .iter()
+        .any(|x| model_effect::uses_ports(x.ports))
 }
 
 // Four stretches of 64 words, in a buffer of zeros. Where no thread uses a port, or the buffer is too short, it stays.
 pub fn fill_names(m: Model, names: &mut [u64])
     ensures { names.new ≡ names_for m names.old }
 {
-    if names.len() < 256 {
+    if names.len() < 256 || !any_ports(m.starts, m.t) {
         return;
     }
-    let starts = m.starts;
-    if !any_ports(starts, m.t) {
-        return;
-    }
-    let n = places(m.n, 64);
-    let mut q = 0;
-    while q < 4 {
+    let n = usize::from(m.n).min(64);
+    for q in 0..4 {
         fill_stretch(m, names, n, q);
-        q += 1;
     }
 }
 
@@ -175,10 +147,8 @@ fn map_bits(ports: [u8; 8], w: u64) -> u64
         return 0;
     }
     let mut out = 0;
-    let mut p = 0;
-    while p < 8 {
-        out = masks::with_if(out, ports[p] as usize, masks::has(w, p));
-        p += 1;
+    for (p, port) in ports.iter().enumerate() {
+        out = masks::with_if(out, usize::from(*port), masks::has(w, p));
     }
     out
 }

@@ -3,6 +3,7 @@
 
 ghost use Rattle.std.specs.Prelude.{ℕ, ◌+◌, ◌-◌, ◌<◌, ◌≤◌, ◌≡◌, ◌++◌, length, replicate};
 ghost use Rattle.base.specs.Index.{tabulate};
+ghost use Rattle.refusal.specs.Number.{number_told};
 ghost use Rattle.model.specs.Values.{no_segment, no_start};
 ghost use Rattle.reader.specs.Statement.{op_of};
 ghost use Rattle.export_model.specs.Numbers.{number_at, count_n, count_t, segment_place, start_place, port_place, size_of, next_held, closer_held};
@@ -10,6 +11,7 @@ ghost use Rattle.export_model.specs.Judged.{parts_fault, numbers_number, segment
 
 use clock::{Delay, Time};
 use model::{Closer, Model, Next, Op, Segment, Start, Statement};
+use refusal::Refusal;
 use std::array;
 
 // What comes after the closer at p.
@@ -126,27 +128,24 @@ fn model_kept(xs: &[u32]) -> Model
 }
 
 // Numbers that hold a model, judged: 11 where the slice is shorter than its counts ask for, then the first fault in file order.
-pub fn held_number(xs: &[u32]) -> u8
-    ensures { result ≡ numbers_number xs.now }
+pub fn held_number(xs: &[u32]) -> Result<(), Refusal>
+    ensures { number_told result ≡ numbers_number xs.now }
 {
     let n = buffers::value_at(xs, 3) as usize;
     let t = buffers::value_at(xs, 4) as usize;
     if xs.len() < 5 + 104 * n + 9 * t {
-        return 11;
+        return Err(Refusal::Unfit);
     }
-    let fault = export_judge::parts_fault(xs, n, t);
-    if fault != 0 {
-        return fault;
-    }
+    export_judge::parts_fault(xs, n, t)?;
     model_rules::lack_fault(model_kept(xs))
 }
 
-// The model that the numbers hold; zero where there is a number.
+// The model that the numbers hold; zero where they are refused.
 pub fn model_held(xs: &[u32]) -> Model
     ensures { result ≡ held_or xs.now }
 {
-    if held_number(xs) != 0 {
-        return model_effect::no_model();
+    match held_number(xs) {
+        Ok(()) => model_kept(xs),
+        Err(_) => model_effect::no_model(),
     }
-    model_kept(xs)
 }

@@ -3,6 +3,7 @@
 
 ghost use Rattle.std.specs.Prelude.{◌+◌, ◌≤◌, ◌≡◌, not, ltb, eqb, length};
 ghost use Rattle.base.specs.Index.{any_below, or_else, first_below, tabulate};
+ghost use Rattle.refusal.specs.Number.{number_told};
 ghost use Rattle.model.specs.Refusal.{wrong_closer, wrong_name};
 ghost use Rattle.model.specs.Rules.{unless, head_fault, choice_fault, is_name, test_fault, closer_fault, op_fault, ports_fault, leaves_model};
 ghost use Rattle.reader.specs.Closer.{closer_form_fault};
@@ -11,6 +12,7 @@ ghost use Rattle.export_model.specs.Numbers.{number_at, count_n, count_t, segmen
 ghost use Rattle.export_model.specs.Judged.{closer_numbers_fault, op_numbers_fault, segment_numbers_fault, start_numbers_fault, count_numbers_fault, target_numbers_fault, parts_fault};
 
 use model::LARGEST_TIME;
+use refusal::Refusal;
 
 pub fn size_of(x: u32) -> usize
     ensures { (result ≡ x) × (result ≤ 4294967295) }
@@ -26,12 +28,15 @@ fn is_name(v: u32, x: u32) -> bool
 }
 
 // 4 where the horizon or a count is out of range.
-fn head_fault(xs: &[u32]) -> u8
+fn head_fault(xs: &[u32]) -> Result<(), Refusal>
     requires { 5 ≤ length xs.now }
-    ensures { result ≡ head_fault (number_at xs.now 0) (number_at xs.now 1) (number_at xs.now 2) }
+    ensures { number_told result ≡ head_fault (number_at xs.now 0) (number_at xs.now 1) (number_at xs.now 2) }
 {
     let h = u64::from(xs[0]);
-    model_rules::unless(1 <= h && h <= LARGEST_TIME && xs[1] <= 64 && xs[2] <= 32, 4)
+    model_rules::unless(
+        1 <= h && h <= LARGEST_TIME && xs[1] <= 64 && xs[2] <= 32,
+        Refusal::WrongCount,
+    )
 }
 
 // Whether all of a closer but its kind is 0.
@@ -43,9 +48,9 @@ fn rest_is_zero(xs: &[u32], p: usize) -> bool
 }
 
 // 5 where the numbers break a rule that a declared closer cannot.
-fn closer_form_fault(xs: &[u32], p: usize) -> u8
+fn closer_form_fault(xs: &[u32], p: usize) -> Result<(), Refusal>
     requires { p + 104 ≤ length xs.now }
-    ensures { result ≡ closer_form_fault (number_at xs.now p) (number_at xs.now (p + 1)) (number_at xs.now (p + 2)) (not (any_below 6 (λ i. not (eqb (number_at xs.now (p + 1 + i)) 0)))) }
+    ensures { number_told result ≡ closer_form_fault (number_at xs.now p) (number_at xs.now (p + 1)) (number_at xs.now (p + 2)) (not (any_below 6 (λ i. not (eqb (number_at xs.now (p + 1 + i)) 0)))) }
 {
     let kept = match xs[p] {
         0 => rest_is_zero(xs, p),
@@ -53,176 +58,150 @@ fn closer_form_fault(xs: &[u32], p: usize) -> u8
         2 => xs[p + 2] == 0,
         _ => false,
     };
-    model_rules::unless(kept, 5)
+    model_rules::unless(kept, Refusal::WrongCloser)
 }
 
 // 5 where the delay is too long, or there is no test and B is not A or the limit not 0; then 7 where the event is not below
 // E, or the test variable neither below V nor a port.
-fn next_fault(xs: &[u32], p: usize, short: bool, named: bool) -> u8
+fn next_fault(xs: &[u32], p: usize, short: bool, named: bool) -> Result<(), Refusal>
     requires { p + 104 ≤ length xs.now }
-    ensures { result ≡ or_else (unless short wrong_closer) (or_else (choice_fault (next_held xs.now p)) (or_else (unless named wrong_name) (test_fault (number_at xs.now 1) (next_held xs.now p)))) }
+    ensures { number_told result ≡ or_else (unless short wrong_closer) (or_else (choice_fault (next_held xs.now p)) (or_else (unless named wrong_name) (test_fault (number_at xs.now 1) (next_held xs.now p)))) }
 {
     let test = xs[p + 5];
     let untested = test == 255;
-    let choice = model_rules::unless(
+    model_rules::unless(
         short && (!untested || (xs[p + 4] == xs[p + 3] && xs[p + 6] == 0)),
-        5,
-    );
-    if choice != 0 {
-        return choice;
-    }
-    model_rules::unless(named && (untested || is_name(xs[1], test)), 7)
+        Refusal::WrongCloser,
+    )?;
+    model_rules::unless(
+        named && (untested || is_name(xs[1], test)),
+        Refusal::WrongName,
+    )
 }
 
 // The closer's 5 and 7 as a value.
-fn closer_value_fault(xs: &[u32], p: usize) -> u8
+fn closer_value_fault(xs: &[u32], p: usize) -> Result<(), Refusal>
     requires { p + 104 ≤ length xs.now }
-    ensures { result ≡ closer_fault (number_at xs.now 1) (number_at xs.now 2) (closer_held xs.now p) }
+    ensures { number_told result ≡ closer_fault (number_at xs.now 1) (number_at xs.now 2) (closer_held xs.now p) }
 {
     match xs[p] {
         1 => next_fault(xs, p, u64::from(xs[p + 2]) <= LARGEST_TIME, true),
         2 => next_fault(xs, p, true, xs[p + 1] < xs[2]),
-        _ => 0,
+        _ => Ok(()),
     }
 }
 
 // The closer's 5 and 7.
-fn closer_fault(xs: &[u32], p: usize) -> u8
+fn closer_fault(xs: &[u32], p: usize) -> Result<(), Refusal>
     requires { p + 104 ≤ length xs.now }
-    ensures { result ≡ closer_numbers_fault xs.now p }
+    ensures { number_told result ≡ closer_numbers_fault xs.now p }
 {
-    let form = closer_form_fault(xs, p);
-    if form != 0 {
-        return form;
-    }
+    closer_form_fault(xs, p)?;
     closer_value_fault(xs, p)
 }
 
 // A statement's 6: an operation outside 1 to 6, or b not 0 in a notify.
-fn op_form_fault(op: u32, b: u32) -> u8
-    ensures { result ≡ op_form_fault op b }
+fn op_form_fault(op: u32, b: u32) -> Result<(), Refusal>
+    ensures { number_told result ≡ op_form_fault op b }
 {
-    model_rules::unless(1 <= op && op <= 6 && (op != 6 || b == 0), 6)
+    model_rules::unless(
+        1 <= op && op <= 6 && (op != 6 || b == 0),
+        Refusal::WrongStatement,
+    )
 }
 
 // A statement's 7.
-fn op_value_fault(v: u32, e: u32, op: u32, a: u32, b: u32) -> u8
-    ensures { result ≡ op_fault v e (op_of op a b) }
+fn op_value_fault(v: u32, e: u32, op: u32, a: u32, b: u32) -> Result<(), Refusal>
+    ensures { number_told result ≡ op_fault v e (op_of op a b) }
 {
     let named = match op {
         1 | 2 => is_name(v, a),
         3..=5 => is_name(v, a) && is_name(v, b),
         _ => a < e,
     };
-    model_rules::unless(named, 7)
+    model_rules::unless(named, Refusal::WrongName)
 }
 
 // A statement's 6 and 7.
-fn op_fault(xs: &[u32], p: usize) -> u8
+fn op_fault(xs: &[u32], p: usize) -> Result<(), Refusal>
     requires { p + 3 ≤ length xs.now }
-    ensures { result ≡ op_numbers_fault xs.now p }
+    ensures { number_told result ≡ op_numbers_fault xs.now p }
 {
-    let op = xs[p];
-    let b = xs[p + 2];
-    let form = op_form_fault(op, b);
-    if form != 0 {
-        return form;
-    }
-    op_value_fault(xs[1], xs[2], op, xs[p + 1], b)
+    op_form_fault(xs[p], xs[p + 2])?;
+    op_value_fault(xs[1], xs[2], xs[p], xs[p + 1], xs[p + 2])
 }
 
 // The first fault of n statements of segment i.
-fn statements_fault(xs: &[u32], i: usize, n: usize) -> u8
+fn statements_fault(xs: &[u32], i: usize, n: usize) -> Result<(), Refusal>
     requires { (segment_place i + 104 ≤ length xs.now) × (n ≤ 32) }
-    ensures { result ≡ first_below n (λ j. op_numbers_fault xs.now (statement_place i j)) }
+    ensures { number_told result ≡ first_below n (λ j. op_numbers_fault xs.now (statement_place i j)) }
 {
     for j in 0..n {
-        let fault = op_fault(xs, 5 + 104 * i + 8 + 3 * j);
-        if fault != 0 {
-            return fault;
-        }
+        op_fault(xs, 5 + 104 * i + 8 + 3 * j)?;
     }
-    0
+    Ok(())
 }
 
 // A segment's 3, its 4, its closer's 5 and 7, then 6 and 7 of each statement.
-fn segment_fault(xs: &[u32], i: usize) -> u8
+fn segment_fault(xs: &[u32], i: usize) -> Result<(), Refusal>
     requires { segment_place i + 104 ≤ length xs.now }
-    ensures { result ≡ segment_numbers_fault xs.now i }
+    ensures { number_told result ≡ segment_numbers_fault xs.now i }
 {
     let p = 5 + 104 * i;
     let n = xs[p + 7] as usize;
-    if 32 < n {
-        return 3;
-    }
-    if 64 <= i {
-        return 4;
-    }
-    let closer = closer_fault(xs, p);
-    if closer != 0 {
-        return closer;
-    }
+    model_rules::unless(n <= 32, Refusal::WrongLength)?;
+    model_rules::unless(i < 64, Refusal::WrongCount)?;
+    closer_fault(xs, p)?;
     statements_fault(xs, i, n)
 }
 
 // The first fault of n segments.
-fn segments_fault(xs: &[u32], n: usize) -> u8
+fn segments_fault(xs: &[u32], n: usize) -> Result<(), Refusal>
     requires { segment_place n ≤ length xs.now }
-    ensures { result ≡ first_below n (λ i. segment_numbers_fault xs.now i) }
+    ensures { number_told result ≡ first_below n (λ i. segment_numbers_fault xs.now i) }
 {
     for i in 0..n {
-        let fault = segment_fault(xs, i);
-        if fault != 0 {
-            return fault;
-        }
+        segment_fault(xs, i)?;
     }
-    0
+    Ok(())
 }
 
 // 17 where one of the eight ports from place p on is neither unused nor a variable of the model.
-fn ports_fault(xs: &[u32], p: usize) -> u8
+fn ports_fault(xs: &[u32], p: usize) -> Result<(), Refusal>
     requires { (5 ≤ p) × (p + 8 ≤ length xs.now) }
-    ensures { result ≡ ports_fault (number_at xs.now 1) (tabulate 8 0 (λ i. number_at xs.now (p + i))) }
+    ensures { number_told result ≡ ports_fault (number_at xs.now 1) (tabulate 8 0 (λ i. number_at xs.now (p + i))) }
 {
     let v = xs[1];
     let kept = xs[p..p + 8].iter().all(|x| *x == 255 || *x < v);
-    model_rules::unless(kept, 17)
+    model_rules::unless(kept, Refusal::WrongPort)
 }
 
 // A thread's 4, then its ports' 17.
-fn start_fault(xs: &[u32], n: usize, k: usize) -> u8
+fn start_fault(xs: &[u32], n: usize, k: usize) -> Result<(), Refusal>
     requires { (start_place n k + 9 ≤ length xs.now) × (n ≡ count_n xs.now) }
-    ensures { result ≡ start_numbers_fault xs.now k }
+    ensures { number_told result ≡ start_numbers_fault xs.now k }
 {
-    if 32 <= k {
-        return 4;
-    }
+    model_rules::unless(k < 32, Refusal::WrongCount)?;
     ports_fault(xs, 5 + 104 * n + 9 * k + 1)
 }
 
 // The first fault of t threads.
-fn starts_fault(xs: &[u32], n: usize, t: usize) -> u8
+fn starts_fault(xs: &[u32], n: usize, t: usize) -> Result<(), Refusal>
     requires { (size_of n t ≤ length xs.now) × (n ≡ count_n xs.now) }
-    ensures { result ≡ first_below t (λ k. start_numbers_fault xs.now k) }
+    ensures { number_told result ≡ first_below t (λ k. start_numbers_fault xs.now k) }
 {
     for k in 0..t {
-        let fault = start_fault(xs, n, k);
-        if fault != 0 {
-            return fault;
-        }
+        start_fault(xs, n, k)?;
     }
-    0
+    Ok(())
 }
 
 // 2 for no segment or no thread, then thread by thread.
-fn counts_fault(xs: &[u32], n: usize, t: usize) -> u8
+fn counts_fault(xs: &[u32], n: usize, t: usize) -> Result<(), Refusal>
     requires { (size_of n t ≤ length xs.now) × (n ≡ count_n xs.now) × (t ≡ count_t xs.now) }
-    ensures { result ≡ count_numbers_fault xs.now }
+    ensures { number_told result ≡ count_numbers_fault xs.now }
 {
-    let none = model_rules::unless(1 <= n && 1 <= t, 2);
-    if none != 0 {
-        return none;
-    }
+    model_rules::unless(1 <= n && 1 <= t, Refusal::WrongKind)?;
     starts_fault(xs, n, t)
 }
 
@@ -250,32 +229,23 @@ fn any_start_leaves(xs: &[u32], n: usize, t: usize) -> bool
 }
 
 // 8 where a next or first segment is not below N.
-fn targets_fault(xs: &[u32], n: usize, t: usize) -> u8
+fn targets_fault(xs: &[u32], n: usize, t: usize) -> Result<(), Refusal>
     requires { (size_of n t ≤ length xs.now) × (n ≡ count_n xs.now) × (t ≡ count_t xs.now) }
-    ensures { result ≡ target_numbers_fault xs.now }
+    ensures { number_told result ≡ target_numbers_fault xs.now }
 {
     model_rules::unless(
         !(any_segment_leaves(xs, n) || any_start_leaves(xs, n, t)),
-        8,
+        Refusal::WrongTarget,
     )
 }
 
 // The first fault in file order, up to 8, in a slice that is long enough.
-pub fn parts_fault(xs: &[u32], n: usize, t: usize) -> u8
+pub fn parts_fault(xs: &[u32], n: usize, t: usize) -> Result<(), Refusal>
     requires { (size_of n t ≤ length xs.now) × (n ≡ count_n xs.now) × (t ≡ count_t xs.now) }
-    ensures { result ≡ parts_fault xs.now }
+    ensures { number_told result ≡ parts_fault xs.now }
 {
-    let head = head_fault(xs);
-    if head != 0 {
-        return head;
-    }
-    let segments = segments_fault(xs, n);
-    if segments != 0 {
-        return segments;
-    }
-    let counts = counts_fault(xs, n, t);
-    if counts != 0 {
-        return counts;
-    }
+    head_fault(xs)?;
+    segments_fault(xs, n)?;
+    counts_fault(xs, n, t)?;
     targets_fault(xs, n, t)
 }

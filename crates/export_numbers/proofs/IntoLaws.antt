@@ -1,4 +1,5 @@
 -- The numbers of a model: how many there are, and that the loops store them all.
+--     told-none, told-some     an answer that may be a refusal
 --     stored-length, joined-start, -more, -length, -put     runs of stores
 --     closer_numbers-length, op_numbers-length, start_numbers-length, segment_numbers-length
 --     front_to-none, front_to-more, front_to-all     a segment with its first statements
@@ -7,7 +8,7 @@
 --     numbers_of-length, writes-model, writes-few, writes-none     the whole
 use Prim.Native.Nat.{ℕ, zero, suc, ◌+◌, ◌-◌, ◌*◌, ◌<◌, ◌≤◌}
 use mathlib.Core.Path.{◌≡◌, refl, sym, ap, ◌∙◌}
-use mathlib.Core.Bool.{cond}
+use mathlib.Core.Bool.{true, false, cond}
 use mathlib.Core.List.{List, [], ◌∷◌, ◌++◌, append-nil, append_assoc}
 use native.Mathlib.Nat.{zero-add}
 use native.Mathlib.Numerals.{add-one}
@@ -16,7 +17,12 @@ use lib.Dec.{eqb}
 use lib.ListN.{length, get_or, set, take, drop, replicate, length-append, length-replicate, length-take}
 use lib.Seq.{sets, sets-eq, length-sets, get_or-take}
 use borrow.Author.Tests.{eq-eqb, ne_eqb}
+use Rattle.std.specs.Prelude.{Result, Ok, Err}
+use Rattle.std.specs.Result.{is_err}
 use Rattle.base.specs.Index.{tabulate}
+use Rattle.refusal.specs.declared.Refusal.{Refusal}
+use Rattle.refusal.specs.Number.{number_told}
+use Rattle.refusal.proofs.NumberLaws.{number_of-not_0}
 use Rattle.model.specs.declared.Op.{Op}
 use Rattle.model.specs.declared.Op.TheVariants.{Set, Add, Copy, AddVariable, SubVariable, Notify}
 use Rattle.model.specs.declared.Closer.{Closer}
@@ -33,6 +39,15 @@ use Rattle.model_rules.proofs.FaultLaws.{segment_at-read, start_at-read}
 use Rattle.model_rules.proofs.RuleLaws.{model_fault-statements}
 use Rattle.writer.specs.Bytes.{joined}
 use Rattle.export_model.specs.Numbers.{size_of, segment_place, next_numbers, closer_numbers, op_numbers, segment_numbers, start_numbers, numbers_of}
+
+-- whether an answer is a refusal, by its number
+pub told-none : {A : Type 0} (a : Result A Refusal) → is_err a ≡ false → number_told a ≡ 0
+told-none (Ok x) e = refl
+told-none (Err r) e = cc
+
+pub told-some : {A : Type 0} (a : Result A Refusal) → is_err a ≡ true → number_told a ≡ 0 → ⊥
+told-some (Ok x) e z = cc
+told-some (Err r) e z = number_of-not_0 r z
 
 -- runs of stores
 pub stored-length : (l out xs : List ℕ) (i : ℕ) → out ≡ sets l i xs → length out ≡ length l

@@ -121,7 +121,7 @@ fn put_starts(m: Model, xs: &mut [u32])
 pub fn numbers_into(m: Model, xs: &mut [u32]) -> usize
     ensures { Writes xs.old xs.new result (cond (eqb (model_fault m) 0) (numbers_of m) []) }
 {
-    if model_rules::model_fault(m) != 0 {
+    if model_rules::model_fault(m).is_err() {
         return 0;
     }
     let size = 5 + 104 * usize::from(m.n) + 9 * usize::from(m.t);

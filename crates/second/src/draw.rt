@@ -3,7 +3,7 @@ ghost use Rattle.std.specs.Prelude.{◌≡◌, ◌-◌, ◌%◌, ◌<◌, ◌≤
 
 use crate::graph::{Graph, Mapped};
 use crate::simulator;
-use crate::simulator::NEVER;
+use crate::simulator::NO_PORTS;
 
 // Rows of eight, one of which is drawn. Ten rows for each family: horizon, V, E, N, T, the most statements of a segment,
 // and, of a hundred, how many statements notify, how many closers end, how many more wait on an event; last the row of delays.
@@ -241,7 +241,7 @@ impl Writer<'_> {
     fn put_thread(&mut self, first: u64, ports: u64) {
         self.put_head(5, 3);
         self.put(1, first);
-        if ports != NEVER {
+        if ports != NO_PORTS {
             self.put_head(12, 5);
             self.put(8, ports);
         }
@@ -396,10 +396,10 @@ impl Shape {
     fn drawn_ports(&self, graph: &Graph, seed: u64, s: u64) -> u64 {
         let unused = Mapped {
             segment: s,
-            ports: NEVER,
+            ports: NO_PORTS,
         };
         if self.named == 0 || !graph.lacks(unused) && pick(seed, 40, 2) == 0 {
-            return NEVER;
+            return NO_PORTS;
         }
         let mut ports = [0u8; 8];
         for (p, port) in ports.iter_mut().enumerate() {

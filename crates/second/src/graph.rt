@@ -330,7 +330,7 @@ impl Graph {
 
     // "a conflict through a port", one that the first segment names.
     fn meets(&self, mapped: Mapped, other: Mapped) -> bool {
-        mapped.ports != NEVER && (0..8).any(|p| self.meets_by(mapped, p, other))
+        mapped.ports != simulator::NO_PORTS && (0..8).any(|p| self.meets_by(mapped, p, other))
     }
 
     // "a hazard goes by them or by a conflict through a port": segments of two threads.

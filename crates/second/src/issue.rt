@@ -5,7 +5,7 @@ ghost use Rattle.second.specs.Desk.{sooner_of, floor_to};
 
 use crate::graph::Graph;
 use crate::number::{at, put};
-use crate::simulator::{NEVER, State, is_due, key_of, record_at, segment_of, state_of};
+use crate::simulator::{NEVER, Runner, State, is_due, key_of, record_at, segment_of, state_of};
 use crate::view::{Asked, View};
 use crate::{held, log, places, simulator};
 
@@ -160,7 +160,7 @@ struct Site<'a> {
     held: &'a mut [u64; 2048],
 }
 
-impl Site<'_> {
+impl<'a> Site<'a> {
     // Notifications are logged and the closer's record r stands, of a thread that was asked for; deliveries. "Then notifications before the
     // floor .. are dropped, all of them if none is ready." How many others have overrun.
     fn close(&mut self, asked: Asked, r: u64) -> u64 {
@@ -173,11 +173,18 @@ impl Site<'_> {
         overruns
     }
 
+    // The thread that was asked for, at its key.
+    fn runner(&self, asked: Asked) -> Runner<'a> {
+        Runner {
+            file: self.file,
+            ports: at(self.desk, simulator::PORTS, asked.thread),
+            now: key_of(asked.record),
+        }
+    }
+
     // "the segment runs whole, its notifications are logged, and its closer is applied at its cycle"
     fn run_whole(&mut self, asked: Asked) -> u64 {
-        let x = asked.record;
-        let ports = at(self.desk, simulator::PORTS, asked.thread);
-        let r = simulator::run(self.file, segment_of(x), ports, key_of(x), self.desk);
+        let r = self.runner(asked).run(segment_of(asked.record), self.desk);
         self.close(asked, r)
     }
 
@@ -192,20 +199,11 @@ impl Site<'_> {
 
     // "a finish stores the variables it writes, logs its notifications and closes it": the segment runs on the values that are held.
     fn finish(&mut self, asked: Asked) -> u64 {
-        let x = asked.record;
-        let k = asked.thread;
         let mut apart = *self.desk;
-        held::lay_out(self.held, k, &mut apart);
-        held::row_mut(self.held, k).fill(0);
-        let ports = at(self.desk, simulator::PORTS, k);
-        let r = simulator::run_apart(
-            self.file,
-            segment_of(x),
-            ports,
-            key_of(x),
-            &mut apart,
-            self.desk,
-        );
+        held::lay_out(self.held, asked.thread, &mut apart);
+        held::row_mut(self.held, asked.thread).fill(0);
+        let s = segment_of(asked.record);
+        let r = self.runner(asked).run_apart(s, &mut apart, self.desk);
         self.close(asked, r)
     }
 

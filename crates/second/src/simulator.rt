@@ -2,6 +2,7 @@
 // It works on the bytes of an accepted model file, and shares no code with the reader and the plain run.
 // A cycle is one key, time × 1,024 + delta. An activation is key × 32 + thread; that of a waiting thread stands above all others, by event.
 // All it knows stands in one array, the desk, each part from a place of its own. The second scheduler has parts of its own there.
+// They are words, with records packed in one each, and no structs: specs/Desk.antt and specs/Layout.antt speak of a desk's words.
 ghost use Rattle.std.specs.Prelude.{◌≡◌, ◌/◌, ◌%◌, ◌<◌, ◌≤◌, IfSome};
 ghost use Rattle.second.specs.Desk.{word_at, is_due_in};
 
@@ -17,7 +18,7 @@ pub enum State {
     Running,
 }
 
-// Above all keys and activations, and itself none: the thread has ended or is overrun.
+// Above all keys, instants and activations, for none: no Option, so that the least of some and a sorted list need no case of their own.
 pub const NEVER: u64 = 18446744073709551615;
 
 const WAITS: u64 = 1125899906842624;
@@ -58,6 +59,8 @@ pub(crate) const PORTS: u64 = 288;
 
 pub(crate) const UNUSED: u64 = 255;
 
+pub(crate) const NO_PORTS: u64 = 18446744073709551615;
+
 // What each thread has run, in one number; the second scheduler has its log there.
 pub const HISTORIES: u64 = 320;
 
@@ -72,7 +75,7 @@ pub(crate) fn record_at(desk: &[u64; 640], k: u64) -> u64
     at(desk, RECORDS, k)
 }
 
-// The number of its state.
+// The number of its state, as words have it.
 pub fn kind_of(x: u64) -> u64
     ensures { result ≡ x % 8 }
 {
@@ -148,11 +151,6 @@ pub(crate) fn port(ports: u64, p: u64) -> u64
     u64::from(ports.to_le_bytes()[(p % 8) as usize])
 }
 
-// The variable that a number names.
-fn named(ports: u64, x: u64) -> u64 {
-    if is_port(x) { port(ports, x) } else { x }
-}
-
 // What a variable is given: b, x the variable's own value, y that of variable b. "Sums and differences are taken modulo 4,294,967,296."
 fn value(op: u64, b: u64, x: u64, y: u64) -> u64 {
     match op {
@@ -162,30 +160,6 @@ fn value(op: u64, b: u64, x: u64, y: u64) -> u64 {
         4 => x.wrapping_add(y) % 4294967296,
         _ => x.wrapping_sub(y) % 4294967296,
     }
-}
-
-// The statement at a place of the file, of a thread with these ports.
-fn execute(file: &[u8], i: u64, ports: u64, now: u64, desk: &mut [u64; 640]) {
-    let op = byte(file, i, 0);
-    let a = byte(file, i, 1);
-    if op == 6 {
-        put(desk, MARKS, a, now.wrapping_add(1));
-        return;
-    }
-    let b = field(file, i, 2, 4);
-    let to = named(ports, a);
-    let x = at(desk, VARIABLES, to);
-    let y = at(desk, VARIABLES, named(ports, b));
-    put(desk, VARIABLES, to, value(op, b, x, y));
-}
-
-// "The next segment is A if the variable is below the limit after the statements, else B." The closer stands at a place of the file.
-fn chosen(file: &[u8], closer: u64, ports: u64, desk: &[u64; 640]) -> u64 {
-    let test = byte(file, closer, 8);
-    if test < 255 && field(file, closer, 9, 4) <= at(desk, VARIABLES, named(ports, test)) {
-        return byte(file, closer, 7);
-    }
-    byte(file, closer, 6)
 }
 
 // The record of a thread that goes on after so many units; overrun where its next delta would be 1,024.
@@ -198,15 +172,6 @@ pub(crate) fn resumed(segment: u64, now: u64, units: u64) -> u64 {
         return record(State::Overrun, segment, 0, now);
     }
     record(State::Ready, segment, 0, now.wrapping_add(1))
-}
-
-// The record after the closer, of a thread that ran segment s and has the next to run.
-fn closed(file: &[u8], closer: u64, s: u64, next: u64, now: u64) -> u64 {
-    match byte(file, closer, 0) {
-        0 => record(State::Ended, s, 0, now),
-        2 => record(State::Waiting, next, byte(file, closer, 1), now),
-        _ => resumed(next, now, field(file, closer, 2, 4)),
-    }
 }
 
 fn activation(x: u64, k: u64) -> u64 {
@@ -275,7 +240,7 @@ fn survey_part(kind: u64, i: u64, desk: &mut [u64; 640]) {
     put(desk, 64 * (kind % 256), n, i.wrapping_add(4));
     put(desk, COUNTS, kind, n.wrapping_add(1));
     if kind == 3 {
-        put(desk, PORTS, n, NEVER);
+        put(desk, PORTS, n, NO_PORTS);
     }
 }
 
@@ -321,40 +286,79 @@ pub(crate) fn statement_at(closer: u64, j: u64) -> u64 {
     closer.wrapping_add(j.wrapping_mul(6)).wrapping_add(13)
 }
 
-// Segment s whole, of a thread with these ports; the record after it.
-pub(crate) fn run(file: &[u8], s: u64, ports: u64, now: u64, desk: &mut [u64; 640]) -> u64 {
-    let closer = at(desk, CLOSERS, s);
-    for j in 0..statements(file, closer) {
-        execute(file, statement_at(closer, j), ports, now, desk);
-    }
-    closed(file, closer, s, chosen(file, closer, ports, desk), now)
+// A thread with these ports that runs at a key, by the segments of a file.
+#[derive(Clone, Copy)]
+pub(crate) struct Runner<'a> {
+    pub(crate) file: &'a [u8],
+    pub(crate) ports: u64,
+    pub(crate) now: u64,
 }
 
-// What the statement at a place of the file has written on one desk, on another too.
-fn pass_on(file: &[u8], i: u64, ports: u64, from: &[u64; 640], desk: &mut [u64; 640]) {
-    if byte(file, i, 0) == 6 {
-        return;
+impl Runner<'_> {
+    // The variable that a number names.
+    fn named(&self, x: u64) -> u64 {
+        if is_port(x) { port(self.ports, x) } else { x }
     }
-    let to = named(ports, byte(file, i, 1));
-    put(desk, VARIABLES, to, at(from, VARIABLES, to));
-}
 
-// Segment s whole, of a thread with these ports, on a desk with the values that it reads; on the other desk "the variables it writes". The record after it.
-pub(crate) fn run_apart(
-    file: &[u8],
-    s: u64,
-    ports: u64,
-    now: u64,
-    apart: &mut [u64; 640],
-    desk: &mut [u64; 640],
-) -> u64 {
-    let closer = at(apart, CLOSERS, s);
-    for j in 0..statements(file, closer) {
-        let i = statement_at(closer, j);
-        execute(file, i, ports, now, apart);
-        pass_on(file, i, ports, apart, desk);
+    // The statement at a place of the file.
+    fn execute(&self, i: u64, desk: &mut [u64; 640]) {
+        let op = byte(self.file, i, 0);
+        let a = byte(self.file, i, 1);
+        if op == 6 {
+            put(desk, MARKS, a, self.now.wrapping_add(1));
+            return;
+        }
+        let b = field(self.file, i, 2, 4);
+        let to = self.named(a);
+        let x = at(desk, VARIABLES, to);
+        let y = at(desk, VARIABLES, self.named(b));
+        put(desk, VARIABLES, to, value(op, b, x, y));
     }
-    closed(file, closer, s, chosen(file, closer, ports, apart), now)
+
+    // What the statement at a place of the file has written on one desk, on another too.
+    fn pass_on(&self, i: u64, from: &[u64; 640], desk: &mut [u64; 640]) {
+        if byte(self.file, i, 0) != 6 {
+            let to = self.named(byte(self.file, i, 1));
+            put(desk, VARIABLES, to, at(from, VARIABLES, to));
+        }
+    }
+
+    // "The next segment is A if the variable is below the limit after the statements, else B." The closer stands at a place of the file.
+    fn chosen(&self, closer: u64, desk: &[u64; 640]) -> u64 {
+        let test = byte(self.file, closer, 8);
+        let is_below = test == 255
+            || at(desk, VARIABLES, self.named(test)) < field(self.file, closer, 9, 4);
+        byte(self.file, closer, if is_below { 6 } else { 7 })
+    }
+
+    // The record after the closer, of a thread that ran segment s and has the next to run.
+    fn closed(&self, closer: u64, s: u64, next: u64) -> u64 {
+        match byte(self.file, closer, 0) {
+            0 => record(State::Ended, s, 0, self.now),
+            2 => record(State::Waiting, next, byte(self.file, closer, 1), self.now),
+            _ => resumed(next, self.now, field(self.file, closer, 2, 4)),
+        }
+    }
+
+    // Segment s whole; the record after it.
+    pub(crate) fn run(&self, s: u64, desk: &mut [u64; 640]) -> u64 {
+        let closer = at(desk, CLOSERS, s);
+        for j in 0..statements(self.file, closer) {
+            self.execute(statement_at(closer, j), desk);
+        }
+        self.closed(closer, s, self.chosen(closer, desk))
+    }
+
+    // Segment s whole, on a desk with the values that it reads; on the other desk "the variables it writes". The record after it.
+    pub(crate) fn run_apart(&self, s: u64, apart: &mut [u64; 640], desk: &mut [u64; 640]) -> u64 {
+        let closer = at(apart, CLOSERS, s);
+        for j in 0..statements(self.file, closer) {
+            let i = statement_at(closer, j);
+            self.execute(i, apart);
+            self.pass_on(i, apart, desk);
+        }
+        self.closed(closer, s, self.chosen(closer, apart))
+    }
 }
 
 // A history with one more segment, run at a key.
@@ -367,7 +371,12 @@ pub fn told(history: u64, segment: u64, key: u64) -> u64 {
 fn step(file: &[u8], desk: &mut [u64; 640], now: u64) {
     let k = desk[AGENDA] % 32;
     let s = segment_of(record_at(desk, k));
-    let r = run(file, s, at(desk, PORTS, k), now, desk);
+    let runner = Runner {
+        file,
+        ports: at(desk, PORTS, k),
+        now,
+    };
+    let r = runner.run(s, desk);
     put(desk, RECORDS, k, r);
     put(desk, HISTORIES, k, told(at(desk, HISTORIES, k), s, now));
     replace_first(desk, activation(r, k));

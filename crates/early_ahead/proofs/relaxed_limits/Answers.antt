@@ -1,19 +1,12 @@
 -- `early_ahead::relaxed_limits` meets its contract: a store for each thread.
 use native.Mathlib.Omega.{arith}
 use Rattle.early_ahead.proofs.LimitLaws.{at_most-min}
-use Rattle.early_ahead.proofs.LengthLaws.{limits-length, events-length}
-use Rattle.early_ahead.proofs.AheadLaws.{relaxed_at-read, relaxed_to-more, relaxed_to-all}
+use Rattle.early_ahead.proofs.LengthLaws.{limits-length}
+use Rattle.early_ahead.proofs.AheadLaws.{relaxed_to-more, relaxed_to-all}
 use Rattle.early_ahead.proofs.relaxed_limits.Goals as goal
 
 pub loop-k-preserved : goal.loop-k-preserved
-loop-k-preserved c =
-    let here = c in
-    let start = here in
-    let l = here.loop-k in
-    let size = limits-length start.args.xs _ start.well_formed.1.1.0 in
-    let events = events-length start.args.crew _ start.well_formed.1.0 in
-    let next = relaxed_at-read _ start.args.crew _ _ l.k _ (omega arith) (omega arith) c.relaxed_by.ensures in
-    relaxed_to-more _ _ _ _ l.k _ _ l.invariant (omega arith) next
+loop-k-preserved c = relaxed_to-more _ _ _ _ c.loop-k.k _ _ c.loop-k.invariant (omega arith) c.relaxed_at.ensures
 
 pub returns : goal.returns
 returns c =

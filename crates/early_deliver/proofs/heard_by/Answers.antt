@@ -2,7 +2,7 @@
 use mathlib.Core.Path.{ap, sym, ◌∙◌}
 use native.Mathlib.Omega.{arith}
 use Rattle.model.specs.Record.{view_of}
-use Rattle.early_log.specs.Spread.{log_in}
+use Rattle.early_deliver.specs.Awake.{log_on}
 use Rattle.early_deliver.proofs.VariantLaws.{awaited_by-other}
 use Rattle.early_deliver.proofs.SweepLaws.{heard_by-other, heard_by-none, heard_by-sooner, heard_by-now}
 use Rattle.early_deliver.proofs.heard_by.Goals as goal
@@ -10,19 +10,19 @@ use Rattle.early_deliver.proofs.heard_by.Goals as goal
 pub returns-in_default : goal.returns-in_default
 returns-in_default c =
     let x = c.args in
-    heard_by-other x.reach.now x.t (log_in x.events.now x.times.now x.deltas.now x.logged) x.segments x.xs.at x.s (awaited_by-other x.s c.in_default.not-Waiting)
+    heard_by-other x.reach.now x.t (log_on x.rows.now) x.o.now.segments x.o.now.limits.at x.s (awaited_by-other x.s c.in_default.not-Waiting)
 
 pub returns-in_default-least_in : goal.returns-in_default-least_in
 returns-in_default-least_in c =
     let x = c.args in
-    heard_by-none x.reach.now x.t (log_in x.events.now x.times.now x.deltas.now x.logged) x.segments x.xs.at x.s _ _ (ap view_of c.in-Waiting.is) (sym c.least_in.ensures ∙ c.in_default-least_in.is)
+    heard_by-none x.reach.now x.t (log_on x.rows.now) x.o.now.segments x.o.now.limits.at x.s _ _ (ap view_of c.in-Waiting.is) (sym c.least_in.ensures ∙ c.in_default-least_in.is)
 
 pub returns-then-forecast-limit_of : goal.returns-then-forecast-limit_of
 returns-then-forecast-limit_of c =
     let x = c.args in
-    heard_by-sooner x.reach.now x.t (log_in x.events.now x.times.now x.deltas.now x.logged) x.segments x.xs.at x.s _ _ (ap view_of c.in-Waiting.is) _ (sym c.least_in.ensures ∙ c.in-At.is) (omega arith)
+    heard_by-sooner x.reach.now x.t (log_on x.rows.now) x.o.now.segments x.o.now.limits.at x.s _ _ (ap view_of c.in-Waiting.is) _ (sym c.least_in.ensures ∙ c.in-At.is) (omega arith)
 
 pub returns : goal.returns
 returns c =
     let x = c.args in
-    heard_by-now x.reach.now x.t (log_in x.events.now x.times.now x.deltas.now x.logged) x.segments x.xs.at x.s _ _ (ap view_of c.in-Waiting.is) _ (sym c.least_in.ensures ∙ c.in-At.is) (omega arith)
+    heard_by-now x.reach.now x.t (log_on x.rows.now) x.o.now.segments x.o.now.limits.at x.s _ _ (ap view_of c.in-Waiting.is) _ (sym c.least_in.ensures ∙ c.in-At.is) (omega arith)

@@ -3,8 +3,7 @@ use mathlib.Core.Path.{ap, ◌∙◌}
 use mathlib.Core.Bool.{true}
 use lib.ListN.{set}
 use Rattle.model.specs.Record.{thread_at}
-use Rattle.early_log.specs.Spread.{log_in}
-use Rattle.early_deliver.specs.Awake.{outlook_of}
+use Rattle.early_deliver.specs.Awake.{log_on, outlook_of}
 use Rattle.early_deliver.proofs.wake.Goals as goal
 
 pub returns : goal.returns
@@ -13,5 +12,5 @@ returns c =
     let x = c.args in
     c.outlook_with.ensures
     ∙ ap
-    (λ s. outlook_of x.reach.now x.t (log_in x.events.now x.times.now x.deltas.now x.logged) (set x.threads.at x.k (record { segment = (thread_at x.threads.at x.k).segment; state = s })) true)
-    c.woken_at-state.ensures
+    (λ s. outlook_of x.reach.now x.t (log_on x.rows.now) (set x.threads.at x.k (record { segment = (thread_at x.threads.at x.k).segment; state = s })) true)
+    c.woken_at.ensures

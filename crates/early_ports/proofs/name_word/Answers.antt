@@ -8,6 +8,6 @@ pub returns-then-q-lt2 : goal.returns-then-q-lt2
 unfolding name_word
 returns-then-q-lt2 c = rw (lt-ltb c.args.q 2 (omega arith)) c.names_of.ensures
 
-pub returns : goal.returns
+pub returns-else-q-lt2 : goal.returns-else-q-lt2
 unfolding name_word
-returns c = rw (le-ltb c.args.q 2 (omega arith)) c.names_of-2.ensures
+returns-else-q-lt2 c = rw (le-ltb c.args.q 2 (omega arith)) c.names_of-else-q-lt2.ensures

@@ -15,9 +15,9 @@ returns-then-k-lt32 c =
     let size : length starts ≡ 32 = c.well_formed.0.1.0.1 in
     ap (λ (x : Start). x.ports) (get_d_any starts c.args.k _ no_start (omega arith))
 
-pub returns : goal.returns
+pub returns-else-k-lt32 : goal.returns-else-k-lt32
 unfolding ports_in
-returns c =
+returns-else-k-lt32 c =
     let starts = c.args.starts in
     let size : length starts ≡ 32 = c.well_formed.0.1.0.1 in
     sym (ap (λ (x : Start). x.ports) (get_or-eq_default starts no_start {n = c.args.k} (omega arith)))

@@ -7,6 +7,6 @@ pub returns-then-uses_ports : goal.returns-then-uses_ports
 unfolding segment_with
 returns-then-uses_ports c = rw (sym c.uses_ports.ensures ∙ c.if-uses_ports.true) c.mapped_segment.ensures
 
-pub returns : goal.returns
+pub returns-else-uses_ports : goal.returns-else-uses_ports
 unfolding segment_with
-returns c = rw (sym c.uses_ports.ensures ∙ c.if-uses_ports.false) refl
+returns-else-uses_ports c = rw (sym c.uses_ports.ensures ∙ c.if-uses_ports.false) refl

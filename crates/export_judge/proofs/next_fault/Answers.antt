@@ -1,13 +1,18 @@
 -- `export_judge::next_fault` meets its contract: all of 5, then all of 7.
 use native.Mathlib.Omega.{arith}
+use Rattle.std.proofs.lemmas.Result.{err_from_is_err_and}
+use Rattle.refusal.proofs.NumberLaws.{number_of-not_0}
 use Rattle.base.specs.Index.{or_else}
 use Rattle.model.specs.Rules.{choice_fault, test_fault}
 use Rattle.export_judge.proofs.next_fault.Goals as goal
 
-pub returns-then-choice-ne0 : goal.returns-then-choice-ne0
-unfolding choice_fault test_fault or_else
-returns-then-choice-ne0 c = grind arith
+pub returns-in_err-unless : goal.returns-in_err-unless
+unfolding or_else choice_fault test_fault
+returns-in_err-unless c =
+    let p = err_from_is_err_and c.from_residual.result c.from_residual.ensures.1 in
+    let not_0 = number_of-not_0 c.in_err-unless.field-0.0 in
+    rw (p.1, p.2) (grind arith)
 
 pub returns : goal.returns
-unfolding choice_fault test_fault or_else
+unfolding or_else choice_fault test_fault
 returns c = grind arith

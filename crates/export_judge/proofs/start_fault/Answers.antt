@@ -1,13 +1,18 @@
 -- `export_judge::start_fault` meets its contract: its 4, then its ports.
 use native.Mathlib.Omega.{arith}
+use Rattle.std.proofs.lemmas.Result.{err_from_is_err_and}
+use Rattle.refusal.proofs.NumberLaws.{number_of-not_0}
 use Rattle.base.specs.Index.{or_else}
 use Rattle.export_model.specs.Judged.{start_numbers_fault}
 use Rattle.export_judge.proofs.start_fault.Goals as goal
 
-pub returns-then-k-ge32 : goal.returns-then-k-ge32
-unfolding start_numbers_fault or_else
-returns-then-k-ge32 c = grind arith
+pub returns-in_err-unless : goal.returns-in_err-unless
+unfolding or_else start_numbers_fault
+returns-in_err-unless c =
+    let p = err_from_is_err_and c.from_residual.result c.from_residual.ensures.1 in
+    let not_0 = number_of-not_0 c.in_err-unless.field-0.0 in
+    rw (p.1, p.2) (grind arith)
 
 pub returns : goal.returns
-unfolding start_numbers_fault or_else
+unfolding or_else start_numbers_fault
 returns c = grind arith
