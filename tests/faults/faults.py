@@ -42,7 +42,7 @@ FAULTS = [
     (EARLY, "a wait raises no bound", "early_ahead/src/lib.rt", "raised_limit(since, forecast(", "raised_limit(0, forecast("),
     (EARLY, "a granted segment with ports not mapped", "early_answer/src/lib.rt", "        desk.t,\n        own,\n", "        desk.t,\n        g,\n"),
     (PLAIN, "a finish reads the variables anew", "early_answer/src/lib.rt", "    if finishes { held_for(held, k) } else { v }\n", "    v\n"),
-    (EARLY, "a finish stores all values", "early_answer/src/lib.rt", "let x = if masks::has(written, i) { w.at[i] } else { v.at[i] };", "let x = w.at[i];"),
+    (EARLY, "a finish stores all values", "early_answer/src/lib.rt", "if masks::has(written, i) {", "if masks::has(written, i) || true {"),
     (EARLY, "a running thread is no hazard", "early_deliver/src/lib.rt", "        State::Ready(c) | State::Running(c) => early_ahead::limit_of(c),\n", "        State::Ready(c) => early_ahead::limit_of(c),\n        State::Running(_) => NEVER,\n"),
 ]
 
