@@ -109,7 +109,8 @@ fn unready(s: State) -> Refusal
     ensures { number_of result ≡ cond (is_running s) 19 12 }
 {
     match s {
-        State::Ended(_) | State::Overrun(_) | State::Ready(_) | State::Waiting(_, _) => Refusal::NotReady,
+        State::Ended(_) | State::Overrun(_) | State::Ready(_) | State::Waiting(_, _) =>
+            Refusal::NotReady,
         State::Running(_) => Refusal::OutOfTurn,
     }
 }

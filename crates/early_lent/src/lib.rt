@@ -38,9 +38,9 @@ fn load(ts: &[Thread], n: usize, to: Threads) -> Threads
     requires { (n ≤ length ts.now) × (n ≤ 32) }
     ensures { result ≡ loaded ts.now n to }
 {
-    let mut out = to;
-    out.at[..n].copy_from_slice(&ts[..n]);
-    out
+    let mut at = to.at;
+    at[..n].copy_from_slice(&ts[..n]);
+    Threads { at }
 }
 
 // The first n records of from, over those of ts.

@@ -176,7 +176,16 @@ pub fn request(
         return early_answer::refused(11, site, threads);
     }
     let call = Call::Both(k.0);
-    call_fit(m, marks, Distances::Table(words), &mut [], site, threads, &mut [], call)
+    call_fit(
+        m,
+        marks,
+        Distances::Table(words),
+        &mut [],
+        site,
+        threads,
+        &mut [],
+        call,
+    )
 }
 
 // Document 02, slip 6: the same "with the same distances, answers and states after", in 64 words in which rows are worked out: 11, 16, then
@@ -215,7 +224,16 @@ pub fn call(
     if early_fit::is_unfit_call(m, words, site, threads, held) {
         return early_answer::refused(11, site, threads);
     }
-    call_fit(m, marks, Distances::Table(words), &mut [], site, threads, held, call)
+    call_fit(
+        m,
+        marks,
+        Distances::Table(words),
+        &mut [],
+        site,
+        threads,
+        held,
+        call,
+    )
 }
 
 // The same in 64 words: 11, 16, then as above.
