@@ -224,16 +224,8 @@ pub fn call(
     if early_fit::is_unfit_call(m, words, site, threads, held) {
         return early_answer::refused(11, site, threads);
     }
-    call_fit(
-        m,
-        marks,
-        Distances::Table(words),
-        &mut [],
-        site,
-        threads,
-        held,
-        call,
-    )
+    let table = Distances::Table(words);
+    call_fit(m, marks, table, &mut [], site, threads, held, call)
 }
 
 // The same in 64 words: 11, 16, then as above.

@@ -1,10 +1,10 @@
--- `early_deliver::crew_of` meets its contract. The invariant: the first k places are filled.
+-- `early_deliver::Board::crew` meets its contract. The invariant: the first k places are filled.
 use Rattle.std.proofs.Common.{◌<◌, arith, length-take}
 use Rattle.std.proofs.lemmas.List.{get_or-take}
 use Rattle.model.specs.Record.{no_thread}
 use Rattle.model_effect.proofs.LengthLaws.{threads-length}
 use Rattle.early_deliver.proofs.CrewLaws.{crew-none, crew-more, crew-all}
-use Rattle.early_deliver.proofs.crew_of.Goals as goal
+use Rattle.early_deliver.proofs.Board.crew.Goals as goal
 
 pub loop-k-init : goal.loop-k-init
 loop-k-init c = crew-none c.args.threads.at
@@ -20,5 +20,6 @@ pub returns : goal.returns
 returns c =
     let l = c.loop-k in
     let x = c.args in
-    let size = threads-length x.threads _ c.well_formed.0 in
-    crew-all x.threads.at l.segments l.events l.since l.k x.t (omega (arith, length-take c.from-n.result x.threads.at)) l.invariant
+    let b = x.self.now in
+    let size = threads-length x.threads _ c.well_formed.1.0 in
+    crew-all x.threads.at l.segments l.events l.since l.k b.t (omega (arith, length-take c.from-n.result x.threads.at)) l.invariant
