@@ -4,7 +4,6 @@
 ghost use Rattle.buffers.specs.Write.{Writes};
 ghost use Rattle.writer_print.specs.Again.{again, Same};
 
-
 // The file written again at the front of out, or the line of its refusal; how many bytes. A buffer that is too short stays, and the
 // answer is 0.
 pub fn rewrite_text(file: &[u8], out: &mut [u8]) -> usize
