@@ -17,12 +17,13 @@ use early_limits::{Crew, Limits};
 use early_log::Rows;
 use model::{State, Threads};
 
-// A limit that stands for never, and the least that does so in a sum.
+// A limit that stands for never, and the least that does so in a sum. Words and no Option: limits are compared and added as words.
 const NEVER: u64 = 18446744073709551615;
 
 const TOP: u64 = 4611686018427387904;
 
 // The records with what is known of them: the segments, the earliest limits, and whether a thread has heard.
+// No Option: a sweep hands on the records whether or not a thread has heard.
 #[derive(Clone, Copy)]
 pub struct Outlook {
     pub threads: Threads,

@@ -1,8 +1,8 @@
--- `early_answer::unready_number` meets its contract.
+-- `early_answer::unready` meets its contract.
 use mathlib.Core.Path.{refl}
 use mathlib.Core.Logic.{⊎_elim}
 use Rattle.early_answer.proofs.VariantLaws.{is_running-self}
-use Rattle.early_answer.proofs.unready_number.Goals as goal
+use Rattle.early_answer.proofs.unready.Goals as goal
 
 pub returns-in-Ended : goal.returns-in-Ended
 returns-in-Ended c = ⊎_elim (λ w. rw w.1 refl) (⊎_elim (λ w. rw w.1 refl) (⊎_elim (λ w. rw w.1 refl) (λ w. rw w.2 refl))) c.in-Ended.is
