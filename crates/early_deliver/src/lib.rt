@@ -17,12 +17,13 @@ use early_limits::{Crew, Limits};
 use early_log::Rows;
 use model::{State, Threads};
 
-// A limit that stands for never, and the least that does so in a sum.
+// A limit that stands for never, and the least that does so in a sum. Words and no Option: limits are compared and added as words.
 const NEVER: u64 = 18446744073709551615;
 
 const TOP: u64 = 4611686018427387904;
 
 // The records with what is known of them: the segments, the earliest limits, and whether a thread has heard.
+// No Option: a sweep hands on the records whether or not a thread has heard.
 #[derive(Clone, Copy)]
 pub struct Outlook {
     pub threads: Threads,
@@ -61,26 +62,6 @@ fn since_awaited(s: State) -> u64
     early_ahead::limit_of(since)
 }
 
-fn crew_of(threads: Threads, t: u8) -> Crew
-    requires { t ≤ 32 }
-    ensures { result ≡ crew_of t threads.at }
-{
-    let n = usize::from(t);
-    let mut segments = [0u8; 32];
-    let mut events = [255u8; 32];
-    let mut since = [0u64; 32];
-    for (k, x) in threads.at[..n].iter().enumerate() {
-        segments[k] = x.segment;
-        events[k] = event_awaited(x.state);
-        since[k] = since_awaited(x.state);
-    }
-    Crew {
-        segments,
-        events,
-        since,
-    }
-}
-
 // One delta later.
 #[tactic(auto, unfolding(early_limits::specs::Limit::sum_of))]
 fn one_later(x: u64) -> u64
@@ -109,50 +90,6 @@ fn first_limit(rows: &Rows, s: State) -> u64
     }
 }
 
-fn first_limits(rows: &Rows, threads: Threads, t: u8) -> Limits
-    requires { t ≤ 32 }
-    ensures { result.at ≡ first_limits t (log_on rows.now) threads.at }
-{
-    let n = usize::from(t);
-    let mut at = [NEVER; 32];
-    for (k, x) in threads.at[..n].iter().enumerate() {
-        at[k] = first_limit(rows, x.state);
-    }
-    Limits { at }
-}
-
-fn outlook_with(reach: &[u64], rows: &Rows, threads: Threads, t: u8, heard: bool) -> Outlook
-    requires { t ≤ 32 }
-    ensures { result ≡ outlook_of reach.now t (log_on rows.now) threads.at heard }
-{
-    let crew = crew_of(threads, t);
-    let first = first_limits(rows, threads, t);
-    let limits = early_ahead::earliest(reach, crew, first, t);
-    let segments = crew.segments;
-    Outlook {
-        threads,
-        segments,
-        limits,
-        heard,
-    }
-}
-
-// Document 01: "A delivery is looked for only if the thread waits".
-fn heard_by(reach: &[u64], rows: &Rows, o: &Outlook, t: u8, s: State) -> Bound
-    ensures { result ≡ heard_by (sooner_at reach.now t o.now.segments o.now.limits.at) (log_on rows.now) (awaited_by s) }
-{
-    let State::Waiting(e, since) = s else {
-        return Bound::Never;
-    };
-    let Bound::At(c) = early_log::least_in(rows, e, since) else {
-        return Bound::Never;
-    };
-    if early_ahead::forecast(reach, o.segments, o.limits, t, e) < early_ahead::limit_of(c) {
-        return Bound::Never;
-    }
-    Bound::At(c)
-}
-
 // Document 01: "It then becomes ready or overrun as in the plain run".
 fn woken_at(c: Cycle) -> State
     ensures { result ≡ state_after (wait_ends Wait.Event c) }
@@ -163,48 +100,121 @@ fn woken_at(c: Cycle) -> State
     }
 }
 
-// Thread k hears at c: its record anew, and what is known of the records.
-fn wake(reach: &[u64], rows: &Rows, threads: Threads, t: u8, k: usize, c: Cycle) -> Outlook
-    requires t_bound { t ≤ 32 }
-    requires k_lt_t { k < t }
-    ensures { result ≡ outlook_of reach.now t (log_on rows.now) (with_woken threads.at k c) true }
-{
-    let mut after = threads;
-    after.at[k].state = woken_at(c);
-    outlook_with(reach, rows, after, t, true)
+// What deliveries read: where chains of segments reach, the log as rows, and the number of threads.
+#[derive(Clone, Copy)]
+struct Board<'a> {
+    reach: &'a [u64],
+    rows: &'a Rows,
+    t: u8,
+    ghost few: { t ≤ 32 },
 }
 
-// Document 01: "every thread is looked at".
-fn sweep(reach: &[u64], rows: &Rows, o: Outlook, t: u8) -> Outlook
-    requires t_bound { t ≤ 32 }
-    requires o_value { o ≡ outlook_of reach.now t (log_on rows.now) o.threads.at o.heard }
-    ensures seen { result ≡ outlook_of reach.now t (log_on rows.now) (swept_by (sooner_on reach.now t (log_on rows.now)) (log_on rows.now) o.threads.at t) result.heard }
-    ensures still { result.heard ≡ false → result.threads.at ≡ o.threads.at }
-{
-    let mut seen = Outlook { heard: false, ..o };
-    for k in 0..usize::from(t) {
-        let s = seen.threads.at[k].state;
-        let Bound::At(c) = heard_by(reach, rows, &seen, t, s) else {
-            continue;
-        };
-        seen = wake(reach, rows, seen.threads, t, k, c);
-    }
-    seen
-}
-
-// Document 01: "again and again until none hears anything".
-fn settle_below(reach: &[u64], rows: &Rows, threads: Threads, t: u8) -> Threads
-    requires { t ≤ 32 }
-    ensures { result.at ≡ settled_by (sooner_on reach.now t (log_on rows.now)) (log_on rows.now) t threads.at }
-{
-    let mut o = outlook_with(reach, rows, threads, t, false);
-    for _ in 0..t {
-        o = sweep(reach, rows, o, t);
-        if !o.heard {
-            return o.threads;
+impl Board<'_> {
+    // The crew of the records.
+    fn crew(&self, threads: Threads) -> Crew
+        ensures { result ≡ crew_of self.now.t threads.at }
+    {
+        let n = usize::from(self.t);
+        let mut segments = [0u8; 32];
+        let mut events = [255u8; 32];
+        let mut since = [0u64; 32];
+        for (k, x) in threads.at[..n].iter().enumerate() {
+            segments[k] = x.segment;
+            events[k] = event_awaited(x.state);
+            since[k] = since_awaited(x.state);
+        }
+        Crew {
+            segments,
+            events,
+            since,
         }
     }
-    o.threads
+
+    // Where the chains of each thread begin.
+    fn first_limits(&self, threads: Threads) -> Limits
+        ensures { result.at ≡ first_limits self.now.t (log_on self.now.rows.now) threads.at }
+    {
+        let n = usize::from(self.t);
+        let mut at = [NEVER; 32];
+        for (k, x) in threads.at[..n].iter().enumerate() {
+            at[k] = first_limit(self.rows, x.state);
+        }
+        Limits { at }
+    }
+
+    // The records with what is known of them.
+    fn outlook(&self, threads: Threads, heard: bool) -> Outlook
+        ensures { let b = self.now in result ≡ outlook_of b.reach.now b.t (log_on b.rows.now) threads.at heard }
+    {
+        let crew = self.crew(threads);
+        let first = self.first_limits(threads);
+        let limits = early_ahead::earliest(self.reach, crew, first, self.t);
+        let segments = crew.segments;
+        Outlook {
+            threads,
+            segments,
+            limits,
+            heard,
+        }
+    }
+
+    // Document 01: "A delivery is looked for only if the thread waits".
+    fn heard_by(&self, o: &Outlook, s: State) -> Bound
+        ensures { let b = self.now in result ≡ heard_by (sooner_at b.reach.now b.t o.now.segments o.now.limits.at) (log_on b.rows.now) (awaited_by s) }
+    {
+        let State::Waiting(e, since) = s else {
+            return Bound::Never;
+        };
+        let Bound::At(c) = early_log::least_in(self.rows, e, since) else {
+            return Bound::Never;
+        };
+        let soonest = early_ahead::forecast(self.reach, o.segments, o.limits, self.t, e);
+        if soonest < early_ahead::limit_of(c) {
+            return Bound::Never;
+        }
+        Bound::At(c)
+    }
+
+    // Thread k hears at c: its record anew, and what is known of the records.
+    fn wake(&self, threads: Threads, k: usize, c: Cycle) -> Outlook
+        requires { k < self.now.t }
+        ensures { let b = self.now in result ≡ outlook_of b.reach.now b.t (log_on b.rows.now) (with_woken threads.at k c) true }
+    {
+        let mut after = threads;
+        after.at[k].state = woken_at(c);
+        self.outlook(after, true)
+    }
+
+    // Document 01: "every thread is looked at".
+    fn sweep(&self, o: Outlook) -> Outlook
+        requires { let b = self.now in o ≡ outlook_of b.reach.now b.t (log_on b.rows.now) o.threads.at o.heard }
+        ensures seen { let b = self.now in result ≡ outlook_of b.reach.now b.t (log_on b.rows.now) (swept_by (sooner_on b.reach.now b.t (log_on b.rows.now)) (log_on b.rows.now) o.threads.at b.t) result.heard }
+        ensures still { result.heard ≡ false → result.threads.at ≡ o.threads.at }
+    {
+        let mut seen = Outlook { heard: false, ..o };
+        for k in 0..usize::from(self.t) {
+            let s = seen.threads.at[k].state;
+            let Bound::At(c) = self.heard_by(&seen, s) else {
+                continue;
+            };
+            seen = self.wake(seen.threads, k, c);
+        }
+        seen
+    }
+
+    // Document 01: "again and again until none hears anything".
+    fn settled(&self, threads: Threads) -> Threads
+        ensures { let b = self.now in result.at ≡ settled_by (sooner_on b.reach.now b.t (log_on b.rows.now)) (log_on b.rows.now) b.t threads.at }
+    {
+        let mut o = self.outlook(threads, false);
+        for _ in 0..self.t {
+            o = self.sweep(o);
+            if !o.heard {
+                return o.threads;
+            }
+        }
+        o.threads
+    }
 }
 
 // Document 01: "The floor (least cycle of a ready thread)", a running one among them.
@@ -223,12 +233,24 @@ pub fn floor_of(threads: Threads, t: u8) -> Bound
 pub fn outlook_of(reach: &[u64], site: Site, threads: Threads, t: u8) -> Outlook
     ensures { result ≡ outlook_of reach.now (at_most 32 t) (log_of site) threads.at false }
 {
-    outlook_with(reach, &early_log::spread(site), threads, few(t), false)
+    let rows = early_log::spread(site);
+    let board = Board {
+        reach,
+        rows: &rows,
+        t: few(t),
+    };
+    board.outlook(threads, false)
 }
 
 // The records after all deliveries.
 pub fn settle(reach: &[u64], site: Site, threads: Threads, t: u8) -> Threads
     ensures { result.at ≡ settled_by (sooner_on reach.now (at_most 32 t) (log_of site)) (log_of site) (at_most 32 t) threads.at }
 {
-    settle_below(reach, &early_log::spread(site), threads, few(t))
+    let rows = early_log::spread(site);
+    let board = Board {
+        reach,
+        rows: &rows,
+        t: few(t),
+    };
+    board.settled(threads)
 }

@@ -72,7 +72,7 @@ fn judge(bytes: &[u8]) -> Result<bool, Refusal>
     let mut at = 0;
     while at < bytes.len() {
         let b = &bytes[at..];
-        let frame = reader_record::record_fault(last, c, b)?;
+        let frame = reader_record::fault_after(last, c, b)?;
         if frame.kind == Kind::End {
             end_fault(b.len() - frame.size, c)?;
             return Ok(c.named);

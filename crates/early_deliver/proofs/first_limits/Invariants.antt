@@ -1,7 +1,0 @@
--- `early_deliver::first_limits` meets its contract. The invariant: the first k limits are filled.
-use mathlib.Core.Path.{◌≡◌}
-use Rattle.early_deliver.specs.Awake.{log_on, first_limits}
-use Rattle.early_deliver.proofs.first_limits.Given as goal
-
-abbrev pub invariant-loop-k : goal.invariant-loop-k
-invariant-loop-k l = l.at ≡ first_limits l.k (log_on l.rows) l.fn.threads.at
