@@ -61,23 +61,9 @@ floor-few t ts few e = e ∙ ap (λ (n : ℕ). floor_below n ts) (at_most-is 32 
 
 -- 15, by the places
 module _ (floor : Bound) (c : Cycle) (n : ℕ) where
-  over : (b : Bool) → true ≡ ((b && true) || true)
-  over true = refl
-  over false = refl
-
-  few : (b : Bool) → false ≡ ((b && false) || false)
-  few true = refl
-  few false = refl
-
   some : (b : Bool) → b ≡ ((b && true) || false)
   some true = refl
   some false = refl
-
-  pub full-over : 128 < n → true ≡ is_full_by floor n c
-  full-over h = rw (lt-ltb 96 n (omega arith), lt-ltb 128 n h) (over (is_bound_before floor (At c)))
-
-  pub full-few : n ≤ 96 → false ≡ is_full_by floor n c
-  full-few h = rw (le-ltb 96 n h, le-ltb 128 n (omega arith)) (few (is_bound_before floor (At c)))
 
   pub full-early : (b : Bool) → b ≡ is_bound_before floor (At c) → 96 < n → n ≤ 128 → b ≡ is_full_by floor n c
   full-early b e h k = rw (lt-ltb 96 n h, le-ltb 128 n k, ← e) (some b)

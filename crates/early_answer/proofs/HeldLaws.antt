@@ -1,4 +1,4 @@
--- The values that are held for a thread, and those that a finish stores, as loops fill them.
+-- The values that are held for a thread, and those that a finish stores.
 --     held-read     64 numbers from the set of a thread
 --     held_whole     64 numbers stored in it
 --     emptied-none, emptied-set     a set that is emptied
@@ -9,11 +9,13 @@ use mathlib.Core.Bool.{Bool, true, false, cond}
 use mathlib.Core.List.{List}
 use native.Mathlib.Omega.{arith}
 use native.Mathlib.Nat.{zero-add}
-use lib.ListN.{length, get_or, set, take, drop, replicate, length-drop}
-use lib.Seq.{sets, take_all, length-take-le, get_or-take, get_or-drop}
+use lib.ListN.{length, get_or, set, take, drop, replicate}
+use lib.Seq.{take_all}
+use borrow.Rule.Slice.PartMut.{put_mid}
+use Rattle.std.proofs.lemmas.List.Edits.{sets-eq}
+use Rattle.std.proofs.lemmas.Slice.{put_mid-paste}
 use Rattle.base.specs.Index.{tabulate, store_to}
 use Rattle.base.proofs.IndexLaws.{tabulate-is, store_to-none, store_to-more, store_to-length, store_to-at}
-use Rattle.buffers.proofs.StoreLaws.{tabulate-whole}
 use Rattle.masks.specs.Mask.{bit_at}
 use Rattle.model.specs.declared.Segment.{Segment}
 use Rattle.model.specs.Footprint.{writes_of}
@@ -23,18 +25,14 @@ use Rattle.early_ports.proofs.NameLaws.{names_of-writes}
 use Rattle.early_answer.specs.Answered.{stored_in, emptied_by}
 
 -- all 64 are read
-pub held-read : (held at : List ℕ) (from k i : ℕ) → from ≡ 64 * k → 64 * k + 64 ≤ length held → i ≡ 64
-    → at ≡ sets (replicate 64 0) 0 (tabulate i 0 (λ j. get_or held (from + j) 0)) → at ≡ held_at held k
-held-read held at from k i p h e f =
-    tabulate-whole 0 at 64 i (λ j. get_or held (from + j) 0) e f
-    ∙ sym (tabulate-is 0 (held_at held k) 64 (λ j. get_or held (from + j) 0) size (λ j l. get_or-take 64 (drop (64 * k) held) j 0 l ∙ (get_or-drop (64 * k) held j 0 ∙ rw p refl)))
-  where
-    size : length (held_at held k) ≡ 64
-    size = length-take-le 64 (drop (64 * k) held) (omega (arith, length-drop (64 * k) held))
+pub held-read : (held : List ℕ) (from k n : ℕ) → from ≡ 64 * k → n ≡ 64 → take n (drop from held) ≡ held_at held k
+held-read held from k n p e = rw (p, e) refl
 
 -- all 64 are stored
-pub held_whole : (held out v : List ℕ) (from k i : ℕ) → from ≡ 64 * k → length v ≤ i → out ≡ sets held from (take i v) → out ≡ with_held held k v
-held_whole held out v from k i p h e = e ∙ rw (p, take_all i v h) refl
+pub held_whole : (held v ys : List ℕ) (from k n : ℕ) → from ≡ 64 * k → n ≡ 64 → length v ≡ 64 → ys ≡ v → 64 * k + 64 ≤ length held → put_mid from n held ys ≡ with_held held k v
+held_whole held v ys from k n p e size f fits =
+    put_mid-paste from n held ys v n f refl (e ∙ sym size)
+    ∙ rw (p, e, take_all 64 v (omega arith)) (sym (sets-eq v held (64 * k) (omega arith) ∙ rw size refl))
 
 -- a set that is emptied at a finish
 module _ (finishes : Bool) (held : List ℕ) (k : ℕ) where

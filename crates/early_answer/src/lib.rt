@@ -12,13 +12,31 @@ ghost use Rattle.early.specs.Log.{log_of, places_with};
 ghost use Rattle.early.specs.Request.{is_full_by, number_ready, refused_with};
 ghost use Rattle.early.specs.Call.{held_at, with_held, running_from, finish_number};
 ghost use Rattle.early_ports.specs.Cross.{ports_in, segment_with, conflicts_on};
+ghost use Rattle.refusal.specs.Number.{number_of, number_told};
+ghost use Rattle.early_row.specs.Lent.{is_by_steps, lent_of};
 ghost use Rattle.early_answer.specs.Answered.{thread_of, is_grant, is_finish, hazard_on, number_on, call_number_on, effect_from, grant_on, stored_in, effect_on, run_on, emptied_by, called_on, EnoughHeld, HasRoom};
 ghost use Rattle.early_answer.specs.After.{after_of};
 ghost use Rattle.early_answer.specs.Shown.{Shows};
 
 use clock::{Bound, Cycle, Stamp, ThreadNo, Time};
 use early::{After, Answer, Call, Site};
+use early_row::Distances;
 use model::{Events, Ran, Segment, Start, State, Thread, Threads, Variables};
+use refusal::Refusal;
+
+// What calls on one model are answered by, made once: its horizon and counts, the starts of its threads, which segments conflict, what they
+// name, where distances come from, and the ways to the events.
+#[derive(Drop)]
+pub struct Desk<'a> {
+    pub horizon: Time,
+    pub n: u8,
+    pub t: u8,
+    pub starts: [Start; 32],
+    pub marks: [[bool; 64]; 64],
+    pub names: &'a [u64],
+    pub from: Distances<'a>,
+    pub reach: &'a [u64],
+}
 
 pub fn refused(number: u8, site: Site, threads: Threads) -> After
     ensures { result ≡ after_of (refused_with number site threads.at) }
@@ -38,10 +56,8 @@ fn places_of(t: u8, listed: Events, counted: Site, threads: Threads, k: u8) -> u
     if t <= k {
         return 0;
     }
-    let i = buffers::wide(k);
-    let x = threads.at[i];
-    let s = x.state;
-    let c = model_effect::cycle_of(s);
+    let i = usize::from(k);
+    let c = model_effect::cycle_of(threads.at[i].state);
     early_log::places_with(counted, c, listed)
 }
 
@@ -50,118 +66,100 @@ fn is_full(t: u8, places: usize, threads: Threads, c: Cycle) -> bool
     requires { t ≤ 32 }
     ensures { result ≡ is_full_by (floor_below t threads.at) places c }
 {
-    if 128 < places {
-        return true;
-    }
-    if places <= 96 {
-        return false;
-    }
-    clock::is_bound_before(early_deliver::floor_of(threads, t), Bound::At(c))
+    places > 128
+        || places > 96 && clock::is_bound_before(early_deliver::floor_of(threads, t), Bound::At(c))
 }
 
-// 14, 15 or 0, of a ready thread up to the horizon, whose pairs take so many places with the log.
+// 14 or 15, of a ready thread up to the horizon, whose pairs take so many places with the log.
 fn decide_ready(
-    n: u8,
-    t: u8,
-    starts: [Start; 32],
-    marks: [[bool; 64]; 64],
-    names: &[u64],
-    words: &[u64],
-    row: &mut [u64],
-    stepwise: bool,
-    reach: &[u64],
+    desk: &Desk<'_>,
+    room: &mut [u64],
     places: usize,
     site: Site,
     threads: Threads,
     at: Stamp,
-) -> u8
-    requires { t ≤ 32 }
-    ensures kept { length row.new ≡ length row.old }
-    ensures number { (es : List ℕ) (l : List Notification) → places ≡ places_with l at.cycle es → (ws : List ℕ) → Shows n t ws stepwise words.now (length row.old) threads.at → result ≡ number_ready (hazard_on n t (conflicts_on marks names.now starts) ws reach.now (log_of site) threads.at at.thread.0) (floor_below t threads.at) es l at.cycle }
+) -> Result<(), Refusal>
+    requires { desk.now.t ≤ 32 }
+    ensures kept { length room.new ≡ length room.old }
+    ensures number { (es : List ℕ) (l : List Notification) → places ≡ places_with l at.cycle es → (ws : List ℕ) → Shows desk.now.n desk.now.t ws (is_by_steps desk.now.from) (lent_of desk.now.from) (length room.old) threads.at → number_told result ≡ number_ready (hazard_on desk.now.n desk.now.t (conflicts_on desk.now.marks desk.now.names.now desk.now.starts) ws desk.now.reach.now (log_of site) threads.at at.thread.0) (floor_below desk.now.t threads.at) es l at.cycle }
 {
-    let o = early_deliver::outlook_of(reach, site, threads, t);
-    let segments = o.segments;
-    let limits = o.limits;
+    let o = early_deliver::outlook_of(desk.reach, site, threads, desk.t);
     if early_hazard::hazard(
-        marks, names, starts, words, row, stepwise, n, t, segments, limits, at,
+        desk.marks,
+        desk.names,
+        desk.starts,
+        desk.from,
+        room,
+        desk.n,
+        desk.t,
+        o.segments,
+        o.limits,
+        at,
     ) {
-        return 14;
+        return Err(Refusal::HazardStands);
     }
-    let c = at.cycle;
-    if is_full(t, places, threads, c) {
-        return 15;
+    if is_full(desk.t, places, threads, at.cycle) {
+        return Err(Refusal::LogFull);
     }
-    0
+    Ok(())
 }
 
-// The number of a thread that is not ready: 19 for one "already running", 12 for any other.
-fn unready_number(s: State) -> u8
-    ensures { result ≡ cond (is_running s) 19 12 }
+// The refusal of a thread that is not ready: 19 for one "already running", 12 for any other.
+fn unready(s: State) -> Refusal
+    ensures { number_of result ≡ cond (is_running s) 19 12 }
 {
     match s {
-        State::Ended(_) | State::Overrun(_) | State::Ready(_) | State::Waiting(_, _) => 12,
-        State::Running(_) => 19,
+        State::Ended(_) | State::Overrun(_) | State::Ready(_) | State::Waiting(_, _) =>
+            Refusal::NotReady,
+        State::Running(_) => Refusal::OutOfTurn,
     }
 }
 
-// The number of a request or a grant on a fit state, 0 where it is granted: by the counts of the model, its horizon and the places that the
+// The refusal of a request or a grant on a fit state: by the counts of the model, its horizon and the places that the
 // segment's pairs take with the log.
 fn decide(
-    horizon: Time,
-    n: u8,
-    t: u8,
-    starts: [Start; 32],
-    marks: [[bool; 64]; 64],
-    names: &[u64],
-    words: &[u64],
-    row: &mut [u64],
-    stepwise: bool,
-    reach: &[u64],
+    desk: &Desk<'_>,
+    room: &mut [u64],
     places: usize,
     site: Site,
     threads: Threads,
     k: ThreadNo,
-) -> u8
-    requires { t ≤ 32 }
-    ensures kept { length row.new ≡ length row.old }
-    ensures number { (es : List ℕ) (l : List Notification) → (k.0 < t → places ≡ places_with l (cycle_of (thread_at threads.at k.0).state) es) → (ws : List ℕ) → Shows n t ws stepwise words.now (length row.old) threads.at → result ≡ number_on (horizon.0 + 1) n t es (conflicts_on marks names.now starts) ws reach.now l (log_of site) threads.at k.0 }
+) -> Result<(), Refusal>
+    requires { desk.now.t ≤ 32 }
+    ensures kept { length room.new ≡ length room.old }
+    ensures number { (es : List ℕ) (l : List Notification) → (k.0 < desk.now.t → places ≡ places_with l (cycle_of (thread_at threads.at k.0).state) es) → (ws : List ℕ) → Shows desk.now.n desk.now.t ws (is_by_steps desk.now.from) (lent_of desk.now.from) (length room.old) threads.at → number_told result ≡ number_on (desk.now.horizon.0 + 1) desk.now.n desk.now.t es (conflicts_on desk.now.marks desk.now.names.now desk.now.starts) ws desk.now.reach.now l (log_of site) threads.at k.0 }
 {
-    if t <= k.0 {
-        return 10;
+    if desk.t <= k.0 {
+        return Err(Refusal::WrongThread);
     }
-    let i = buffers::wide(k.0);
-    let x = threads.at[i];
-    let s = x.state;
+    let i = usize::from(k.0);
+    let s = threads.at[i].state;
     let State::Ready(c) = s else {
-        return unready_number(s);
+        return Err(unready(s));
     };
-    if horizon.0 < c.time.0 {
-        return 13;
+    if desk.horizon.0 < c.time.0 {
+        return Err(Refusal::PastHorizon);
     }
     let at = Stamp {
         cycle: c,
         thread: k,
     };
-    decide_ready(
-        n, t, starts, marks, names, words, row, stepwise, reach, places, site, threads, at,
-    )
+    decide_ready(desk, room, places, site, threads, at)
 }
 
 // Document 02, slip 7: 19 when "one not running is finished, checked after 10; no later number refuses a finish".
-fn finish_number(t: u8, threads: Threads, k: u8) -> u8
+fn decide_finish(t: u8, threads: Threads, k: u8) -> Result<(), Refusal>
     requires { t ≤ 32 }
-    ensures { result ≡ finish_number t threads.at k }
+    ensures { number_told result ≡ finish_number t threads.at k }
 {
     if t <= k {
-        return 10;
+        return Err(Refusal::WrongThread);
     }
-    let i = buffers::wide(k);
-    let x = threads.at[i];
-    let s = x.state;
-    let State::Running(_) = s else {
-        return 19;
+    let i = usize::from(k);
+    let State::Running(_) = threads.at[i].state else {
+        return Err(Refusal::OutOfTurn);
     };
-    0
+    Ok(())
 }
 
 // Which thread a call is of, and which call it is.
@@ -169,73 +167,40 @@ pub fn thread_of(call: Call) -> u8
     ensures { result ≡ thread_of call }
 {
     match call {
-        Call::Both(k) => k,
-        Call::Grant(k) => k,
-        Call::Finish(k) => k,
+        Call::Both(k) | Call::Grant(k) | Call::Finish(k) => k,
     }
 }
 
 fn is_grant(call: Call) -> bool
     ensures { result ≡ is_grant call }
 {
-    match call {
-        Call::Both(_) => false,
-        Call::Grant(_) => true,
-        Call::Finish(_) => false,
-    }
+    matches!(call, Call::Grant(_))
 }
 
 fn is_finish(call: Call) -> bool
     ensures { result ≡ is_finish call }
 {
-    match call {
-        Call::Both(_) => false,
-        Call::Grant(_) => false,
-        Call::Finish(_) => true,
-    }
+    matches!(call, Call::Finish(_))
 }
 
-// The number of a call on a fit state.
+// The refusal of a call on a fit state.
 fn decide_call(
-    horizon: Time,
-    n: u8,
-    t: u8,
-    starts: [Start; 32],
-    marks: [[bool; 64]; 64],
-    names: &[u64],
-    words: &[u64],
-    row: &mut [u64],
-    stepwise: bool,
-    reach: &[u64],
+    desk: &Desk<'_>,
+    room: &mut [u64],
     places: usize,
     site: Site,
     threads: Threads,
     call: Call,
-) -> u8
-    requires { t ≤ 32 }
-    ensures kept { length row.new ≡ length row.old }
-    ensures number { (es : List ℕ) (l : List Notification) → (thread_of call < t → places ≡ places_with l (cycle_of (thread_at threads.at (thread_of call)).state) es) → (ws : List ℕ) → Shows n t ws stepwise words.now (length row.old) threads.at → result ≡ call_number_on (horizon.0 + 1) n t es (conflicts_on marks names.now starts) ws reach.now l (log_of site) threads.at call }
+) -> Result<(), Refusal>
+    requires { desk.now.t ≤ 32 }
+    ensures kept { length room.new ≡ length room.old }
+    ensures number { (es : List ℕ) (l : List Notification) → (thread_of call < desk.now.t → places ≡ places_with l (cycle_of (thread_at threads.at (thread_of call)).state) es) → (ws : List ℕ) → Shows desk.now.n desk.now.t ws (is_by_steps desk.now.from) (lent_of desk.now.from) (length room.old) threads.at → number_told result ≡ call_number_on (desk.now.horizon.0 + 1) desk.now.n desk.now.t es (conflicts_on desk.now.marks desk.now.names.now desk.now.starts) ws desk.now.reach.now l (log_of site) threads.at call }
 {
     let k = thread_of(call);
     if is_finish(call) {
-        return finish_number(t, threads, k);
+        return decide_finish(desk.t, threads, k);
     }
-    decide(
-        horizon,
-        n,
-        t,
-        starts,
-        marks,
-        names,
-        words,
-        row,
-        stepwise,
-        reach,
-        places,
-        site,
-        threads,
-        ThreadNo(k),
-    )
+    decide(desk, room, places, site, threads, ThreadNo(k))
 }
 
 // Document 01, "After a grant": what the segment left is logged and its record closed, then deliveries, and the drop before the floor.
@@ -245,31 +210,23 @@ fn finish(reach: &[u64], t: u8, ran: Ran, site: Site, threads: Threads, at: Stam
     requires ran_bound { places_with (log_of site) at.cycle (effect_from ran).notified ≤ 128 }
     ensures { result ≡ after_of (grant_on reach.now t site threads.at at.thread.0 at.cycle (effect_from ran)) }
 {
-    let i = buffers::wide(at.thread.0);
-    let c = at.cycle;
-    let x = threads.at[i];
-    let s = x.segment;
-    let variables = ran.variables;
-    let events = ran.notified;
-    let thread = ran.thread;
-    let log = site.log;
-    let count = site.count;
+    let i = usize::from(at.thread.0);
+    let s = threads.at[i].segment;
     let noted = early_log::note(
         Site {
-            variables,
-            log,
-            count,
+            variables: ran.variables,
+            ..site
         },
-        c,
-        events,
+        at.cycle,
+        ran.notified,
     );
     let mut closed = threads;
-    closed.at[i] = thread;
+    closed.at[i] = ran.thread;
     let after = early_deliver::settle(reach, noted, closed, t);
     let floor = early_deliver::floor_of(after, t);
     let kept = early_log::drop_before(noted, floor);
     After {
-        answer: Answer::Granted(s, c),
+        answer: Answer::Granted(s, at.cycle),
         site: kept,
         threads: after,
     }
@@ -280,12 +237,8 @@ fn hold(held: &mut [u32], k: u8, v: Variables)
     requires { 64 * k + 64 ≤ length held.old }
     ensures { held.new ≡ with_held held.old k v.at }
 {
-    let from = 64 * buffers::wide(k);
-    let mut i = 0;
-    while i < 64 {
-        held[from + i] = v.at[i];
-        i += 1;
-    }
+    let from = 64 * usize::from(k);
+    held[from..from + 64].copy_from_slice(&v.at);
 }
 
 // The values that are held for thread k.
@@ -293,20 +246,10 @@ fn held_for(held: &[u32], k: u8) -> Variables
     requires { 64 * k + 64 ≤ length held.now }
     ensures { result.at ≡ held_at held.now k }
 {
-    let from = 64 * buffers::wide(k);
+    let from = 64 * usize::from(k);
     let mut at = [0u32; 64];
-    let mut i = 0;
-    while i < 64 {
-        at[i] = held[from + i];
-        i += 1;
-    }
+    at.copy_from_slice(&held[from..from + 64]);
     Variables { at }
-}
-
-fn chosen(b: bool, x: u32, y: u32) -> u32
-    ensures { result ≡ cond b x y }
-{
-    if b { x } else { y }
 }
 
 // Document 02, slip 7: "stores the variables it writes": those of w that the segment writes, over v.
@@ -315,23 +258,24 @@ fn store_written(g: Segment, v: Variables, w: Variables) -> Variables
 {
     let written = early_ports::names_of(g, 0, true);
     let mut out = v;
-    let mut i = 0;
-    while i < 64 {
-        out.at[i] = chosen(masks::has(written, i), w.at[i], v.at[i]);
-        i += 1;
+    for i in 0..64 {
+        let x = if masks::has(written, i) {
+            w.at[i]
+        } else {
+            v.at[i]
+        };
+        out.at[i] = x;
     }
     out
 }
 
 // The values that a call's segment reads: those held at a finish, else the variables.
+// Here and below `finishes` stays a truth value: the call tells it, and a closure for each way would carry `held` along, which is no plainer.
 fn values_for(finishes: bool, v: Variables, held: &[u32], k: u8) -> Variables
     requires { finishes ≡ true → 64 * k + 64 ≤ length held.now }
     ensures { result.at ≡ cond finishes (held_at held.now k) v.at }
 {
-    if finishes {
-        return held_for(held, k);
-    }
-    v
+    if finishes { held_for(held, k) } else { v }
 }
 
 // What a segment does at its end or at once.
@@ -342,15 +286,8 @@ fn ran_by(finishes: bool, g: Segment, s: u8, c: Cycle, v: Variables, held: &[u32
     let read = values_for(finishes, v, held, k);
     let ran = model_effect::effect_in(g, s, c, read);
     if finishes {
-        let made = ran.variables;
-        let notified = ran.notified;
-        let thread = ran.thread;
-        let variables = store_written(g, v, made);
-        return Ran {
-            variables,
-            notified,
-            thread,
-        };
+        let variables = store_written(g, v, ran.variables);
+        return Ran { variables, ..ran };
     }
     ran
 }
@@ -383,13 +320,10 @@ fn run_call(
     ensures held { held.new ≡ emptied_by finishes held.old k.0 }
     ensures left { result ≡ after_of (run_on finishes reach.now t g site threads.at held.old k.0) }
 {
-    let i = buffers::wide(k.0);
-    let x = threads.at[i];
-    let s = x.segment;
-    let state = x.state;
-    let c = model_effect::cycle_of(state);
-    let v = site.variables;
-    let ran = ran_by(finishes, g, s, c, v, held, k.0);
+    let i = usize::from(k.0);
+    let s = threads.at[i].segment;
+    let c = model_effect::cycle_of(threads.at[i].state);
+    let ran = ran_by(finishes, g, s, c, site.variables, held, k.0);
     empty(finishes, held, k.0);
     let at = Stamp {
         cycle: c,
@@ -404,13 +338,10 @@ fn start(site: Site, threads: Threads, held: &mut [u32], k: u8) -> After
     ensures held { held.new ≡ with_held held.old k site.variables.at }
     ensures left { result ≡ after_of (running_from site threads.at k) }
 {
-    let i = buffers::wide(k);
-    let x = threads.at[i];
-    let segment = x.segment;
-    let state = x.state;
-    let c = model_effect::cycle_of(state);
-    let v = site.variables;
-    hold(held, k, v);
+    let i = usize::from(k);
+    let segment = threads.at[i].segment;
+    let c = model_effect::cycle_of(threads.at[i].state);
+    hold(held, k, site.variables);
     let mut begun = threads;
     begun.at[i] = Thread {
         segment,
@@ -423,50 +354,38 @@ fn start(site: Site, threads: Threads, held: &mut [u32], k: u8) -> After
     }
 }
 
-// A call on a fit state, by the counts of its model, its horizon, the segment that the thread is in and the threads' ports: decided, then
-// begun or run, after mapping. Distances are read in the words, or worked out from steps in the row; `counted` has the log with what is
-// counted.
+// A call on a fit state, of a thread in segment g: decided, then begun or run, after mapping. A row of distances is worked out in the room
+// that is lent for it; `counted` has the log with what is counted.
 pub fn called(
-    horizon: Time,
-    n: u8,
-    t: u8,
+    desk: &Desk<'_>,
+    room: &mut [u64],
     g: Segment,
-    starts: [Start; 32],
-    marks: [[bool; 64]; 64],
-    names: &[u64],
-    words: &[u64],
-    row: &mut [u64],
-    stepwise: bool,
-    reach: &[u64],
     counted: Site,
     site: Site,
     threads: Threads,
     held: &mut [u32],
     call: Call,
 ) -> After
-    requires { (t ≤ 32) × ((ws : List ℕ) × Shows n t ws stepwise words.now (length row.old) threads.at) × EnoughHeld t held.old call × HasRoom t g counted site threads.at call }
-    ensures kept { length row.new ≡ length row.old }
-    ensures held { (ws : List ℕ) → Shows n t ws stepwise words.now (length row.old) threads.at → held.new ≡ (called_on (horizon.0 + 1) n t (segment_with (ports_in starts (thread_of call)) g) (conflicts_on marks names.now starts) ws reach.now counted site threads.at held.old call).held }
-    ensures left { (ws : List ℕ) → Shows n t ws stepwise words.now (length row.old) threads.at → result ≡ after_of (called_on (horizon.0 + 1) n t (segment_with (ports_in starts (thread_of call)) g) (conflicts_on marks names.now starts) ws reach.now counted site threads.at held.old call).left }
+    requires { (desk.now.t ≤ 32) × ((ws : List ℕ) × Shows desk.now.n desk.now.t ws (is_by_steps desk.now.from) (lent_of desk.now.from) (length room.old) threads.at) × EnoughHeld desk.now.t held.old call × HasRoom desk.now.t g counted site threads.at call }
+    ensures kept { length room.new ≡ length room.old }
+    ensures held { (ws : List ℕ) → Shows desk.now.n desk.now.t ws (is_by_steps desk.now.from) (lent_of desk.now.from) (length room.old) threads.at → held.new ≡ (called_on (desk.now.horizon.0 + 1) desk.now.n desk.now.t (segment_with (ports_in desk.now.starts (thread_of call)) g) (conflicts_on desk.now.marks desk.now.names.now desk.now.starts) ws desk.now.reach.now counted site threads.at held.old call).held }
+    ensures left { (ws : List ℕ) → Shows desk.now.n desk.now.t ws (is_by_steps desk.now.from) (lent_of desk.now.from) (length room.old) threads.at → result ≡ after_of (called_on (desk.now.horizon.0 + 1) desk.now.n desk.now.t (segment_with (ports_in desk.now.starts (thread_of call)) g) (conflicts_on desk.now.marks desk.now.names.now desk.now.starts) ws desk.now.reach.now counted site threads.at held.old call).left }
 {
     let k = thread_of(call);
-    let places = places_of(t, model_effect::listed(g), counted, threads, k);
-    let number = decide_call(
-        horizon, n, t, starts, marks, names, words, row, stepwise, reach, places, site, threads,
-        call,
-    );
-    if number != 0 {
-        return refused(number, site, threads);
+    let places = places_of(desk.t, model_effect::listed(g), counted, threads, k);
+    let decided = decide_call(desk, room, places, site, threads, call);
+    if let Err(r) = decided {
+        return refused(u8::from(r), site, threads);
     }
     if is_grant(call) {
         return start(site, threads, held, k);
     }
-    let ports = early_ports::ports_of(starts, buffers::wide(k));
+    let ports = early_ports::ports_of(desk.starts, usize::from(k));
     let own = early_ports::segment_for(ports, g);
     run_call(
         is_finish(call),
-        reach,
-        t,
+        desk.reach,
+        desk.t,
         own,
         site,
         threads,
@@ -480,10 +399,9 @@ pub fn segment_of(threads: Threads, t: u8, k: u8) -> usize
     requires { t ≤ 32 }
     ensures { result ≡ cond (ltb k t) (thread_at threads.at k).segment 0 }
 {
-    if t <= k {
-        return 0;
+    if k < t {
+        usize::from(threads.at[usize::from(k)].segment)
+    } else {
+        0
     }
-    let i = buffers::wide(k);
-    let x = threads.at[i];
-    buffers::wide(x.segment)
 }

@@ -1,10 +1,9 @@
 -- The crew and the first limits of thread records, as the code fills them; the floor.
-use Prim.Native.Nat.{ℕ, ◌+◌, ◌<◌, ◌≤◌}
+use Prim.Native.Nat.{ℕ, ◌+◌, ◌<◌}
 use mathlib.Core.Path.{◌≡◌, refl}
 use mathlib.Core.List.{List}
 use native.Mathlib.Numerals.{add-one}
 use lib.ListN.{get_or, set, replicate}
-use borrow.Author.Tests.{lt-ltb, le-ltb}
 use Rattle.clock.specs.declared.Bound.{Bound}
 use Rattle.clock.specs.declared.Bound.TheVariants.{Never}
 use Rattle.clock.specs.Advance.{least, least_below}
@@ -13,7 +12,6 @@ use Rattle.model.specs.Record.{no_thread, thread_at, ready_cycle, awaited_by}
 use Rattle.tables.specs.Word.{all_ones}
 use Rattle.plain.specs.Wake.{floor_below}
 use Rattle.early.specs.declared.Notification.{Notification}
-use Rattle.early_limits.specs.Limit.{top, sum_of}
 use Rattle.early_limits.specs.Ahead.{event_awaited, since_awaited, segments_of, events_of, since_of, crew_of}
 use Rattle.early_deliver.specs.Awake.{first_limit, first_limits}
 use Rattle.early_deliver.proofs.FillLaws.{fill_none, fill_more}
@@ -34,15 +32,14 @@ module _ (ts : List Thread) where
         began = fill_none (λ k. since_awaited (awaited_by (thread_at ts k).state)) 0;
       }
 
-  pub crew-more : (segments events since : List ℕ) (k e c : ℕ) → k < 32 → CrewTo segments events since k
-      → e ≡ event_awaited (awaited_by (get_or ts k no_thread).state) → c ≡ since_awaited (awaited_by (get_or ts k no_thread).state)
-      → CrewTo (set segments k (get_or ts k no_thread).segment) (set events k e) (set since k c) (k + 1)
+  pub crew-more : (segments events since : List ℕ) (k e c : ℕ) (x : Thread) → k < 32 → CrewTo segments events since k → x ≡ get_or ts k no_thread
+      → e ≡ event_awaited (awaited_by x.state) → c ≡ since_awaited (awaited_by x.state) → CrewTo (set segments k x.segment) (set events k e) (set since k c) (k + 1)
   unfolding segments_of events_of since_of thread_at
-  crew-more segments events since k e c h to f g =
+  crew-more segments events since k e c x h to here f g =
       record {
-        segment = rw to.segment (fill_more (λ i. (thread_at ts i).segment) 0 k h);
-        event = rw (to.event, f) (fill_more (λ i. event_awaited (awaited_by (thread_at ts i).state)) 255 k h);
-        began = rw (to.began, g) (fill_more (λ i. since_awaited (awaited_by (thread_at ts i).state)) 0 k h);
+        segment = rw (to.segment, here) (fill_more (λ i. (thread_at ts i).segment) 0 k h);
+        event = rw (to.event, f, here) (fill_more (λ i. event_awaited (awaited_by (thread_at ts i).state)) 255 k h);
+        began = rw (to.began, g, here) (fill_more (λ i. since_awaited (awaited_by (thread_at ts i).state)) 0 k h);
       }
 
   pub crew-all : (segments events since : List ℕ) (k t : ℕ) → k ≡ t → CrewTo segments events since k → record { segments = segments; events = events; since = since } ≡ crew_of t ts
@@ -64,12 +61,3 @@ module _ (ts : List Thread) where
   pub floor-more : (b : Bound) (k : ℕ) → b ≡ floor_below k ts → least b (ready_cycle (get_or ts k no_thread).state) ≡ floor_below (k + 1) ts
   unfolding floor_below least_below thread_at
   floor-more b k e = rw (add-one, e) refl
-
--- one delta later
-pub later-small : (x : ℕ) → x < top → x + 1 ≡ sum_of x 1
-unfolding sum_of
-later-small x h = rw (lt-ltb x top h) refl
-
-pub later-never : (x : ℕ) → top ≤ x → all_ones ≡ sum_of x 1
-unfolding sum_of
-later-never x h = rw (le-ltb x top h) refl

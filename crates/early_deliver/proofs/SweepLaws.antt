@@ -108,11 +108,10 @@ module _ (reach : List ℕ) (t : ℕ) (l : List Notification) where
       rw (p, q) refl
 
   -- for the code: a look that hears, and a turn of the sweep
-  pub look-heard : (w : Outlook) (us vs : List Thread) {Q : Type 0} → w ≡ outlook_of reach t l us true → us ≡ vs
-      → (record { threads = w.threads; segments = w.segments; limits = w.limits; heard = true } ≡ outlook_of reach t l vs true) × (true ≡ false → Q)
-  unfolding outlook_of
+  pub look-heard : (w : Outlook) (us vs : List Thread) {Q : Type 0} → w ≡ outlook_of reach t l us true → us ≡ vs → (w ≡ outlook_of reach t l vs w.heard) × (w.heard ≡ false → Q)
   look-heard w us vs e f =
-      (ap (λ (p : Outlook). record { threads = p.threads; segments = p.segments; limits = p.limits; heard = true }) e ∙ ap (λ (ws : List Thread). outlook_of reach t l ws true) f, λ g. absurd (true-not-false g))
+      let heard = outlook-heard w us true e in
+      (e ∙ (ap (λ (ws : List Thread). outlook_of reach t l ws true) f ∙ ap (outlook_of reach t l vs) (sym heard)), λ g. absurd (true-not-false (sym heard ∙ g)))
 
   pub sweep-more : (o w : Outlook) (ts : List Thread) (k : ℕ) → o ≡ outlook_of reach t l (swept_by (sooner_on reach t l) l ts k) o.heard
       → w ≡ outlook_of reach t l (looked_by (sooner_on reach t l) l o.threads.at k) w.heard → w ≡ outlook_of reach t l (swept_by (sooner_on reach t l) l ts (k + 1)) w.heard

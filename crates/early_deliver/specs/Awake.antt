@@ -14,9 +14,15 @@ use Rattle.tables.specs.Word.{all_ones}
 use Rattle.early.specs.declared.Notification.{Notification}
 use Rattle.early.specs.Log.{least_heard}
 use Rattle.early.specs.Deliver.{Sooner}
+use Rattle.early_log.specs.declared.Rows.{Rows}
+use Rattle.early_log.specs.Spread.{log_in}
 use Rattle.early_deliver.specs.declared.Outlook.{Outlook}
 use Rattle.early_limits.specs.Limit.{limit_of_cycle, sum_of}
 use Rattle.early_limits.specs.Ahead.{forecast_at, earliest_limits, segments_of, crew_of}
+
+-- the log that rows hold
+abbrev pub log_on : Rows → List Notification
+log_on r = log_in r.events r.times r.deltas r.n
 
 -- a bound as a limit
 abbrev pub bound_limit : Bound → ℕ

@@ -1,11 +1,12 @@
 -- The loops of hazard, as the code leaves them: a segment, the row of one thread, then the threads, then the marks.
 --     threatens_limit-late     what is not sooner by itself does not threaten by any row
 --     threatens_limit-row     a row worked out says what the table says
-use Prim.Native.Nat.{ℕ, ◌+◌, ◌*◌, ◌≤◌, ◌<◌}
-use mathlib.Core.Path.{◌≡◌, refl, sym, ◌∙◌}
+use Prim.Native.Nat.{ℕ, min, ◌+◌, ◌*◌, ◌≤◌, ◌<◌}
+use mathlib.Core.Path.{◌≡◌, refl, sym}
 use mathlib.Core.Bool.{Bool, true, false, not, ◌&&◌, and-false}
 use mathlib.Core.List.{List, []}
 use native.Mathlib.Omega.{arith}
+use native.Mathlib.Decide.{dec_lt}
 use native.Mathlib.Numerals.{add-one}
 use native.Mathlib.Nat.{zero-add}
 use lib.Dec.{eqb}
@@ -16,11 +17,9 @@ use Rattle.base.proofs.IndexLaws.{any_below-same, any_below-here, any_below-empt
 use Rattle.base.proofs.ListLaws.{get_d_any}
 use Rattle.clock.specs.declared.Stamp.{Stamp}
 use Rattle.model.specs.declared.Start.{Start}
-use Rattle.model.specs.declared.Model.{Model}
-use Rattle.model.specs.Rules.{model_fault}
 use Rattle.tables.specs.Conflict.{mark_at}
 use Rattle.tables.specs.Word.{all_ones}
-use Rattle.tables_row.specs.Row.{step_words, IsRow, BySteps, Knows}
+use Rattle.tables_row.specs.Row.{Knows}
 use Rattle.early_ports.specs.declared.Footprint.{Footprint}
 use Rattle.early_ports.specs.Cross.{footprint_of, crosses, ports_in, conflicts_on}
 use Rattle.early_ports.proofs.CrossLaws.{crosses-none, conflicts_on-past}
@@ -101,14 +100,6 @@ unfolding threatens_limit threat_by
 threatens_limit-row conflicts row ws n q b j c i same =
     any_below-same (at_most 64 n) (threat_by conflicts row n 0 b j c i) (threat_by conflicts ws n q b j c i)
     (λ s h. rw (zero-add s, same s (omega (arith, (at_most-≤ 64 n).1))) refl)
-
-pub threatens_limit-steps :
-    (conflicts : ℕ → Bool) (ws lent row : List ℕ) (room n r b j c i : ℕ) (x : Bool) → BySteps n ws lent room → r < n →
-    ((m : Model) → model_fault m ≡ 0 → n ≡ m.n → lent ≡ step_words m → r < m.n → 64 ≤ room → IsRow m r row) → x ≡ threatens_limit conflicts row n 0 b j c i →
-    x ≡ threatens_limit conflicts ws n (r * n) b j c i
-threatens_limit-steps conflicts ws lent row room n r b j c i x knows h filled f =
-    let made = filled knows.model knows.kept knows.count knows.steps (omega (arith, knows.count)) knows.room in
-    f ∙ threatens_limit-row conflicts row ws n (r * n) b j c i (λ s l. rw (knows.words, knows.count) (made.at s (omega (arith, knows.count))))
 
 threatens_limit-empty : (conflicts : ℕ → Bool) (ws : List ℕ) (n p b j c i : ℕ) → ((s : ℕ) → conflicts s ≡ false) → threatens_limit conflicts ws n p b j c i ≡ false
 unfolding threatens_limit threat_by

@@ -1,19 +1,20 @@
 -- The records that are moved are those of the threads, and the request on them, moved back, is the request on the whole slice.
 --     moved_of-le     no more are moved than are lent, nor than are held by value
+--     loaded-copied, stored-copied     the records that are copied
 --     stored-length     a slice keeps its length
 --     Moves     what is used of a call: it reads and writes the threads' records alone, and 11 comes first
 --     moved_asked, moved_back, moved-held     the answer and the state, the records that the slice is left with, and the values that are held
 --     moved_all     these three, of what the functions of the code leave
 --     request_of-moves, call_of-moves     by the whole table; a request is a call that holds nothing
 --     lent-short, lent-enough, held-short, held-enough     the exits of `request_of`, `request_of_rows`, `call_of` and `call_of_rows`
-use Prim.Native.Nat.{ℕ, zero, suc, ◌<◌, ◌≤◌}
+use Prim.Native.Nat.{ℕ, zero, suc, ◌+◌, ◌-◌, ◌<◌, ◌≤◌}
 use mathlib.Core.Path.{◌≡◌, refl, ap, sym, ◌∙◌}
 use mathlib.Core.Bool.{Bool}
-use mathlib.Core.List.{List, []}
+use mathlib.Core.List.{List, [], ◌++◌}
 use native.Mathlib.Omega.{arith}
 use native.Mathlib.Decide.{dec_lt, ℕ_discrete}
-use lib.ListN.{length, get_or, set, length-set, length-replicate}
-use lib.Seq.{get_or-set_same, get_or-set_other, ext_get_or}
+use lib.ListN.{length, get_or, set, take, drop, length-set, length-replicate, length-append, length-drop, get_or-append}
+use lib.Seq.{get_or-set_same, get_or-set_other, get_or-append-add, get_or-take, get_or-drop, length-take-le, ext_get_or}
 use borrow.Author.Tests.{lt-ltb, le-ltb}
 use Rattle.model.specs.declared.Model.{Model}
 use Rattle.model.specs.declared.Thread.{Thread}
@@ -57,6 +58,37 @@ loaded_at ts (suc n) to j h few = go (λ l. loaded_at ts n to j l (omega arith))
     go ih (yes e) = rw e (get_or-set_same (loaded ts n to).at n (get_or ts n no_thread) no_thread (omega (arith, loaded-length ts n to)))
     go ih (no e) = get_or-set_other (loaded ts n to).at n j (get_or ts n no_thread) no_thread e ∙ ih (omega arith)
 
+loaded_past : (ts : List Thread) (n : ℕ) (to : Threads) (j : ℕ) → n ≤ j → get_or (loaded ts n to).at j no_thread ≡ get_or to.at j no_thread
+loaded_past ts zero to j h = refl
+loaded_past ts (suc n) to j h = get_or-set_other (loaded ts n to).at n j (get_or ts n no_thread) no_thread (λ e. omega arith) ∙ loaded_past ts n to j (omega arith)
+
+-- n records copied in front of those after the first n
+module _ (xs ys : List Thread) (n : ℕ) (few : n ≤ length xs) (fits : n ≤ length ys) where
+  front-length : length (take n xs) ≡ n
+  front-length = length-take-le n xs few
+
+  copied-at : (j : ℕ) → j < n → get_or (take n xs ++ drop n ys) j no_thread ≡ get_or xs j no_thread
+  copied-at j h = get_or-append (take n xs) (drop n ys) no_thread j (omega (arith, front-length)) ∙ get_or-take n xs j no_thread h
+
+  copied-past : (j : ℕ) → n ≤ j → get_or (take n xs ++ drop n ys) j no_thread ≡ get_or ys j no_thread
+  copied-past j h =
+      let e : j ≡ length (take n xs) + (j - n) = omega (arith, front-length) in
+      let f : n + (j - n) ≡ j = omega arith in
+      ap (λ (i : ℕ). get_or (take n xs ++ drop n ys) i no_thread) e
+      ∙ (get_or-append-add (take n xs) (drop n ys) (j - n) no_thread ∙ (get_or-drop n ys (j - n) no_thread ∙ ap (λ (i : ℕ). get_or ys i no_thread) f))
+
+  copied-length : length (take n xs ++ drop n ys) ≡ length ys
+  copied-length = length-append (take n xs) (drop n ys) ∙ rw (front-length, length-drop n ys) (omega arith)
+
+-- as the code copies them out
+pub loaded-copied : (ts : List Thread) (n : ℕ) (to : Threads) → n ≤ length ts → n ≤ length to.at → take n ts ++ drop n to.at ≡ (loaded ts n to).at
+loaded-copied ts n to few fits =
+    ext_get_or no_thread (take n ts ++ drop n to.at) (loaded ts n to).at (copied-length ts to.at n few fits ∙ sym (loaded-length ts n to)) (λ j h. go j (dec_lt j n))
+  where
+    go : (j : ℕ) → Dec (j < n) → get_or (take n ts ++ drop n to.at) j no_thread ≡ get_or (loaded ts n to).at j no_thread
+    go j (yes h) = copied-at ts to.at n few fits j h ∙ sym (loaded_at ts n to j h fits)
+    go j (no h) = copied-past ts to.at n few fits j (omega arith) ∙ sym (loaded_past ts n to j (omega arith))
+
 -- and into it
 
 pub stored-length : (ts : List Thread) (n : ℕ) (from : Threads) → length (stored ts n from) ≡ length ts
@@ -83,6 +115,13 @@ stored_is ts us n from few long moved rest = ext_get_or no_thread (stored ts n f
     go : (j : ℕ) → Dec (j < n) → get_or (stored ts n from) j no_thread ≡ get_or us j no_thread
     go j (yes h) = stored_at ts n from j h few ∙ moved j h
     go j (no h) = stored_past ts n from j (omega arith) ∙ rest j (omega arith)
+
+-- as the code copies them in
+pub stored-copied : (ts : List Thread) (n : ℕ) (from : Threads) → n ≤ length ts → n ≤ length from.at → take n from.at ++ drop n ts ≡ stored ts n from
+stored-copied ts n from few fits =
+    sym
+    (stored_is ts (take n from.at ++ drop n ts) n from few (copied-length from.at ts n fits few) (λ j h. sym (copied-at from.at ts n fits few j h))
+    (λ j h. sym (copied-past from.at ts n fits few j h)))
 
 -- what is used of a call Q on records, in a model and a state, with these values held
 pub record Moves (m : Model) (site : Site) (held : List ℕ) (Q : List Thread → Called) : Type 0 where

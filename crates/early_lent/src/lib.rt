@@ -7,7 +7,7 @@ ghost use Rattle.early.specs.Request.{request_of, Answers};
 ghost use Rattle.early.specs.ByRows.{request_by_rows, LeftFree};
 ghost use Rattle.early.specs.Call.{call_of, call_by_rows};
 ghost use Rattle.early_lent.specs.Answered.{asked_of, lent_of, request_first};
-ghost use Rattle.early_lent.specs.Moved.{placed_at, taken_at, loaded, stored, moved_of, request_lent, rows_lent, call_lent, call_rows_lent, done_of};
+ghost use Rattle.early_lent.specs.Moved.{loaded, stored, moved_of, request_lent, rows_lent, call_lent, call_rows_lent, done_of};
 
 use clock::ThreadNo;
 use early::{Answer, Call, Site};
@@ -26,41 +26,21 @@ struct Done {
     threads: Threads,
 }
 
-fn placed(to: Threads, i: usize, t: Thread) -> Threads
-    requires { i < 32 }
-    ensures { result ≡ placed_at to i t }
-{
-    let mut next = to;
-    next.at[i] = t;
-    next
-}
-
-fn taken(from: Threads, i: usize) -> Thread
-    requires { i < 32 }
-    ensures { result ≡ taken_at from i }
-{
-    from.at[i]
-}
-
 // How many records are moved: one for each thread, and no more than are lent or held by value.
 fn moved(lent: usize, t: u8) -> usize
     ensures { result ≡ moved_of lent t }
 {
-    buffers::least(lent, buffers::least(t as usize, 32))
+    lent.min(usize::from(t).min(32))
 }
 
 // The first n records of ts, over those of to.
-fn load(ts: &mut [Thread], n: usize, to: Threads) -> Threads
-    requires { (n ≤ length ts.old) × (n ≤ 32) }
-    ensures { (result ≡ loaded ts.old n to) × (ts.new ≡ ts.old) }
+fn load(ts: &[Thread], n: usize, to: Threads) -> Threads
+    requires { (n ≤ length ts.now) × (n ≤ 32) }
+    ensures { result ≡ loaded ts.now n to }
 {
-    let mut out = to;
-    let mut i = 0;
-    while i < n {
-        out = placed(out, i, ts[i]);
-        i += 1;
-    }
-    out
+    let mut at = to.at;
+    at[..n].copy_from_slice(&ts[..n]);
+    Threads { at }
 }
 
 // The first n records of from, over those of ts.
@@ -68,11 +48,7 @@ fn store(ts: &mut [Thread], n: usize, from: Threads)
     requires { (n ≤ length ts.old) × (n ≤ 32) }
     ensures { ts.new ≡ stored ts.old n from }
 {
-    let mut i = 0;
-    while i < n {
-        ts[i] = taken(from, i);
-        i += 1;
-    }
+    ts[..n].copy_from_slice(&from.at[..n]);
 }
 
 // The core, on the records of a slice of so many: 11 where they are fewer than the threads.
@@ -335,5 +311,5 @@ pub fn request_first(
 ) -> Lent
     ensures { result ≡ request_first m marks words.now site records lent k.0 }
 {
-    lend(m, marks, words, site, records, buffers::least(lent, 40), k)
+    lend(m, marks, words, site, records, lent.min(40), k)
 }

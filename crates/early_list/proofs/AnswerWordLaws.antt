@@ -1,20 +1,29 @@
 -- The words of answers, as the loops of the code write them.
+--     words-put     words that are copied in
 --     words-next, words-done     one answer, and then the rest; none
 --     refuse-none, refuse-more     every answer the same
 --     answers_words-length     how many they are
 --     call_at-both, call_at-grant, call_at-finish     a call as a word
 use Prim.Native.Nat.{ℕ, suc, ◌+◌, ◌*◌, ◌<◌, ◌≤◌, ◌-◌, min}
-use mathlib.Core.Path.{◌≡◌, refl}
+use mathlib.Core.Path.{◌≡◌, refl, sym, ◌∙◌}
 use mathlib.Core.List.{List, [], ◌∷◌}
 use native.Mathlib.Omega.{arith}
 use native.Mathlib.Numerals.{add-one}
 use lib.ListN.{length, get_or, drop, replicate, drop_of_length-le}
-use lib.Seq.{sets, drop-cons}
+use lib.Seq.{sets, drop-cons, take_all}
+use borrow.Rule.Slice.PartMut.{put_mid}
+use Rattle.std.proofs.lemmas.List.Edits.{sets-eq}
+use Rattle.std.proofs.lemmas.Slice.{put_mid-paste}
 use borrow.Author.Tests.{lt-ltb, le-ltb}
 use Rattle.early.specs.declared.Answer.{Answer}
 use Rattle.early.specs.declared.Call.TheVariants.{Both, Grant, Finish}
 use Rattle.early.specs.Call.{call_at}
 use Rattle.early_list.specs.Answers.{answer_words, answers_words}
+
+-- words that are copied in from a place on
+pub words-put : (b vs ys : List ℕ) (at n : ℕ) → ys ≡ vs → n ≡ length vs → at + n ≤ length b → put_mid at n b ys ≡ sets b at vs
+words-put b vs ys at n e f h =
+    put_mid-paste at n b ys vs n e refl f ∙ rw (f, take_all (length vs) vs (omega arith)) (sym (sets-eq vs b at (omega arith)))
 
 -- one answer, and then the rest from the next five words on
 words_more : (b : List ℕ) (at w : ℕ) (a : Answer) (calls : List ℕ) (rest : List Answer)

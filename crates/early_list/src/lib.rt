@@ -9,10 +9,13 @@ ghost use Rattle.early.specs.Call.{is_unfit_held, calls_of, calls_by_rows, call_
 ghost use Rattle.early_limits.specs.Ahead.{reach_of};
 ghost use Rattle.early_ports.specs.Names.{names_for};
 ghost use Rattle.tables_row.specs.Row.{Knows};
+ghost use Rattle.early_row.specs.Lent.{is_by_steps, lent_of};
 ghost use Rattle.early_answer.specs.Shown.{table_by};
 ghost use Rattle.early_list.specs.Answers.{answer_words, answers_words, grants_in, left_by, outcome_of, held_in, answers_in};
 
 use early::{Answer, Call, Site};
+use early_answer::Desk;
+use early_row::Distances;
 use model::{Model, Threads};
 
 // What a list of calls leaves: 11 where the buffer is short, how many were not refused, the state and the records.
@@ -28,26 +31,19 @@ pub struct Outcome {
 pub fn call_at(w: u16) -> Call
     ensures { result ≡ call_at w }
 {
-    if w < 256 {
-        return Call::Both(w as u8);
+    match w {
+        0..=255 => Call::Both(w as u8),
+        256..=511 => Call::Grant((w - 256) as u8),
+        512..=767 => Call::Finish((w - 512) as u8),
+        _ => Call::Finish(255),
     }
-    if w < 512 {
-        return Call::Grant((w - 256) as u8);
-    }
-    if w < 768 {
-        return Call::Finish((w - 512) as u8);
-    }
-    Call::Finish(255)
 }
 
 // Whether an answer is no refusal, as a number.
 fn grants_in(a: Answer) -> u64
     ensures { result ≡ grants_in a }
 {
-    match a {
-        Answer::Granted(_, _) => 1,
-        Answer::Refused(_) => 0,
-    }
+    u64::from(matches!(a, Answer::Granted(_, _)))
 }
 
 // Five words of an answer, from a place on.
@@ -63,11 +59,7 @@ fn put_words(
     requires { at + 5 ≤ length answers.old }
     ensures { answers.new ≡ sets answers.old at (call ∷ number ∷ segment ∷ time ∷ delta ∷ []) }
 {
-    answers[at] = call;
-    answers[at + 1] = number;
-    answers[at + 2] = segment;
-    answers[at + 3] = time;
-    answers[at + 4] = delta;
+    answers[at..at + 5].copy_from_slice(&[call, number, segment, time, delta]);
 }
 
 fn put_answer(answers: &mut [u64], at: usize, w: u16, a: Answer)
@@ -79,15 +71,15 @@ fn put_answer(answers: &mut [u64], at: usize, w: u16, a: Answer)
             put_words(
                 answers,
                 at,
-                w as u64,
+                u64::from(w),
                 0,
-                s as u64,
+                u64::from(s),
                 c.time.0,
-                c.delta.0 as u64,
+                u64::from(c.delta.0),
             );
         }
         Answer::Refused(n) => {
-            put_words(answers, at, w as u64, n as u64, 0, 0, 0);
+            put_words(answers, at, u64::from(w), u64::from(n), 0, 0, 0);
         }
     }
 }
@@ -97,11 +89,8 @@ fn refuse_all(answers: &mut [u64], calls: &[u16], number: u8)
     requires { 5 * length calls.now ≤ length answers.old }
     ensures { answers.new ≡ sets answers.old 0 (answers_words calls.now (replicate (length calls.now) (Answer.Refused number))) }
 {
-    let mut i = 0;
-    while i < calls.len() {
-        let w = calls[i];
-        put_answer(answers, 5 * i, w, Answer::Refused(number));
-        i += 1;
+    for (i, w) in calls.iter().enumerate() {
+        put_answer(answers, 5 * i, *w, Answer::Refused(number));
     }
 }
 
@@ -110,9 +99,8 @@ fn answer_all(
     m: Model,
     marks: [[bool; 64]; 64],
     names: &[u64],
-    words: &[u64],
-    row: &mut [u64],
-    stepwise: bool,
+    from: Distances<'_>,
+    room: &mut [u64],
     reach: &[u64],
     site: Site,
     threads: Threads,
@@ -120,36 +108,35 @@ fn answer_all(
     calls: &[u16],
     answers: &mut [u64],
 ) -> Outcome
-    requires { (is_unfit m (table_by stepwise m words.now) site threads.at ≡ false) × (is_unfit_held m held.old ≡ false) × ((names.now ≡ names_for m (replicate 256 0)) × (reach.now ≡ reach_of m (table_by stepwise m words.now)) × Knows m.n (table_by stepwise m words.now) stepwise words.now (length row.old) × (5 * length calls.now ≤ length answers.old)) }
-    ensures kept { length row.new ≡ length row.old }
-    ensures left { result ≡ left_by (calls_of m marks (table_by stepwise m words.now) site threads.at held.old (map call_at calls.now)).listed }
-    ensures held { held.new ≡ (calls_of m marks (table_by stepwise m words.now) site threads.at held.old (map call_at calls.now)).held }
-    ensures written { answers.new ≡ sets answers.old 0 (answers_words calls.now (calls_of m marks (table_by stepwise m words.now) site threads.at held.old (map call_at calls.now)).listed.answers) }
+    requires { (is_unfit m (table_by (is_by_steps from) m (lent_of from)) site threads.at ≡ false) × (is_unfit_held m held.old ≡ false) × ((names.now ≡ names_for m (replicate 256 0)) × (reach.now ≡ reach_of m (table_by (is_by_steps from) m (lent_of from))) × Knows m.n (table_by (is_by_steps from) m (lent_of from)) (is_by_steps from) (lent_of from) (length room.old) × (5 * length calls.now ≤ length answers.old)) }
+    ensures kept { length room.new ≡ length room.old }
+    ensures left { result ≡ left_by (calls_of m marks (table_by (is_by_steps from.entry) m (lent_of from.entry)) site threads.at held.old (map call_at calls.now)).listed }
+    ensures held { held.new ≡ (calls_of m marks (table_by (is_by_steps from.entry) m (lent_of from.entry)) site threads.at held.old (map call_at calls.now)).held }
+    ensures written { answers.new ≡ sets answers.old 0 (answers_words calls.now (calls_of m marks (table_by (is_by_steps from.entry) m (lent_of from.entry)) site threads.at held.old (map call_at calls.now)).listed.answers) }
 {
-    let t = m.t;
-    let n = m.n;
-    let horizon = m.horizon;
-    let starts = m.starts;
+    let desk = Desk {
+        horizon: m.horizon,
+        n: m.n,
+        t: m.t,
+        starts: m.starts,
+        marks,
+        names,
+        from,
+        reach,
+    };
     let mut s = site;
     let mut ts = threads;
     let mut granted: u64 = 0;
-    let mut i = 0;
-    while i < calls.len() {
-        let w = calls[i];
-        let call = call_at(w);
-        let j = early_answer::segment_of(ts, t, early_answer::thread_of(call));
+    for (i, w) in calls.iter().enumerate() {
+        let call = call_at(*w);
+        let j = early_answer::segment_of(ts, m.t, early_answer::thread_of(call));
         let g = m.segments[j];
         let counted = early_log::counted_site(m, s, ts);
-        let a = early_answer::called(
-            horizon, n, t, g, starts, marks, names, words, row, stepwise, reach, counted, s, ts,
-            held, call,
-        );
-        let answer = a.answer;
-        put_answer(answers, 5 * i, w, answer);
-        granted += grants_in(answer);
+        let a = early_answer::called(&desk, room, g, counted, s, ts, held, call);
+        put_answer(answers, 5 * i, *w, a.answer);
+        granted += grants_in(a.answer);
         s = a.site;
         ts = a.threads;
-        i += 1;
     }
     Outcome {
         number: 0,
@@ -163,27 +150,26 @@ fn answer_all(
 fn answer_fit(
     m: Model,
     marks: [[bool; 64]; 64],
-    words: &[u64],
-    row: &mut [u64],
-    stepwise: bool,
+    from: Distances<'_>,
+    room: &mut [u64],
     site: Site,
     threads: Threads,
     held: &mut [u32],
     calls: &[u16],
     answers: &mut [u64],
 ) -> Outcome
-    requires { (is_unfit m (table_by stepwise m words.now) site threads.at ≡ false) × (is_unfit_held m held.old ≡ false) × (Knows m.n (table_by stepwise m words.now) stepwise words.now (length row.old) × (5 * length calls.now ≤ length answers.old)) }
-    ensures kept { length row.new ≡ length row.old }
-    ensures left { result ≡ left_by (calls_of m marks (table_by stepwise m words.now) site threads.at held.old (map call_at calls.now)).listed }
-    ensures held { held.new ≡ (calls_of m marks (table_by stepwise m words.now) site threads.at held.old (map call_at calls.now)).held }
-    ensures written { answers.new ≡ sets answers.old 0 (answers_words calls.now (calls_of m marks (table_by stepwise m words.now) site threads.at held.old (map call_at calls.now)).listed.answers) }
+    requires { (is_unfit m (table_by (is_by_steps from) m (lent_of from)) site threads.at ≡ false) × (is_unfit_held m held.old ≡ false) × (Knows m.n (table_by (is_by_steps from) m (lent_of from)) (is_by_steps from) (lent_of from) (length room.old) × (5 * length calls.now ≤ length answers.old)) }
+    ensures kept { length room.new ≡ length room.old }
+    ensures left { result ≡ left_by (calls_of m marks (table_by (is_by_steps from.entry) m (lent_of from.entry)) site threads.at held.old (map call_at calls.now)).listed }
+    ensures held { held.new ≡ (calls_of m marks (table_by (is_by_steps from.entry) m (lent_of from.entry)) site threads.at held.old (map call_at calls.now)).held }
+    ensures written { answers.new ≡ sets answers.old 0 (answers_words calls.now (calls_of m marks (table_by (is_by_steps from.entry) m (lent_of from.entry)) site threads.at held.old (map call_at calls.now)).listed.answers) }
 {
     let mut reach = [0u64; 2048];
-    early_reach::fill_reach(m, words, row, stepwise, &mut reach);
+    early_reach::fill_reach(m, from, room, &mut reach);
     let mut names = [0u64; 256];
     early_ports::fill_names(m, &mut names);
     answer_all(
-        m, marks, &names, words, row, stepwise, &reach, site, threads, held, calls, answers,
+        m, marks, &names, from, room, &reach, site, threads, held, calls, answers,
     )
 }
 
@@ -222,10 +208,8 @@ pub fn calls(
         refuse_all(answers, calls, 11);
         return undone(0, site, threads);
     }
-    let mut none = [0u64; 1];
-    answer_fit(
-        m, marks, words, &mut none, false, site, threads, held, calls, answers,
-    )
+    let from = Distances::Table(words);
+    answer_fit(m, marks, from, &mut [], site, threads, held, calls, answers)
 }
 
 // Document 02, slip 6: the same by rows. 11, then 16 below 64 words, are asked once; the words are left free, as in `call_by_rows`.
@@ -260,9 +244,8 @@ pub fn calls_by_rows(
     answer_fit(
         m,
         marks,
-        &steps,
+        Distances::Steps(&steps),
         &mut row[..64],
-        true,
         site,
         threads,
         held,

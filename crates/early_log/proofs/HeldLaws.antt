@@ -1,62 +1,29 @@
--- One place of a log after the other: whether a pair is held, the least that is heard, what a drop leaves, what new pairs add.
+-- One place of a log after the other: the least that is heard, what a drop leaves, what new pairs add.
 use Prim.Native.Nat.{ℕ, suc, ◌≤◌, ◌<◌, ◌+◌, ◌-◌, min}
 use mathlib.Core.Path.{◌≡◌, refl, ap, sym, subst, ◌∙◌}
-use mathlib.Core.Bool.{Bool, true, false, cond, not, ◌||◌}
+use mathlib.Core.Bool.{Bool, true, false, cond, not}
 use mathlib.Core.List.{List, [], ◌∷◌, ◌++◌}
 use native.Mathlib.Omega.{arith}
 use native.Mathlib.Numerals.{add-one}
-use lib.ListN.{length, take, drop, get_or, set, length-take, length-append}
+use lib.ListN.{length, take, drop, get_or, set, replicate, length-take, length-drop, length-append}
 use lib.Seq.{take-suc, drop-cons, drop-length, get_or-take}
 use borrow.Author.Tests.{eq-eqb, ne_eqb}
-use Rattle.base.proofs.BoolLaws.{T→true, true→T}
+use borrow.Rule.Slice.PartMut.{put_mid}
+use Rattle.std.proofs.lemmas.List.{append-nil, drop_all}
 use Rattle.clock.specs.declared.Cycle.{Cycle}
 use Rattle.clock.specs.declared.Bound.{Bound}
 use Rattle.clock.specs.declared.Bound.TheVariants.{Never, At}
-use Rattle.clock.specs.Cycle.{is_before, is_same}
+use Rattle.clock.specs.Cycle.{is_before}
 use Rattle.clock.specs.Advance.{least}
 use Rattle.clock.proofs.LeastLaws.{least-Never-left}
 use Rattle.early.specs.declared.Notification.{Notification}
 use Rattle.early.specs.declared.Site.{Site}
-use Rattle.early.specs.Log.{places, pair_of, log_of, is_same_pair, holds, with_pair, with_pairs, is_heard, least_heard, is_dropped, drop_before}
-use Rattle.early_laws.proofs.LogLaws.{In, is_same_pair→≡, In→holds}
-use Rattle.early_laws.proofs.OnceLaws.{with_pairs-append, get_d-In, drop_before-length}
+use Rattle.early.specs.Log.{places, pair_of, log_of, with_pair, with_pairs, is_heard, least_heard, is_dropped, drop_before}
+use Rattle.early_laws.proofs.OnceLaws.{with_pairs-append, drop_before-length}
 use Rattle.early_laws.proofs.FitLaws.{place_of}
 use Rattle.early_log.specs.Noted.{no_pair}
 use Rattle.early_log.proofs.LengthLaws.{take_within}
 use Rattle.early_log.proofs.PlaceLaws.{padded, padded-more}
-
-module _ (y : Notification) (e : ℕ) (c : Cycle) where
-  pub is_same_pair-same : y.event ≡ e → is_same y.cycle c ≡ true → is_same_pair y (pair_of e c) ≡ true
-  unfolding is_same_pair
-  is_same_pair-same p q = rw (eq-eqb y.event e p, q) refl
-
-  pub is_same_pair-other : (y.event ≡ e → ⊥) → is_same_pair y (pair_of e c) ≡ false
-  unfolding is_same_pair
-  is_same_pair-other p = rw (ne_eqb y.event e p) refl
-
-  pub is_same_pair-later : y.event ≡ e → is_same y.cycle c ≡ false → is_same_pair y (pair_of e c) ≡ false
-  unfolding is_same_pair
-  is_same_pair-later p q = rw (eq-eqb y.event e p, q) refl
-
--- a pair at the end that is another one
-holds-end : (l : List Notification) (y x : Notification) → is_same_pair y x ≡ false → holds (l ++ (y ∷ [])) x ≡ holds l x
-unfolding holds
-holds-end [] y x e = rw e refl
-holds-end (z ∷ l) y x e = ap (λ (b : Bool). is_same_pair z x || b) (holds-end l y x e)
-
-module _ (l : List Notification) (d x : Notification) where
-  pub holds-none : holds (take 0 l) x ≡ false
-  unfolding holds
-  holds-none = refl
-
-  pub holds_more : (i : ℕ) → i < length l → holds (take i l) x ≡ false → is_same_pair (get_or l i d) x ≡ false → holds (take (i + 1) l) x ≡ false
-  holds_more i h e f = rw (add-one, take-suc l i d h) (holds-end (take i l) (get_or l i d) x f ∙ e)
-
-  pub holds-here : (n i : ℕ) → i < n → n ≤ length l → is_same_pair (get_or l i d) x ≡ true → true ≡ holds (take n l) x
-  holds-here n i h k e =
-      let p = is_same_pair→≡ (get_or l i d) x (true→T (is_same_pair (get_or l i d) x) e) in
-      let q : In (get_or (take n l) i d) (take n l) = get_d-In (take n l) i d (omega (arith, length-take n l)) in
-      sym (T→true (holds (take n l) x) (In→holds (subst (λ (z : Notification). In z (take n l)) (get_or-take n l i d h ∙ p) q)))
 
 -- the log of a state, place by place
 module _ (site : Site) (size : length site.log ≡ places) where
@@ -71,6 +38,15 @@ module _ (site : Site) (size : length site.log ≡ places) where
   pub log_of-at : (i : ℕ) → i < length (log_of site) → get_or (log_of site) i no_pair ≡ place_of site i
   unfolding log_of
   log_of-at i h = get_or-take site.count site.log i no_pair (omega (arith, length-take site.count site.log))
+
+  -- the places from its count on, written over
+  pub cleared-places : (used : ℕ) (ys : List Notification) → used ≡ min site.count places → ys ≡ replicate (length (take (places - used) (drop used site.log))) no_pair → put_mid used (places - used) site.log ys ≡ padded (log_of site)
+  unfolding padded
+  cleared-places used ys e f =
+      let rest : length (take (places - used) (drop used site.log)) ≡ places - used = simp (length-take, length-drop) (omega arith) in
+      let past : drop (places - used) (drop used site.log) ≡ [] = drop_all (places - used) (drop used site.log) (simp length-drop (omega arith)) in
+      let n : used ≡ length (log_of site) = omega (arith, log_of-length) in
+      rw (past, append-nil, f, rest, log_of-first used e) (ap (λ k. log_of site ++ replicate (places - k) no_pair) n)
 
 -- "the least logged notification not before its wait": one notification
 module _ (e : ℕ) (since : Cycle) (x : Notification) where

@@ -1,4 +1,5 @@
 pub mod LengthLaws
+pub mod AnyLaws
 pub mod PlaceLaws
 pub mod HeldLaws
 pub mod SpreadLaws

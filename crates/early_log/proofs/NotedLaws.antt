@@ -1,19 +1,16 @@
 -- The log after the first of the events: the first 128 of the log with its new pairs.
 -- A pair that the places hold changes nothing; a new one goes to the first free place, if there is one.
-use Prim.Native.Nat.{ℕ, zero, suc, ◌≤◌, ◌<◌, ◌+◌}
+use Prim.Native.Nat.{ℕ, ◌≤◌, ◌<◌, ◌+◌}
 use mathlib.Core.Path.{◌≡◌, refl, ap, sym, subst, ◌∙◌}
 use mathlib.Core.Logic.{◌⊎◌, inl, inr}
-use mathlib.Core.Bool.{Bool, true, false, ◌||◌}
+use mathlib.Core.Bool.{true, false}
 use mathlib.Core.List.Memᴰ
 use mathlib.Core.List.{List, [], ◌∷◌, ◌++◌}
 use native.Mathlib.Omega.{arith}
-use native.Mathlib.Nat.{le_of_suc-le-suc}
-use native.Mathlib.Numerals.{add-one}
-use lib.Dec.{T, T_not, not_T, eqb}
+use lib.Dec.{T, T_not, not_T}
 use lib.ListN.{length, get_or, take, drop, set, length-append, length-take, take-append-drop}
-use lib.Seq.{take_all, take-append-le, take-suc, get_or-take}
-use borrow.Author.Tests.{ne_eqb}
-use Rattle.base.proofs.BoolLaws.{cond-case, T→true, T→false, true→T, false→T, either→or, eq→eqb}
+use lib.Seq.{take_all, take-append-le}
+use Rattle.base.proofs.BoolLaws.{cond-case, T→true, T→false, true→T, false→T}
 use Rattle.clock.specs.declared.Cycle.{Cycle}
 use Rattle.model.specs.declared.Variables.{Variables}
 use Rattle.model.specs.Footprint.{has}
@@ -23,7 +20,7 @@ use Rattle.early.specs.Log.{places, pair_of, log_of, site_of, holds, with_pair, 
 use Rattle.early_laws.proofs.LogLaws.{In, holds→In, In→holds, with_pairs-kept, with_pairs-new, with_pairs-only, log_of-site_of}
 use Rattle.early_log.specs.Noted.{noted_of}
 use Rattle.early_log.proofs.HeldLaws.{with_pairs-none, with_pairs-more}
-use Rattle.early_log.proofs.PlaceLaws.{padded, padded-take, padded-more, padded-length, site_of-padded}
+use Rattle.early_log.proofs.PlaceLaws.{padded, padded-take, padded-more, site_of-padded}
 
 -- the places and their count hold the log l as far as there is room
 pub record Holding (l log : List Notification) (count : ℕ) : Type 0 where
@@ -44,12 +41,6 @@ unfolding with_pair
 with_pair-full l x h = cond-case (λ (y : List Notification). take places y ≡ take places l) (holds l x) (λ t. refl) (λ t. take-append-le places l (x ∷ []) h)
 
 module _ (l log : List Notification) (count : ℕ) (h : Holding l log count) where
-  pub holding-few : count ≤ places
-  holding-few = omega (arith, h.counted, length-take places l)
-
-  pub holding-length : length log ≡ places
-  holding-length = ap length h.held ∙ padded-length (take places l) (omega (arith, length-take places l))
-
   first : take count log ≡ take places l
   first = rw (h.held, h.counted) (padded-take (take places l))
 
@@ -139,26 +130,3 @@ module _ (l : List Notification) (c : Cycle) (es : List ℕ) (j : ℕ) (below : 
       new =
           T→false (holds (with_pairs l c (take j es)) x)
           (not_T (holds (with_pairs l c (take j es)) x) (λ t. only (with_pairs-only l c (take j es) (holds→In (with_pairs l c (take j es)) x t))))
-
--- whether an event is among the first
-has_end : (es : List ℕ) (d e : ℕ) → (d ≡ e → ⊥) → has (es ++ (d ∷ [])) e ≡ has es e
-unfolding has
-has_end [] d e other = rw (ne_eqb d e other) refl
-has_end (x ∷ es) d e other = ap (λ (b : Bool). eqb x e || b) (has_end es d e other)
-
-module _ (es : List ℕ) (e : ℕ) where
-  pub has-none : has (take 0 es) e ≡ false
-  unfolding has
-  has-none = refl
-
-  pub has_here : (n i : ℕ) → i < n → n ≤ length es → get_or es i 0 ≡ e → true ≡ has (take n es) e
-  unfolding has
-  has_here n i h k p = sym (T→true (has (take n es) e) (go (take n es) i (omega (arith, length-take n es)) (get_or-take n es i 0 h ∙ p)))
-    where
-      go : (fs : List ℕ) (j : ℕ) → j < length fs → get_or fs j 0 ≡ e → T (has fs e)
-      go [] j l q = absurd (omega arith)
-      go (x ∷ fs) zero l q = either→or (eqb x e) (has fs e) (inl (eq→eqb x e q))
-      go (x ∷ fs) (suc j) l q = either→or (eqb x e) (has fs e) (inr (go fs j (le_of_suc-le-suc l) q))
-
-  pub has_more : (i : ℕ) → i < length es → has (take i es) e ≡ false → (get_or es i 0 ≡ e → ⊥) → has (take (i + 1) es) e ≡ false
-  has_more i h f other = rw (add-one, take-suc es i 0 h) (has_end (take i es) (get_or es i 0) e other ∙ f)

@@ -2,7 +2,7 @@
 --     held_events-taken, listed_here     what the segment of a thread lists, as the code reads it
 --     is_running-other     a state that is not running
 --     counted_start, counted-idle, counted-more, counted-full, counted-done     the loop over the threads
---     counted-fits, counted_none     there are places for it; nothing runs
+--     counted_none     nothing runs
 use Prim.Native.Nat.{ℕ, zero, suc, ◌+◌, ◌<◌, ◌≤◌}
 use mathlib.Core.Path.{◌≡◌, refl, ap, sym, ◌∙◌}
 use mathlib.Core.Bool.{Bool, true, false}
@@ -87,10 +87,10 @@ module _ (m : Model) (ts : List Thread) (l : List Notification) where
     unfolding with_running
     counted-idle idle = rw (add-one, idle) known
 
-    pub counted-done : k ≡ m.t → length (log_of s) ≤ places → (false ≡ ltb places (length (counted_log m ts l))) × (false ≡ false → log_of s ≡ counted_log m ts l)
+    pub counted-done : k ≡ m.t → length (log_of s) ≤ places → (false ≡ ltb places (length (counted_log m ts l))) × (log_of s ≡ counted_log m ts l)
     counted-done e few =
         let all : log_of s ≡ counted_log m ts l = known ∙ ap (with_running m ts l) e in
-        (sym (le-ltb places (length (counted_log m ts l)) (rw all at few)), λ _. all)
+        (sym (le-ltb places (length (counted_log m ts l)) (rw all at few)), all)
 
     module _ (c : Cycle) (es : List ℕ) (runs : (thread_at ts k).state ≡ Running c) (listed : es ≡ listed_in m k (thread_at ts k).segment) where
       step : with_running m ts l (k + 1) ≡ with_pairs (log_of s) c es
@@ -107,9 +107,6 @@ module _ (m : Model) (ts : List Thread) (l : List Notification) where
           sym (lt-ltb places (length (counted_log m ts l)) (omega (arith, ap length step, with_running-longer (k + 1) m.t (omega arith))))
 
 module _ (m : Model) (ts : List Thread) (site : Site) where
-  pub counted-fits : length (counted_log m ts (log_of site)) ≤ places → ltb places (length (counted_log m ts (log_of site))) ≡ false
-  counted-fits few = le-ltb places (length (counted_log m ts (log_of site))) few
-
   -- where nothing runs
   pub counted_none : any_below m.t (λ k. is_running (thread_at ts k).state) ≡ false → log_of site ≡ counted_log m ts (log_of site)
   counted_none idle = sym (with_running-none m ts (log_of site) m.t (λ j h. any_below-false m.t (λ k. is_running (thread_at ts k).state) idle j h))

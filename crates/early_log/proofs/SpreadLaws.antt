@@ -1,5 +1,5 @@
 -- A log that is spread out as rows of numbers.
---     spread-more, spread-all     the rows as a loop fills them, place by place
+--     spread-copied, spread-all     the rows as a loop fills them, place by place
 --     log_in-length, log_in-at     the log that they hold
 --     least_in-..     the least of it, the last place first: heard, before the wait, another event
 use Prim.Native.Nat.{ℕ, ◌+◌, ◌-◌, ◌<◌, ◌≤◌, min}
@@ -8,8 +8,8 @@ use mathlib.Core.Bool.{true, false, not}
 use mathlib.Core.List.{List}
 use native.Mathlib.Omega.{arith}
 use native.Mathlib.Decide.{ℕ_discrete}
-use lib.ListN.{length, drop, get_or, set, length-set}
-use lib.Seq.{get_or-set_same, get_or-set_other}
+use lib.ListN.{length, take, drop, get_or, set, length-set}
+use lib.Seq.{get_or-take, get_or-set_same, get_or-set_other}
 use Rattle.base.proofs.IndexLaws.{tabulate-length, tabulate-at, tabulate-is}
 use Rattle.clock.specs.declared.Cycle.{Cycle}
 use Rattle.clock.specs.declared.Bound.{Bound}
@@ -30,7 +30,7 @@ pub record SpreadTo (site : Site) (events times deltas : List ℕ) (i : ℕ) : T
   pub each : (j : ℕ) → j < i → pair_in events times deltas j ≡ place_of site j
 
 module _ (site : Site) (events times deltas : List ℕ) where
-  pub spread-more : (i : ℕ) → i < places → SpreadTo site events times deltas i
+  spread-more : (i : ℕ) → i < places → SpreadTo site events times deltas i
       → SpreadTo site (set events i (place_of site i).event) (set times i (place_of site i).cycle.time.0) (set deltas i (place_of site i).cycle.delta.0) (i + 1)
   spread-more i h to =
       record {
@@ -47,6 +47,11 @@ module _ (site : Site) (events times deltas : List ℕ) where
           rw (e, get_or-set_same events i x.event 0 (omega arith), get_or-set_same times i x.cycle.time.0 0 (omega arith), get_or-set_same deltas i x.cycle.delta.0 0 (omega arith)) refl
       at j k (no e) =
           rw (get_or-set_other events i j x.event 0 e, get_or-set_other times i j x.cycle.time.0 0 e, get_or-set_other deltas i j x.cycle.delta.0 0 e) (to.each j (omega arith))
+
+  -- of the first n places, copied
+  pub spread-copied : (n i : ℕ) → i < n → i < places → SpreadTo site events times deltas i
+      → SpreadTo site (set events i (get_or (take n site.log) i no_pair).event) (set times i (get_or (take n site.log) i no_pair).cycle.time.0) (set deltas i (get_or (take n site.log) i no_pair).cycle.delta.0) (i + 1)
+  spread-copied n i h k to = rw (get_or-take n site.log i no_pair h) (spread-more i k to)
 
   pub spread-all : (i n : ℕ) → length site.log ≡ places → n ≡ min site.count places → i ≡ n → SpreadTo site events times deltas i → log_in events times deltas n ≡ log_of site
   unfolding log_in

@@ -1,9 +1,8 @@
 // Document 01, "Early issue": the log, its new pairs, what is heard of it and what is dropped.
 #![tactic(auto)]
 
-ghost use Rattle.std.specs.Prelude.{◌≡◌, false, ℕ, ◌<◌, ◌≤◌, min, ltb, length, take};
+ghost use Rattle.std.specs.Prelude.{◌≡◌, ℕ, ◌<◌, ◌≤◌, min, ltb, length, take, is_none, IfSome};
 ghost use Rattle.base.specs.Index.{any_below};
-ghost use Rattle.model.specs.Footprint.{has};
 ghost use Rattle.model.specs.Record.{thread_at, is_running};
 ghost use Rattle.early.specs.Log.{places, pair_of, log_of, site_of, holds, places_with, counted_log, least_heard, is_dropped, drop_before};
 ghost use Rattle.early_log.specs.Noted.{no_pair, noted_of};
@@ -13,41 +12,27 @@ use clock::{Bound, Cycle, Delta, Time};
 use early::{Notification, Site};
 use model::{Events, Model, State, Threads};
 
-// What is counted of a log: whether it takes more than 128 places with the pairs of the running threads, and else the log with them.
+// A log as three rows of numbers, for those that read it often: event, time and delta of each of its first n places.
 #[derive(Clone, Copy)]
-pub struct CountedLog {
-    pub full: bool,
-    pub site: Site,
+pub struct Rows {
+    pub events: [u8; 128],
+    pub times: [u64; 128],
+    pub deltas: [u32; 128],
+    pub n: usize,
 }
 
 // A count, or the number of places where it is above that.
 fn within(count: u8, places: usize) -> usize
     ensures { result ≡ min count places }
 {
-    let n = buffers::wide(count);
-    if n < places {
-        return n;
-    }
-    places
+    usize::from(count).min(places)
 }
 
-// Whether one of the first n places holds event e at c.
-fn is_held(log: [Notification; 128], n: usize, e: u8, c: Cycle) -> bool
-    requires { (n ≤ 128) × (n ≤ length log) }
-    ensures { result ≡ holds (take n log) (pair_of e c) }
+// Whether one of these places holds event e at c.
+fn is_held(log: &[Notification], e: u8, c: Cycle) -> bool
+    ensures { result ≡ holds log.now (pair_of e c) }
 {
-    let mut i = 0;
-    while i < n {
-        let x = log[i];
-        let d = x.cycle;
-        i += 1;
-        if x.event == e {
-            if clock::is_same(d, c) {
-                return true;
-            }
-        }
-    }
-    false
+    log.iter().any(|x| x.event == e && x.cycle == c)
 }
 
 // A place that holds no notification.
@@ -68,18 +53,12 @@ fn cleared(site: Site) -> Site
     ensures { result ≡ site_of site.variables.at (log_of site) }
 {
     let used = within(site.count, 128);
-    let variables = site.variables;
-    let mut log = [nothing(); 128];
-    let mut i = 0;
-    while i < used {
-        log[i] = site.log[i];
-        i += 1;
-    }
-    let count = used as u8;
+    let mut log = site.log;
+    log[used..].fill(nothing());
     Site {
-        variables,
+        variables: site.variables,
         log,
-        count,
+        count: used as u8,
     }
 }
 
@@ -88,66 +67,35 @@ pub fn note(site: Site, c: Cycle, events: Events) -> Site
     ensures { result ≡ noted_of site c (take events.n events.at) }
 {
     let tidy = cleared(site);
-    let variables = tidy.variables;
     let mut log = tidy.log;
     let mut count = tidy.count;
     let n = within(events.n, 32);
-    let mut j = 0;
-    while j < n {
-        let e = events.at[j];
-        let k = buffers::wide(count);
-        j += 1;
-        if is_held(log, k, e, c) {
-            continue;
-        }
-        if k < 128 {
+    for &e in &events.at[..n] {
+        let k = usize::from(count);
+        if k < 128 && !is_held(&log[..k], e, c) {
             log[k] = Notification { event: e, cycle: c };
             count += 1;
         }
     }
     Site {
-        variables,
+        variables: tidy.variables,
         log,
         count,
     }
-}
-
-// Whether one of the first n events is e.
-fn is_listed(events: Events, n: usize, e: u8) -> bool
-    requires { n ≤ 32 }
-    ensures { result ≡ has (take n events.at) e }
-{
-    let mut i = 0;
-    while i < n {
-        let x = events.at[i];
-        i += 1;
-        if x == e {
-            return true;
-        }
-    }
-    false
 }
 
 // Document 01, 15: "log plus new pairs": the places that the log takes with the pairs of the events at c, each once.
 pub fn places_with(site: Site, c: Cycle, events: Events) -> usize
     ensures { result ≡ places_with (log_of site) c (take events.n events.at) }
 {
-    let log = site.log;
     let used = within(site.count, 128);
     let n = within(events.n, 32);
+    let log = &site.log[..used];
     let mut total = used;
-    let mut j = 0;
-    while j < n {
-        let e = events.at[j];
-        let again = is_listed(events, j, e);
-        j += 1;
-        if again {
-            continue;
+    for (j, e) in events.at[..n].iter().enumerate() {
+        if !events.at[..j].contains(e) && !is_held(log, *e, c) {
+            total += 1;
         }
-        if is_held(log, used, e, c) {
-            continue;
-        }
-        total += 1;
     }
     total
 }
@@ -156,13 +104,7 @@ pub fn places_with(site: Site, c: Cycle, events: Events) -> usize
 fn is_running(state: State) -> bool
     ensures { result ≡ is_running state }
 {
-    match state {
-        State::Ended(_) => false,
-        State::Overrun(_) => false,
-        State::Ready(_) => false,
-        State::Waiting(_, _) => false,
-        State::Running(_) => true,
-    }
+    matches!(state, State::Running(_))
 }
 
 // Whether one of the first t threads is running.
@@ -170,50 +112,30 @@ pub fn any_running(threads: Threads, t: u8) -> bool
     requires { t ≤ 32 }
     ensures { result ≡ any_below t (λ k. is_running (thread_at threads.at k).state) }
 {
-    let n = buffers::wide(t);
-    let mut k = 0;
-    while k < n {
-        let x = threads.at[k];
-        let state = x.state;
-        k += 1;
-        if is_running(state) {
-            return true;
-        }
-    }
-    false
+    let n = usize::from(t);
+    threads.at[..n].iter().any(|x| is_running(x.state))
 }
 
-// Document 02, slip 7: "its log places are counted from the grant, an equal pair once".
-pub fn counted(m: Model, site: Site, threads: Threads) -> CountedLog
+// Document 02, slip 7: "its log places are counted from the grant, an equal pair once". None: they are more than 128 with those of the log.
+pub fn counted(m: Model, site: Site, threads: Threads) -> Option<Site>
     requires { (m.t ≤ 32) × ((j : ℕ) → j < m.t → (thread_at threads.at j).segment < 64) }
-    ensures full_value { result.full ≡ ltb places (length (counted_log m threads.at (log_of site))) }
-    ensures site_value { result.full ≡ false → log_of result.site ≡ counted_log m threads.at (log_of site) }
+    ensures full_value { is_none result ≡ ltb places (length (counted_log m threads.at (log_of site))) }
+    ensures site_value { IfSome result (λ s. log_of s ≡ counted_log m threads.at (log_of site)) }
 {
-    let n = buffers::wide(m.t);
+    let n = usize::from(m.t);
     let mut s = site;
-    let mut k = 0;
-    while k < n {
-        let x = threads.at[k];
-        let state = x.state;
-        k += 1;
-        let State::Running(c) = state else {
+    for x in &threads.at[..n] {
+        let State::Running(c) = x.state else {
             continue;
         };
-        let j = buffers::wide(x.segment);
-        let g = m.segments[j];
-        let listed = model_effect::listed(g);
+        let j = usize::from(x.segment);
+        let listed = model_effect::listed(m.segments[j]);
         if 128 < places_with(s, c, listed) {
-            return CountedLog {
-                full: true,
-                site: s,
-            };
+            return None;
         }
         s = note(s, c, listed);
     }
-    CountedLog {
-        full: false,
-        site: s,
-    }
+    Some(s)
 }
 
 // The state whose log has what is counted, where there are places for it: itself where nothing runs.
@@ -222,57 +144,41 @@ pub fn counted_site(m: Model, site: Site, threads: Threads) -> Site
     ensures { log_of result ≡ counted_log m threads.at (log_of site) }
 {
     if any_running(threads, m.t) {
-        let c = counted(m, site, threads);
-        return c.site;
+        return counted(m, site, threads).unwrap();
     }
     site
 }
 
-// The log as three rows of numbers, for those that read it often: event, time and delta of each place below the count, and how many these are.
-pub fn spread(
-    site: Site,
-    events: &mut [u8; 128],
-    times: &mut [u64; 128],
-    deltas: &mut [u32; 128],
-) -> usize
-    requires { (length events.old ≡ places) × (length times.old ≡ places) × (length deltas.old ≡ places) }
-    ensures { log_in events.new times.new deltas.new result ≡ log_of site }
+// The rows of a log: as many places as it counts.
+pub fn spread(site: Site) -> Rows
+    ensures { log_in result.events result.times result.deltas result.n ≡ log_of site }
 {
-    let logged = within(site.count, 128);
-    let mut i = 0;
-    while i < logged {
-        let x = site.log[i];
-        let c = x.cycle;
-        events[i] = x.event;
-        times[i] = c.time.0;
-        deltas[i] = c.delta.0;
-        i += 1;
+    let mut rows = Rows {
+        events: [0; 128],
+        times: [0; 128],
+        deltas: [0; 128],
+        n: within(site.count, 128),
+    };
+    for (i, x) in site.log[..rows.n].iter().enumerate() {
+        rows.events[i] = x.event;
+        rows.times[i] = x.cycle.time.0;
+        rows.deltas[i] = x.cycle.delta.0;
     }
-    logged
+    rows
 }
 
 // Document 01: "the least logged notification not before its wait", of a log that is spread out.
-pub fn least_in(
-    events: &[u8; 128],
-    times: &[u64; 128],
-    deltas: &[u32; 128],
-    n: usize,
-    e: u8,
-    since: Cycle,
-) -> Bound
-    ensures { result ≡ least_heard (log_in events.now times.now deltas.now n) e since }
+pub fn least_in(rows: &Rows, e: u8, since: Cycle) -> Bound
+    ensures { result ≡ least_heard (log_in rows.now.events rows.now.times rows.now.deltas rows.now.n) e since }
 {
     let mut best = Bound::Never;
-    let mut i = buffers::least(n, 128);
-    while 0 < i {
-        i -= 1;
-        let event = events[i];
-        if event == e {
+    for i in (0..rows.n.min(128)).rev() {
+        if rows.events[i] == e {
             let c = Cycle {
-                time: Time(times[i]),
-                delta: Delta(deltas[i]),
+                time: Time(rows.times[i]),
+                delta: Delta(rows.deltas[i]),
             };
-            if !clock::is_before(c, since) {
+            if c >= since {
                 best = clock::least_of(Bound::At(c), best);
             }
         }
@@ -287,8 +193,7 @@ fn is_dropped(floor: Bound, x: Notification) -> bool
     let Bound::At(f) = floor else {
         return true;
     };
-    let c = x.cycle;
-    clock::is_before(c, f)
+    x.cycle < f
 }
 
 // Document 01: "notifications before the floor", "all of them if none is ready"; the others close up in order.
@@ -296,21 +201,17 @@ pub fn drop_before(site: Site, floor: Bound) -> Site
     ensures { result ≡ site_of site.variables.at (drop_before floor (log_of site)) }
 {
     let n = within(site.count, 128);
-    let variables = site.variables;
     let mut log = [nothing(); 128];
     let mut count = 0u8;
-    let mut i = 0;
-    while i < n {
-        let x = site.log[i];
-        i += 1;
-        if !is_dropped(floor, x) {
-            let p = buffers::wide(count);
-            log[p] = x;
+    for x in &site.log[..n] {
+        if !is_dropped(floor, *x) {
+            let p = usize::from(count);
+            log[p] = *x;
             count += 1;
         }
     }
     Site {
-        variables,
+        variables: site.variables,
         log,
         count,
     }

@@ -67,7 +67,8 @@ impl Asked {
     }
 }
 
-// The numbers from a first one on that a segment writes, or those that it writes, reads or tests.
+// The numbers from a first one on that a segment writes, or those that it writes, reads or tests. `written` is what is asked, a value as in
+// the definition: two functions, or a closure for the question, would say the same twice.
 pub fn names_of(g: Segment, from: u32, written: bool) -> u64
     ensures { result ≡ names_of from written g }
 {

@@ -12,6 +12,8 @@ use native.Mathlib.Numerals.{add-one}
 use lib.Dec.{eqb}
 use lib.ListN.{length, get_or, set, take, length-set}
 use lib.Seq.{get_or-set_same, get_or-set_other, take_all}
+use Rattle.std.proofs.lemmas.List.{length-take, length-take-le, get_or-take}
+use Rattle.base.proofs.ListLaws.{get_d_any}
 use borrow.Author.Tests.{eq-eqb, ne_eqb}
 use Rattle.base.proofs.BoolLaws.{cond-case}
 use Rattle.model.specs.declared.Op.{Op}
@@ -73,12 +75,31 @@ has-op (AddVariable a b) q h = sym (ne_eqb 255 q (λ e. omega arith))
 has-op (SubVariable a b) q h = sym (ne_eqb 255 q (λ e. omega arith))
 has-op (Notify w) q h = or-false (eqb w q)
 
+-- an operation that notifies, and any other
+pub event_of-event : (o : Op) (w : ℕ) → o ≡ Notify w → w ≡ event_of o
+unfolding event_of
+event_of-event o w e = rw e refl
+
+pub event_of-other : (o : Op) → ((w : ℕ) → o ≡ Notify w → ⊥) → event_of o ≡ 255
+unfolding event_of
+event_of-other (Set a b) n = refl
+event_of-other (Add a b) n = refl
+event_of-other (Copy a b) n = refl
+event_of-other (AddVariable a b) n = refl
+event_of-other (SubVariable a b) n = refl
+event_of-other (Notify w) n = absurd (n w refl)
+
 -- lowered for some events, then for one more
 cond-join : (a b : Bool) (w d : ℕ) → cond b (lesser (cond a (lesser w d) w) d) (cond a (lesser w d) w) ≡ cond (a || b) (lesser w d) w
 cond-join true true w d = lesser-again w d
 cond-join true false w d = refl
 cond-join false true w d = refl
 cond-join false false w d = refl
+
+-- a statement as a loop over the first n reads it
+pub statement-read : (ss : List Statement) (n j : ℕ) (d : Statement) → j < length (take n ss) → get_or ss j (get_or (take n ss) j d) ≡ get_or (take n ss) j d
+statement-read ss n j d h =
+    get_d_any ss j (get_or (take n ss) j d) d (omega (arith, length-take n ss)) ∙ sym (get_or-take n ss j d (omega (arith, length-take n ss)))
 
 module _ (s from : ℕ) (first : List ℕ) (ss : List Statement) where
   pub notes_of-none : NotesOf s (notified_by (take 0 ss)) from first 0 from first
@@ -150,6 +171,16 @@ pub record AllNotes (m : Model) (s k : ℕ) (notes : List ℕ) : Type 0 where
   pub most : k ≤ s * 32
   pub lowers : (f : ℕ → ℕ) (e : ℕ) → e < 32 → lowered_by notes k f e all_ones ≡ lesser_below s (λ i. cond (has (notified_by (body_of (segment_at m i))) e) (f i) all_ones)
   pub below : NotesBelow s notes k
+
+-- the first k of the places are the notes
+pub all_notes-taken : (m : Model) (s k : ℕ) (notes : List ℕ) → k ≤ length notes → AllNotes m s k notes → AllNotes m s (length (take k notes)) (take k notes)
+all_notes-taken m s k notes fits had =
+    rw (length-take-le k notes fits)
+    (record {
+      most = had.most;
+      lowers = λ f e l. lowered_by-notes notes f e all_ones (take k notes) k (λ q b. get_or-take k notes q 0 b) ∙ had.lowers f e l;
+      below = λ q b. rw (get_or-take k notes q 0 b) (had.below q b);
+    })
 
 cond-lesser : (a : Bool) (x d : ℕ) → x ≤ all_ones → cond a (lesser x d) x ≡ lesser x (cond a d all_ones)
 cond-lesser true x d h = refl

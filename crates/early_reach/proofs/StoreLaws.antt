@@ -2,7 +2,7 @@
 --     places-..     no store, one more, one pass after the other, the same in other words
 --     row_lowered-..     a row, note after note; a row worked out is that of the table
 --     rows_lowered-.., reached-..     the rows; they are those of all segments
-use Prim.Native.Nat.{ℕ, ◌+◌, ◌*◌, ◌/◌, ◌%◌, ◌≤◌, ◌<◌, ◌-◌}
+use Prim.Native.Nat.{ℕ, min, ◌+◌, ◌*◌, ◌/◌, ◌%◌, ◌≤◌, ◌<◌, ◌-◌}
 use mathlib.Core.Path.{◌≡◌, refl, ap, sym, ◌∙◌}
 use mathlib.Core.Bool.{Bool, true, false, cond}
 use mathlib.Core.List.{List, ◌++◌}
@@ -11,19 +11,18 @@ use native.Mathlib.Decide.{dec_lt, ℕ_discrete}
 use native.Mathlib.Numerals.{add-one}
 use native.Mathlib.Nat.{zero-add}
 use lib.Dec.{ltb, eqb}
-use lib.ListN.{length, get_or, set, drop, length-set, length-append, length-drop, get_or-append}
+use lib.ListN.{length, get_or, set, drop, replicate, length-set, length-append, length-drop, get_or-append}
 use lib.Seq.{get_or-set_same, get_or-set_other, get_or-append-add, get_or-drop, ext_get_or}
 use borrow.Author.Tests.{lt-ltb, le-ltb, eq-eqb, ne_eqb}
+use Rattle.std.proofs.lemmas.List.{length-replicate, get_or-replicate}
 use Rattle.base.specs.Index.{tabulate}
 use Rattle.base.proofs.IndexLaws.{tabulate-at, tabulate-length}
 use Rattle.model.specs.declared.Model.{Model}
 use Rattle.model.specs.Values.{segment_at, body_of}
 use Rattle.model.specs.Statement.{notified_by}
-use Rattle.model.specs.Rules.{model_fault}
 use Rattle.model.specs.Footprint.{has}
 use Rattle.model_rules.proofs.FaultLaws.{segment_at-past}
 use Rattle.tables.specs.Word.{all_ones}
-use Rattle.tables_row.specs.Row.{step_words, IsRow, BySteps}
 use Rattle.early_limits.specs.Limit.{limit_of_word, lesser, lesser_below, at_most}
 use Rattle.early_limits.specs.Ahead.{nearest, reach_of, reach_in}
 use Rattle.early_ahead.proofs.LimitLaws.{lesser-never, lesser_below-past, at_most-less, at_most-full, at_most-≤, at_most-below}
@@ -64,18 +63,18 @@ abbrev pub AllNever : List ℕ → Type 0
 AllNever ws = (k : ℕ) → k < 2048 → get_or ws k 0 ≡ all_ones
 
 module _ (xs : List ℕ) where
-  pub cleared-none : Places (cleared 0) xs xs
+  pub cleared-filled : (ys : List ℕ) (n : ℕ) → 2048 ≤ length xs → n ≡ 2048 → ys ≡ replicate n all_ones → Places (cleared 2048) xs (ys ++ drop 2048 xs)
   unfolding cleared
-  cleared-none = places-none (cleared 0) xs (λ k l. rw (le-ltb k 0 (omega arith)) refl)
-
-  pub cleared_more : (ys : List ℕ) (i : ℕ) → Places (cleared i) xs ys → 2048 ≤ length xs → i < 2048 → Places (cleared (i + 1)) xs (set ys i all_ones)
-  unfolding cleared
-  cleared_more ys i p size h =
-      places-more (cleared i) xs (cleared (i + 1)) ys i all_ones p size h (rw (lt-ltb i (i + 1) (omega arith)) refl) (λ k l z. go k z (dec_lt k i))
-    where
-      go : (k : ℕ) → (k ≡ i → ⊥) → Dec (k < i) → cleared i k (get_or xs k 0) ≡ cleared (i + 1) k (get_or xs k 0)
-      go k z (yes h) = rw (lt-ltb k i h, lt-ltb k (i + 1) (omega arith)) refl
-      go k z (no h) = rw (le-ltb k i (omega arith), le-ltb k (i + 1) (omega arith)) refl
+  cleared-filled ys n size e f =
+      let many : length ys ≡ 2048 = ap length f ∙ (length-replicate n all_ones ∙ e) in
+      record {
+        same_length = length-append ys (drop 2048 xs) ∙ rw (many, length-drop 2048 xs) (omega arith);
+        at = λ k l. get_or-append ys (drop 2048 xs) 0 k (omega arith) ∙ rw (f, lt-ltb k 2048 l) (get_or-replicate n k all_ones 0 (omega arith));
+        past = λ k l.
+            let d : k ≡ length ys + (k - 2048) = omega arith in
+            let b : 2048 + (k - 2048) ≡ k = omega arith in
+            ap (λ (i : ℕ). get_or (ys ++ drop 2048 xs) i 0) d ∙ (get_or-append-add ys (drop 2048 xs) (k - 2048) 0 ∙ (get_or-drop 2048 xs (k - 2048) 0 ∙ ap (λ (i : ℕ). get_or xs i 0) b));
+      }
 
   pub cleared-all : (ys : List ℕ) → Places (cleared 2048) xs ys → AllNever ys
   unfolding cleared
@@ -139,21 +138,17 @@ module _ (notes ws : List ℕ) (p r : ℕ) (xs : List ℕ) where
           (lesser-never (lowered_by notes q (way_in ws p) (k % 32) (get_or xs k 0)) (omega (arith, lowered_by-most notes (way_in ws p) (k % 32) (get_or xs k 0) q, most k)))
       same k (no e) = rw (add-one q) (lowered_by-other notes (way_in ws p) (k % 32) (get_or xs k 0) q e)
 
--- by steps: the row worked out is that of the table
-pub row_lowered-steps :
-    (notes ws lent row : List ℕ) (room k n r : ℕ) (xs ys : List ℕ) → BySteps n ws lent room → r < n → NotesBelow n notes k →
-    ((m : Model) → model_fault m ≡ 0 → n ≡ m.n → lent ≡ step_words m → r < m.n → 64 ≤ room → IsRow m r row) → Places (row_lowered notes k row 0 r) xs ys →
+-- by a row that says, of each segment below n, what the table says from place r × n on
+pub row_lowered-row :
+    (notes ws row : List ℕ) (k n r : ℕ) (xs ys : List ℕ) → NotesBelow n notes k → ((s : ℕ) → s < n → get_or row s 0 ≡ get_or ws (r * n + s) 0) → Places (row_lowered notes k row 0 r) xs ys →
     Places (row_lowered notes k ws (r * n) r) xs ys
 unfolding row_lowered way_in
-row_lowered-steps notes ws lent row room k n r xs ys knows h below filled had =
+row_lowered-row notes ws row k n r xs ys below same had =
     places-as (row_lowered notes k row 0 r) xs (row_lowered notes k ws (r * n) r) ys had
-    (λ i l. rw (lowered_by-ways notes (way_in ws (r * n)) (i % 32) (get_or xs i 0) (way_in row 0) k (λ q b. same (get_or notes q 0 / 32) (below q b))) refl)
+    (λ i l. rw (lowered_by-ways notes (way_in ws (r * n)) (i % 32) (get_or xs i 0) (way_in row 0) k (λ q b. way (get_or notes q 0 / 32) (below q b))) refl)
   where
-    made : IsRow knows.model r row
-    made = filled knows.model knows.kept knows.count knows.steps (omega (arith, knows.count)) knows.room
-
-    same : (s : ℕ) → s < n → way_in row 0 s ≡ way_in ws (r * n) s
-    same s b = ap limit_of_word (rw (zero-add s, knows.words, knows.count) (made.at s (omega (arith, knows.count))))
+    way : (s : ℕ) → s < n → way_in row 0 s ≡ way_in ws (r * n) s
+    way s b = ap limit_of_word (rw (zero-add s) (same s b))
 
 -- the rows
 

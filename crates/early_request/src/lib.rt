@@ -8,6 +8,7 @@ ghost use Rattle.early.specs.Fit.{is_unfit, is_unfit_state};
 ghost use Rattle.early.specs.Request.{fresh_site, request_of, Answers};
 ghost use Rattle.early.specs.ByRows.{request_by_rows, LeftFree};
 ghost use Rattle.early.specs.Call.{call_fit, call_of, call_by_rows};
+ghost use Rattle.early_row.specs.Lent.{is_by_steps, lent_of};
 ghost use Rattle.early_answer.specs.After.{after_of};
 ghost use Rattle.early_answer.specs.Answered.{EnoughHeld};
 ghost use Rattle.early_answer.specs.Shown.{table_by};
@@ -16,6 +17,8 @@ ghost use Rattle.early_request.specs.Rows.{rows_fit};
 
 use clock::{Cycle, Delta, ThreadNo, Time};
 use early::{After, Call, Notification, Site};
+use early_answer::Desk;
+use early_row::Distances;
 use model::{Model, State, Thread, Threads, Variables};
 
 // The number, 0 where the model is accepted; then the fresh state and the fresh records, all zero beside a number.
@@ -47,12 +50,9 @@ fn fresh_threads(m: Model) -> Threads
     requires { m.t ≤ 32 }
     ensures { result.at ≡ fresh_threads m }
 {
-    let count = m.t;
-    let n = buffers::wide(count);
+    let n = usize::from(m.t);
     let mut ts = model_effect::no_threads();
-    let mut k = 0;
-    while k < n {
-        let s = m.starts[k];
+    for (k, s) in m.starts[..n].iter().enumerate() {
         let c = Cycle {
             time: Time(0),
             delta: Delta(0),
@@ -61,7 +61,6 @@ fn fresh_threads(m: Model) -> Threads
             segment: s.first,
             state: State::Ready(c),
         };
-        k += 1;
     }
     ts
 }
@@ -71,7 +70,7 @@ pub fn fresh(m: Model) -> FreshState
     ensures { result ≡ fresh_of m }
 {
     let site = fresh_site();
-    if model_rules::model_fault(m) != 0 {
+    if model_rules::model_fault(m).is_err() {
         let threads = model_effect::no_threads();
         return FreshState {
             number: 11,
@@ -87,38 +86,40 @@ pub fn fresh(m: Model) -> FreshState
     }
 }
 
-// A call on a fit state: distances are read in the words, or worked out from the steps that they are.
+// A call on a fit state.
 fn call_fit(
     m: Model,
     marks: [[bool; 64]; 64],
-    words: &[u64],
-    row: &mut [u64],
-    stepwise: bool,
+    from: Distances<'_>,
+    room: &mut [u64],
     site: Site,
     threads: Threads,
     held: &mut [u32],
     call: Call,
 ) -> After
-    requires { (is_unfit m (table_by stepwise m words.now) site threads.at ≡ false) × Knows m.n (table_by stepwise m words.now) stepwise words.now (length row.old) × EnoughHeld m.t held.old call }
-    ensures kept { length row.new ≡ length row.old }
-    ensures held { held.new ≡ (call_fit m marks (table_by stepwise m words.now) site threads.at held.old call).held }
-    ensures left { result ≡ after_of (call_fit m marks (table_by stepwise m words.now) site threads.at held.old call).left }
+    requires { (is_unfit m (table_by (is_by_steps from) m (lent_of from)) site threads.at ≡ false) × Knows m.n (table_by (is_by_steps from) m (lent_of from)) (is_by_steps from) (lent_of from) (length room.old) × EnoughHeld m.t held.old call }
+    ensures kept { length room.new ≡ length room.old }
+    ensures held { held.new ≡ (call_fit m marks (table_by (is_by_steps from.entry) m (lent_of from.entry)) site threads.at held.old call).held }
+    ensures left { result ≡ after_of (call_fit m marks (table_by (is_by_steps from.entry) m (lent_of from.entry)) site threads.at held.old call).left }
 {
     let mut reach = [0u64; 2048];
-    early_reach::fill_reach(m, words, row, stepwise, &mut reach);
+    early_reach::fill_reach(m, from, room, &mut reach);
     let mut names = [0u64; 256];
     early_ports::fill_names(m, &mut names);
-    let t = m.t;
-    let n = m.n;
-    let horizon = m.horizon;
-    let starts = m.starts;
-    let s = early_answer::segment_of(threads, t, early_answer::thread_of(call));
+    let desk = Desk {
+        horizon: m.horizon,
+        n: m.n,
+        t: m.t,
+        starts: m.starts,
+        marks,
+        names: &names,
+        from,
+        reach: &reach,
+    };
+    let s = early_answer::segment_of(threads, m.t, early_answer::thread_of(call));
     let g = m.segments[s];
     let counted = early_log::counted_site(m, site, threads);
-    early_answer::called(
-        horizon, n, t, g, starts, marks, &names, words, row, stepwise, &reach, counted, site,
-        threads, held, call,
-    )
+    early_answer::called(&desk, room, g, counted, site, threads, held, call)
 }
 
 // The same in the first 64 of the words that are lent, in which rows are worked out from the steps of the segments: 16 below 64.
@@ -144,9 +145,8 @@ fn rows_fit(
     call_fit(
         m,
         marks,
-        &steps,
+        Distances::Steps(&steps),
         &mut lent[..64],
-        true,
         site,
         threads,
         held,
@@ -175,18 +175,16 @@ pub fn request(
     if early_fit::is_unfit(m, words, site, threads) {
         return early_answer::refused(11, site, threads);
     }
-    let mut none = [0u64; 1];
-    let mut unheld = [0u32; 1];
+    let call = Call::Both(k.0);
     call_fit(
         m,
         marks,
-        words,
-        &mut none,
-        false,
+        Distances::Table(words),
+        &mut [],
         site,
         threads,
-        &mut unheld,
-        Call::Both(k.0),
+        &mut [],
+        call,
     )
 }
 
@@ -206,8 +204,7 @@ pub fn request_by_rows(
     if early_fit::is_unfit_state(m, site, threads) {
         return early_answer::refused(11, site, threads);
     }
-    let mut unheld = [0u32; 1];
-    rows_fit(m, marks, row, site, threads, &mut unheld, Call::Both(k.0))
+    rows_fit(m, marks, row, site, threads, &mut [], Call::Both(k.0))
 }
 
 // Document 02, slip 7: a request, a grant or a finish, with the values that are held: 11, also where fewer than 64 are lent for each thread;
@@ -227,8 +224,8 @@ pub fn call(
     if early_fit::is_unfit_call(m, words, site, threads, held) {
         return early_answer::refused(11, site, threads);
     }
-    let mut none = [0u64; 1];
-    call_fit(m, marks, words, &mut none, false, site, threads, held, call)
+    let table = Distances::Table(words);
+    call_fit(m, marks, table, &mut [], site, threads, held, call)
 }
 
 // The same in 64 words: 11, 16, then as above.

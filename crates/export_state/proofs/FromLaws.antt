@@ -1,15 +1,17 @@
--- What is read: a place of the log by the count, a record by the number of threads; records moved to another array.
-use Prim.Native.Nat.{ℕ, ◌+◌, ◌≤◌, ◌<◌, min}
+-- What is read: a place of the log by the count, a record by the number of threads; lists that are made of their indices.
+use Prim.Native.Nat.{ℕ, zero, suc, ◌+◌, ◌≤◌, ◌<◌, min}
 use mathlib.Core.Path.{◌≡◌, refl, sym, ap, ◌∙◌}
-use mathlib.Core.Bool.{cond}
 use mathlib.Core.List.{List}
+use denote.Param.Members.{Mut}
 use native.Mathlib.Omega.{arith}
-use native.Mathlib.Decide.{dec_le}
-use native.Mathlib.Numerals.{add-one}
-use lib.Dec.{ltb}
-use lib.ListN.{length, get_or, set, take}
-use lib.Seq.{take-suc, take-suc-set, take_all, length-take-le}
+use native.Mathlib.Decide.{dec_le, ℕ_discrete}
+use lib.ListN.{length, get_or, take}
+use lib.Seq.{take_all, length-take-le}
 use borrow.Author.Tests.{lt-ltb, le-ltb}
+use Rattle.std.specs.Fn.{Called}
+use Rattle.std.specs.Array.{IsFromFnResult, IsFromFnResultFrom}
+use Rattle.base.specs.Index.{tabulate}
+use Rattle.base.proofs.IndexLaws.{tabulate-is}
 use Rattle.clock.specs.Cycle.{cycle_at}
 use Rattle.model.specs.declared.Thread.{Thread}
 use Rattle.early.specs.declared.Notification.{Notification}
@@ -25,17 +27,18 @@ module _ (ws : List ℕ) (i n : ℕ) (e : n ≡ get_or ws 0 0) where
   unfolding place_from
   place_from-past h = rw (← e, le-ltb i n h) refl
 
--- a value for the threads below t, and one for the others
-module _ {A : Type 0} (k n t : ℕ) (e : n ≡ t) (x y : A) where
-  pub below-first : (z : A) → k < n → z ≡ x → z ≡ cond (ltb k t) x y
-  below-first z h p = rw (← e, lt-ltb k n h) p
+-- a list that `from_fn` makes, where the closure answers h at each number
+module _ {F B : Type 0} (g : Mut F (ℕ × Unit {0}) B) (f : F) (h : ℕ → B) (keeps : (i : ℕ) (y : B) (q : F) → Called g f (i, tt) y q → (q ≡ f) × (y ≡ h i)) (ys : List B) (d : B) where
+  made-each : (n i : ℕ) → IsFromFnResultFrom g f ys i n → (j : ℕ) → i ≤ j → j < i + n → get_or ys j d ≡ h j
+  made-each zero i r j l m = absurd (omega arith)
+  made-each (suc n) i (q, y, at, k, r) j l m = go (ℕ_discrete j i) (λ a b. made-each n (i + 1) (rw (keeps i y q k).0 at r) j a b)
+    where
+      go : Dec (j ≡ i) → (i + 1 ≤ j → j < i + 1 + n → get_or ys j d ≡ h j) → get_or ys j d ≡ h j
+      go (yes z) ih = rw z (at.1 d ∙ (keeps i y q k).1)
+      go (no z) ih = ih (omega arith) (omega arith)
 
-  pub past-second : n ≤ k → y ≡ cond (ltb k t) x y
-  past-second h = rw (← e, le-ltb k n h) refl
-
--- one more record moved
-pub moved_more : (to from : List Thread) (k : ℕ) (d : Thread) → k < length to → k < length from → take k to ≡ take k from → take (k + 1) (set to k (get_or from k d)) ≡ take (k + 1) from
-moved_more to from k d h l e = rw add-one (take-suc-set to k (get_or from k d) h ∙ rw e (sym (take-suc from k d l)))
+  pub from_fn-is : (n : ℕ) → IsFromFnResult g f ys n → ys ≡ tabulate n 0 h
+  from_fn-is n made = tabulate-is d ys n h made.long (λ i l. made-each n 0 made.each i (omega arith) (omega arith))
 
 -- the first t of n records, or all
 pub take-least : (t n k : ℕ) (xs : List Thread) → length xs ≡ n → k ≡ min t n → take k xs ≡ take t xs

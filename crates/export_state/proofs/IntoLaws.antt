@@ -3,8 +3,8 @@ use Prim.Native.Nat.{ℕ, ◌*◌, ◌≤◌}
 use mathlib.Core.Path.{◌≡◌, refl, ◌∙◌}
 use mathlib.Core.List.{List, ◌∷◌}
 use native.Mathlib.Omega.{arith}
-use lib.ListN.{length, take, set}
-use lib.Seq.{sets, take_all}
+use lib.ListN.{length, set}
+use lib.Seq.{sets}
 use Rattle.model.specs.declared.State.{State}
 use Rattle.model.specs.declared.State.TheVariants.{Ended, Overrun, Ready, Waiting, Running}
 use Rattle.model.specs.declared.Thread.{Thread}
@@ -42,9 +42,3 @@ pub log-stored :
 unfolding log_words
 log-stored s out end k h room p e =
     (rw p at e) ∙ placed_in-stored (s.count ∷ in_turn pair_words s.log) out (omega (arith, log_words-length s h))
-
--- the words of each element, all of them
-pub all-stored :
-    {A : Type 0} (f : List A → List ℕ) (xs : List A) (out end : List ℕ) (k : ℕ) →
-    length xs ≤ k → length (f xs) ≤ length out → end ≡ sets out 0 (f (take k xs)) → end ≡ placed_in (f xs) out
-all-stored f xs out end k full room e = (rw (take_all k xs full) at e) ∙ placed_in-stored (f xs) out room

@@ -13,6 +13,7 @@ ghost use Rattle.export_state.specs.Numbers.{pair_words, thread_words, in_turn, 
 use clock::{Cycle, Delta, Time};
 use early::{Answer, Notification, Site};
 use model::{State, Thread, Threads, Variables};
+use std::array;
 
 // A word modulo 2 ^ 8, and modulo 2 ^ 32.
 fn byte_at(words: &[u64], i: usize) -> u8
@@ -53,19 +54,13 @@ fn pair_at(log: &[u64], i: usize) -> Notification
 fn state_from(number: u64, event: u8, c: Cycle) -> State
     ensures { result ≡ state_from number event c }
 {
-    if number == 0 {
-        return State::Ended(c);
+    match number {
+        0 => State::Ended(c),
+        1 => State::Overrun(c),
+        2 => State::Ready(c),
+        3 => State::Waiting(event, c),
+        _ => State::Running(c),
     }
-    if number == 1 {
-        return State::Overrun(c);
-    }
-    if number == 2 {
-        return State::Ready(c);
-    }
-    if number == 3 {
-        return State::Waiting(event, c);
-    }
-    State::Running(c)
 }
 
 // The place numbered i of a log: those from its count on are not read.
@@ -76,11 +71,11 @@ fn place_from(log: &[u64], i: usize) -> Notification
     if (i as u64) < buffers::word_at(log, 0) {
         return pair_at(log, i);
     }
-    let c = Cycle {
+    let cycle = Cycle {
         time: Time(0),
         delta: Delta(0),
     };
-    Notification { event: 0, cycle: c }
+    Notification { event: 0, cycle }
 }
 
 // The record of thread k.
@@ -100,25 +95,15 @@ fn thread_from(records: &[u64], k: usize) -> Thread
 fn variables_from(values: &[u32]) -> Variables
     ensures { result ≡ variables_from values.now }
 {
-    let mut at = [0u32; 64];
-    let mut i = 0;
-    while i < 64 {
-        at[i] = buffers::value_at(values, i);
-        i += 1;
+    Variables {
+        at: array::from_fn(|i| buffers::value_at(values, i)),
     }
-    Variables { at }
 }
 
 fn places_from(log: &[u64]) -> [Notification; 128]
     ensures { result ≡ tabulate 128 0 (place_from log.now) }
 {
-    let mut places = [place_from(log, 0); 128];
-    let mut i = 0;
-    while i < 128 {
-        places[i] = place_from(log, i);
-        i += 1;
-    }
-    places
+    array::from_fn(|i| place_from(log, i))
 }
 
 pub fn site_from(variables: &[u32], log: &[u64]) -> Site
@@ -136,7 +121,7 @@ fn held_thread(records: &[u64], t: u8, k: usize) -> Thread
     requires { k < 40 }
     ensures { result ≡ cond (ltb k t) (thread_from records.now k) no_thread }
 {
-    if k < buffers::wide(t) {
+    if k < usize::from(t) {
         return thread_from(records, k);
     }
     let c = Cycle {
@@ -153,13 +138,7 @@ fn held_thread(records: &[u64], t: u8, k: usize) -> Thread
 pub fn threads_from(records: &[u64], t: u8) -> [Thread; 40]
     ensures { result ≡ held_threads records.now t }
 {
-    let mut held = [held_thread(records, t, 0); 40];
-    let mut k = 0;
-    while k < 40 {
-        held[k] = held_thread(records, t, k);
-        k += 1;
-    }
-    held
+    array::from_fn(|k| held_thread(records, t, k))
 }
 
 // The first 32 of 40 records.
@@ -167,11 +146,7 @@ pub fn first_threads(held: [Thread; 40]) -> Threads
     ensures { result.at ≡ take 32 held }
 {
     let mut threads = model_effect::no_threads();
-    let mut k = 0;
-    while k < 32 {
-        threads.at[k] = held[k];
-        k += 1;
-    }
+    threads.at.copy_from_slice(&held[..32]);
     threads
 }
 
@@ -179,43 +154,26 @@ pub fn first_threads(held: [Thread; 40]) -> Threads
 fn cycle_words(x: u8, c: Cycle) -> [u64; 3]
     ensures { result ≡ x ∷ c.time.0 ∷ c.delta.0 ∷ [] }
 {
-    [
-        buffers::long_byte(x),
-        c.time.0,
-        buffers::long_word(c.delta.0),
-    ]
+    [u64::from(x), c.time.0, u64::from(c.delta.0)]
 }
 
 fn thread_words(x: Thread) -> [u64; 5]
     ensures { result ≡ thread_words x }
 {
-    let first = buffers::long_byte(x.segment);
-    let s = x.state;
-    match s {
-        State::Ended(c) => [first, 0, 0, c.time.0, buffers::long_word(c.delta.0)],
-        State::Overrun(c) => [first, 1, 0, c.time.0, buffers::long_word(c.delta.0)],
-        State::Ready(c) => [first, 2, 0, c.time.0, buffers::long_word(c.delta.0)],
-        State::Waiting(e, c) => [
-            first,
-            3,
-            buffers::long_byte(e),
-            c.time.0,
-            buffers::long_word(c.delta.0),
-        ],
-        State::Running(c) => [first, 4, 0, c.time.0, buffers::long_word(c.delta.0)],
-    }
-}
-
-// Words from place `at` on.
-fn put_words(out: &mut [u64], at: usize, words: &[u64])
-    requires { at + length words.now ≤ length out.old }
-    ensures { out.new ≡ sets out.old at words.now }
-{
-    let mut i = 0;
-    while i < words.len() {
-        out[at + i] = words[i];
-        i += 1;
-    }
+    let (number, event, c) = match x.state {
+        State::Ended(c) => (0, 0, c),
+        State::Overrun(c) => (1, 0, c),
+        State::Ready(c) => (2, 0, c),
+        State::Waiting(e, c) => (3, e, c),
+        State::Running(c) => (4, 0, c),
+    };
+    [
+        u64::from(x.segment),
+        number,
+        u64::from(event),
+        c.time.0,
+        u64::from(c.delta.0),
+    ]
 }
 
 fn variables_into(values: Variables, out: &mut [u32])
@@ -224,11 +182,7 @@ fn variables_into(values: Variables, out: &mut [u32])
     if out.len() < 64 {
         return;
     }
-    let mut i = 0;
-    while i < 64 {
-        out[i] = values.at[i];
-        i += 1;
-    }
+    buffers::put(out, 0, &values.at);
 }
 
 // The places of a log, after its count.
@@ -236,12 +190,8 @@ fn put_places(places: [Notification; 128], out: &mut [u64])
     requires { (length places ≡ 128) × (385 ≤ length out.old) }
     ensures { out.new ≡ sets out.old 1 (in_turn pair_words places) }
 {
-    let mut i = 0;
-    while i < 128 {
-        let x = places[i];
-        let words = cycle_words(x.event, x.cycle);
-        put_words(out, 3 * i + 1, &words);
-        i += 1;
+    for (i, x) in places.iter().enumerate() {
+        buffers::put(out, 3 * i + 1, &cycle_words(x.event, x.cycle));
     }
 }
 
@@ -251,9 +201,8 @@ fn log_into(site: Site, out: &mut [u64])
     if out.len() < 385 {
         return;
     }
-    let places = site.log;
-    out[0] = buffers::long_byte(site.count);
-    put_places(places, out);
+    out[0] = u64::from(site.count);
+    put_places(site.log, out);
 }
 
 pub fn site_into(site: Site, variables: &mut [u32], log: &mut [u64])
@@ -268,15 +217,12 @@ pub fn site_into(site: Site, variables: &mut [u32], log: &mut [u64])
 pub fn threads_into(threads: Threads, t: u8, records: &mut [u64])
     ensures { records.new ≡ placed_in (record_words (take t threads.at)) records.old }
 {
-    let n = buffers::least(buffers::wide(t), 32);
+    let n = usize::from(t).min(32);
     if records.len() < 5 * n {
         return;
     }
-    let mut k = 0;
-    while k < n {
-        let words = thread_words(threads.at[k]);
-        put_words(records, 5 * k, &words);
-        k += 1;
+    for (k, x) in threads.at[..n].iter().enumerate() {
+        buffers::put(records, 5 * k, &thread_words(*x));
     }
 }
 
@@ -287,8 +233,7 @@ pub fn grant_into(s: u8, c: Cycle, answer: &mut [u64])
     if answer.len() < 3 {
         return;
     }
-    let words = cycle_words(s, c);
-    put_words(answer, 0, &words);
+    buffers::put(answer, 0, &cycle_words(s, c));
 }
 
 fn is_pair_held(log: &[u64], i: usize) -> bool
@@ -296,20 +241,14 @@ fn is_pair_held(log: &[u64], i: usize) -> bool
     ensures { result ≡ is_pair_held log.now i }
 {
     let p = 3 * i;
-    if buffers::word_at(log, p + 1) < 256 {
-        return buffers::word_at(log, p + 3) < 4294967296;
-    }
-    false
+    buffers::word_at(log, p + 1) < 256 && buffers::word_at(log, p + 3) < 4294967296
 }
 
 // An event beside its state's number: 0 unless waiting.
 fn is_event_held(number: u64, event: u64) -> bool
     ensures { result ≡ is_event_held number event }
 {
-    if number == 3 {
-        return event < 256;
-    }
-    event == 0
+    if number == 3 { event < 256 } else { event == 0 }
 }
 
 fn is_record_held(records: &[u64], k: usize) -> bool
@@ -318,65 +257,28 @@ fn is_record_held(records: &[u64], k: usize) -> bool
 {
     let p = 5 * k;
     let number = buffers::word_at(records, p + 1);
-    if buffers::word_at(records, p) >= 256 {
-        return false;
-    }
-    if number >= 5 {
-        return false;
-    }
-    if is_event_held(number, buffers::word_at(records, p + 2)) {
-        return buffers::word_at(records, p + 4) < 4294967296;
-    }
-    false
+    buffers::word_at(records, p) < 256
+        && number < 5
+        && is_event_held(number, buffers::word_at(records, p + 2))
+        && buffers::word_at(records, p + 4) < 4294967296
 }
 
 fn is_log_held(log: &[u64]) -> bool
     ensures { result ≡ is_log_held log.now }
 {
-    if log.len() < 385 {
-        return false;
-    }
-    let count = log[0];
-    if count > 128 {
-        return false;
-    }
-    let n = count as usize;
-    let mut i = 0;
-    while i < n {
-        if !is_pair_held(log, i) {
-            return false;
-        }
-        i += 1;
-    }
-    true
+    385 <= log.len() && log[0] <= 128 && (0..log[0] as usize).all(|i| is_pair_held(log, i))
 }
 
 fn are_records_held(records: &[u64], t: u8) -> bool
     ensures { result ≡ are_records_held t records.now }
 {
-    let n = buffers::wide(t);
-    if records.len() < 5 * n {
-        return false;
-    }
-    let mut k = 0;
-    while k < n {
-        if !is_record_held(records, k) {
-            return false;
-        }
-        k += 1;
-    }
-    true
+    let n = usize::from(t);
+    5 * n <= records.len() && (0..n).all(|k| is_record_held(records, k))
 }
 
 // Whether the numbers are those of a state of t threads, each in its range, in buffers that are long enough.
 pub fn are_held(variables: &[u32], log: &[u64], records: &[u64], t: u8) -> bool
     ensures { result ≡ are_held t variables.now log.now records.now }
 {
-    if variables.len() < 64 {
-        return false;
-    }
-    if is_log_held(log) {
-        return are_records_held(records, t);
-    }
-    false
+    64 <= variables.len() && is_log_held(log) && are_records_held(records, t)
 }

@@ -20,7 +20,7 @@ use Rattle.model.specs.Record.{no_thread, thread_at}
 use Rattle.model.specs.Refusal.{unfit}
 use Rattle.model.specs.Rules.{unless}
 use Rattle.model_rules.proofs.RuleLaws.{model_fault-counts}
-use Rattle.reader.specs.declared.Read.{Read}
+use Rattle.reader.specs.Read.{Read}
 use Rattle.reader.specs.File.{read_file}
 use Rattle.reader_laws.proofs.Accepted.{accepted-kept}
 use Rattle.tables.specs.Outcome.{conflict_marks}

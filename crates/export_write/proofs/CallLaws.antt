@@ -22,7 +22,7 @@ use Rattle.buffers.proofs.WrittenLaws.{saves-number}
 use Rattle.model.specs.declared.Model.{Model}
 use Rattle.model.specs.Rules.{model_fault}
 use Rattle.model_rules.proofs.FaultLaws.{unless-kept}
-use Rattle.reader.specs.declared.Read.{Read}
+use Rattle.reader.specs.Read.{Read}
 use Rattle.reader.specs.File.{read_file}
 use Rattle.reader_laws.proofs.Accepted.{accepted-kept}
 use Rattle.writer.specs.File.{file_of}

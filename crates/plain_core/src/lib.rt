@@ -70,7 +70,7 @@ fn no_ranges() -> [usize; 66]
     ranges
 }
 
-// What the run leaves.
+// What the run leaves. Its arrays are no struct, as in `plain_cycle`: with one a run took up to 3 percent more instructions.
 fn result(
     v: [u32; 64],
     state: &[u64; 32],

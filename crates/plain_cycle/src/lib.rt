@@ -18,6 +18,7 @@ fn wait_for(end: u64, turn: usize, ranges: &mut [usize; 66])
 }
 
 // One thread is looked at: if it is ready in this cycle, and the budget has room, it runs its segment whole.
+// What runs is lent array by array: as one struct with the count a run took up to 3 percent more instructions.
 fn look_at(
     code: &[u64; 4384],
     turn: usize,

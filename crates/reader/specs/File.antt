@@ -6,7 +6,7 @@ use Rattle.model.specs.declared.Model.{Model}
 use Rattle.model.specs.Refusal.{accepted, short_file, extra_bytes}
 use Rattle.model.specs.Values.{no_model}
 use Rattle.model.specs.Rules.{unless, links_fault}
-use Rattle.reader.specs.declared.Read.{Read}
+use Rattle.reader.specs.Read.{Read}
 use Rattle.reader.specs.Word.{word_at}
 use Rattle.reader.specs.Record.{end_kind, framing_fault, body_fault, with_record}
 

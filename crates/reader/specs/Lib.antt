@@ -1,3 +1,4 @@
+pub mod Read
 pub mod Word
 pub mod Closer
 pub mod Statement

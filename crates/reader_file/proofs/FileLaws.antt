@@ -3,10 +3,9 @@
 --     judged_rest-..     what is left of the bytes, read with as many turns as bytes
 --     judged-..     the exits and the turn of `judge`
 --     filled-..     the head and the turn of `model_from`
---     partly-..     the same, of a file that need not be accepted
 use Prim.Native.Nat.{ℕ, zero, suc, ◌+◌, ◌-◌, ◌<◌, ◌≤◌}
 use mathlib.Core.Path.{◌≡◌, refl, sym, ap, ◌∙◌, subst}
-use mathlib.Core.Bool.{Bool, true, false, cond}
+use mathlib.Core.Bool.{false}
 use mathlib.Core.List.{List}
 use native.Mathlib.Omega.{arith}
 use native.Mathlib.Decide.{ℕ_discrete}
@@ -25,7 +24,7 @@ use Rattle.model.specs.Values.{no_segment, no_start, no_model}
 use Rattle.model.specs.Rules.{unless, targets_fault, lack_fault}
 use Rattle.model_rules.proofs.FaultLaws.{unless-zero}
 use Rattle.model_rules.proofs.RuleLaws.{targets_fault-first}
-use Rattle.reader.specs.declared.Read.{Read}
+use Rattle.reader.specs.Read.{Read}
 use Rattle.reader.specs.Word.{byte_at, word_at, long_at}
 use Rattle.reader.specs.Record.{framing_fault, body_fault, with_record}
 use Rattle.reader_laws.proofs.FrameLaws.{framed}
@@ -34,9 +33,8 @@ use Rattle.reader_laws.proofs.Reading.{read_or-accepted}
 use Rattle.reader_segment.specs.Parts.{segment_in}
 use Rattle.reader_segment.proofs.SegmentLaws.{part-rest, fits-length}
 use Rattle.reader_record.specs.declared.Counts.{Counts}
-use Rattle.reader_file.specs.declared.Head.{Head}
 use Rattle.reader_record.specs.Parts.{record_fault}
-use Rattle.reader_file.specs.Parts.{no_counts, counts_after, end_fault, refused_with, thread_from, ports_into, judged_end, judged_from, judged_file, head_of, no_head, Builds, BuildsIf}
+use Rattle.reader_file.specs.Parts.{no_counts, counts_after, end_fault, refused_with, thread_from, ports_into, judged_end, judged_from, judged_file, Builds}
 use Rattle.reader_record.proofs.RecordLaws.{is_whole-head, framing_fault-short, Opened, opened_some, opened-least, opened-left, opened-length, opened_after, opened-size, opened-fits, opened-head, opened-thread, opened-ports, opened-last, opened-end}
 use Rattle.reader_file.proofs.TargetLaws.{stays-targets, Counted, counted_none, counted-more}
 use Rattle.reader_file.proofs.UnnamedLaws.{unnamed-lack}
@@ -371,26 +369,3 @@ module _ {bytes : List ℕ} {at : ℕ} {m : Model} (ok : (judged_file bytes).num
       filled-with-ports i d y e p q is-n is-t is-gs is-ss =
           let l : i < length m.starts = omega (arith, filled-last e, f.reading.so_far.start_places) in
           rw (is-n, is-t, is-gs, is-ss, with_record-ports k m (take s (rest_of bytes at)) i d y e p l q) filled_more
-
--- an accepted file, read as far as at; of any other, nothing is read and nothing left
-pub record Partly (accepted : Bool) (bytes : List ℕ) (at : ℕ) (m : Model) : Type 0 where
-  pub within : at ≤ length bytes
-  pub filled : accepted ≡ true → Filled bytes at m
-  pub none : accepted ≡ false → (at ≡ length bytes) × (m ≡ no_model)
-
-pub partly-head : (accepted : Bool) (bytes : List ℕ) (h : Head) → (accepted ≡ true → (judged_file bytes).number ≡ 0) → h ≡ cond accepted (head_of bytes) (no_head bytes)
-    → Partly accepted bytes h.at (record { horizon = h.horizon; v = h.v; e = h.e; n = 0; t = 0; segments = replicate 64 no_segment; starts = replicate 32 no_start })
-partly-head true bytes h ok is =
-    rw is (record { within = filled-left bytes (ok refl); filled = λ z. filled-head bytes (ok refl) (record { 0 = long_at (take 10 bytes) 4 }) refl; none = λ z. absurd (true→T false (sym z)) })
-partly-head false bytes h ok is = rw is (record { within = omega arith; filled = λ z. absurd (true→T false z); none = λ z. (refl, refl) })
-
--- where more than the end is left, the file is accepted
-pub partly-accepted : (accepted : Bool) (bytes : List ℕ) (at : ℕ) (m : Model) → Partly accepted bytes at m → 4 < length (rest_of bytes at) → accepted ≡ true
-partly-accepted true bytes at m p h = refl
-partly-accepted false bytes at m p h = absurd (omega (arith, (p.none refl).0, rest_of-length bytes at))
-
-pub partly_more : {accepted : Bool} {bytes : List ℕ} {at : ℕ} {m : Model} → accepted ≡ true → at ≤ length bytes → Filled bytes at m → Partly accepted bytes at m
-partly_more e w f = record { within = w; filled = λ z. f; none = λ z. absurd (true→T false (sym z ∙ e)) }
-
-pub partly-all : {accepted : Bool} {bytes : List ℕ} {at : ℕ} {m : Model} → (accepted ≡ true → (judged_file bytes).number ≡ 0) → Partly accepted bytes at m → length (rest_of bytes at) ≤ 4 → BuildsIf accepted bytes m
-partly-all ok p h = record { model = λ z. filled-all (ok z) (p.filled z) h; none = λ z. (p.none z).1 }

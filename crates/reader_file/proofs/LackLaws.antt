@@ -1,11 +1,11 @@
 -- 18 after all other numbers: a file is what it is but for 18, and then 18 where it applies.
 --     file-judged     the two together
---     number-..     the exits of `file_number`
+--     number-..     the exits of `file_fault`
 --     lack-asked     18 of a model that was built
---     model-read     the model beside the number
+--     read-model, read-refused     what the call answers
 use Prim.Native.Nat.{ℕ, zero, suc, ◌<◌, ◌≤◌}
 use mathlib.Core.Path.{◌≡◌, refl, sym, ap, ◌∙◌}
-use mathlib.Core.Bool.{false, cond}
+use mathlib.Core.Bool.{cond}
 use mathlib.Core.List.{List}
 use native.Mathlib.Omega.{arith}
 use native.Mathlib.Decide.{ℕ_discrete}
@@ -17,13 +17,16 @@ use Rattle.base.proofs.IndexLaws.{or_else-none, or_else-some}
 use Rattle.model.specs.declared.Model.{Model}
 use Rattle.model.specs.Values.{no_model, start_at}
 use Rattle.model.specs.Rules.{unless, targets_fault, lack_fault, links_fault}
-use Rattle.reader.specs.declared.Read.{Read}
+use Rattle.std.specs.Prelude.{Ok, Err}
+use Rattle.refusal.specs.declared.Refusal.{Refusal}
+use Rattle.refusal.specs.Number.{number_of}
+use Rattle.refusal.proofs.NumberLaws.{number_of-not_0}
+use Rattle.reader.specs.Read.{Read, read_of}
 use Rattle.reader.specs.Word.{word_at}
 use Rattle.reader.specs.Record.{framing_fault, body_fault, with_record}
 use Rattle.reader.specs.File.{read_or, read_end, read_from, read_file}
 use Rattle.reader_laws.proofs.Accepted.{refused-zero}
-use Rattle.reader_file.specs.declared.Verdict.{Verdict}
-use Rattle.reader_file.specs.Parts.{refused_with, judged_end, judged_from, judged_file, Judges, Builds, BuildsIf}
+use Rattle.reader_file.specs.Parts.{refused_with, judged_end, judged_from, judged_file, Builds}
 
 -- what was accepted, with 18 where it applies
 unfoldable lacked : Read → Read
@@ -99,29 +102,25 @@ accepted-judged b z = go (ℕ_discrete (judged_file b).number 0)
     go (yes e) = e
     go (no n) = sym (ap (λ (r : Read). r.number) (file-judged b ∙ lacked-refused (judged_file b) n)) ∙ z
 
--- the exits of `file_number`
-module _ (b : List ℕ) (x : Verdict) (g : Judges b x) where
-  pub number-refused : (x.number ≡ 0 → ⊥) → x.number ≡ (read_file b).number
-  number-refused n = g.number ∙ ap (λ (r : Read). r.number) (sym (file-judged b ∙ lacked-refused (judged_file b) (λ z. n (g.number ∙ z))))
+-- the exits of `file_fault`
+module _ (b : List ℕ) where
+  pub number-refused : (x : ℕ) → x ≡ (judged_file b).number → (x ≡ 0 → ⊥) → x ≡ (read_file b).number
+  number-refused x is n = is ∙ ap (λ (r : Read). r.number) (sym (file-judged b ∙ lacked-refused (judged_file b) (λ z. n (is ∙ z))))
 
-  pub number-unnamed : x.number ≡ 0 → x.named ≡ false → 0 ≡ (read_file b).number
-  number-unnamed z u = sym (g.unnamed z u) ∙ number-lack b (sym g.number ∙ z)
-
-  pub number-asked : x.number ≡ 0 → (y : ℕ) → y ≡ lack_fault (judged_file b).model → y ≡ (read_file b).number
-  number-asked z y is = is ∙ number-lack b (sym g.number ∙ z)
+  pub number-asked : (judged_file b).number ≡ 0 → (y : ℕ) → y ≡ lack_fault (judged_file b).model → y ≡ (read_file b).number
+  number-asked z y is = is ∙ number-lack b z
 
 -- what `lack_fault` says of the model of such a file
 pub lack-asked : (b : List ℕ) (m : Model) → Builds b m → (y : ℕ) → (m.n ≤ 64 → m.t ≤ 32 → ((k : ℕ) → k < m.t → (start_at m k).first < m.n) → y ≡ lack_fault m)
     → y ≡ lack_fault (judged_file b).model
 lack-asked b m built y asked = asked built.segments built.threads built.firsts ∙ ap lack_fault built.model
 
--- the model beside a file's number
-pub model-read : (b : List ℕ) (x : ℕ) (m : Model) → x ≡ (read_file b).number → BuildsIf (eqb x 0) b m → m ≡ (read_file b).model
-model-read b x m is built = go (ℕ_discrete x 0)
-  where
-    go : Dec (x ≡ 0) → m ≡ (read_file b).model
-    go (yes e) =
-        let z : (read_file b).number ≡ 0 = sym is ∙ e in
-        let ok = accepted-judged b z in
-        (built.model (eq-eqb x 0 e)).model ∙ model-lack b ok (number-lack b ok ∙ z)
-    go (no n) = built.none (ne_eqb x 0 n) ∙ sym (refused-zero b (λ z. n (is ∙ z)))
+-- the answer of a call that reads the file: its model, or a refusal beside none
+pub read-model : (b : List ℕ) (m : Model) → (read_file b).number ≡ 0 → Builds b m → read_of (Ok m) ≡ read_file b
+read-model b m z built =
+    let ok = accepted-judged b z in
+    let is : m ≡ (read_file b).model = built.model ∙ model-lack b ok (number-lack b ok ∙ z) in
+    rw (is, ← z) refl
+
+pub read-refused : (b : List ℕ) (r : Refusal) → number_of r ≡ (read_file b).number → read_of (Err r) ≡ read_file b
+read-refused b r is = rw (← refused-zero b (λ z. number_of-not_0 r (is ∙ z)), is) refl

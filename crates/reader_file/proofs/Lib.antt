@@ -3,3 +3,4 @@ pub mod UnnamedLaws
 pub mod TargetLaws
 pub mod LackLaws
 pub mod FileLaws
+pub mod KindLaws

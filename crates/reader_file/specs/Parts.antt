@@ -1,5 +1,7 @@
 -- What the reader's own functions answer, in parts of the definitions before. Only private contracts cite these.
-use Rattle.std.specs.Prelude.{ℕ, zero, suc, ◌+◌, ◌<◌, ◌≤◌, max, ◌≡◌, Bool, false, true, cond, ◌||◌, List, leb, eqb, length, take, drop}
+use Rattle.std.specs.Prelude.{ℕ, zero, suc, ◌+◌, ◌<◌, ◌≤◌, max, ◌≡◌, Bool, false, cond, ◌||◌, List, leb, eqb, length, take, drop, Result, Ok}
+use Rattle.refusal.specs.declared.Refusal.{Refusal}
+use Rattle.refusal.specs.Number.{number_told}
 use Rattle.base.specs.Index.{or_else}
 use Rattle.model.specs.declared.Start.{Start}
 use Rattle.model.specs.declared.Model.{Model}
@@ -7,14 +9,12 @@ use Rattle.model.specs.Port.{no_ports}
 use Rattle.model.specs.Refusal.{accepted, short_file, wrong_target, extra_bytes}
 use Rattle.model.specs.Values.{no_model, start_at}
 use Rattle.model.specs.Rules.{unless, targets_fault, lack_fault}
-use Rattle.reader.specs.declared.Read.{Read}
-use Rattle.reader.specs.Word.{byte_at, word_at, long_at}
+use Rattle.reader.specs.Read.{Read}
+use Rattle.reader.specs.Word.{byte_at, word_at}
 use Rattle.reader.specs.Record.{head_kind, segment_kind, thread_kind, end_kind, framing_fault, ports_from, body_fault, with_record}
 use Rattle.reader.specs.File.{read_or}
 use Rattle.reader_segment.specs.Parts.{closer_in, target_bound, record_names}
 use Rattle.reader_record.specs.declared.Counts.{Counts}
-use Rattle.reader_file.specs.declared.Head.{Head}
-use Rattle.reader_file.specs.declared.Verdict.{Verdict}
 
 -- what is counted before the first record, and with the record r of kind k
 abbrev pub no_counts : Counts
@@ -66,17 +66,10 @@ judged_from (suc most) last b m =
 unfoldable pub judged_file : List ℕ → Read
 judged_file b = judged_from (length b) 0 b no_model
 
--- the head of a file with no fault but 18, and of any other
-abbrev pub head_of : List ℕ → Head
-head_of b = record { horizon = record { 0 = long_at (take 10 b) 4 }; v = byte_at (take 10 b) 8; e = byte_at (take 10 b) 9; at = 10 }
-
-abbrev pub no_head : List ℕ → Head
-no_head b = record { horizon = record { 0 = 0 }; v = 0; e = 0; at = length b }
-
 -- a file's number but for 18; where no port is named, 18 is not to be asked
-pub record Judges (b : List ℕ) (x : Verdict) : Type 0 where
-  pub number : x.number ≡ (judged_file b).number
-  pub unnamed : x.number ≡ 0 → x.named ≡ false → lack_fault (judged_file b).model ≡ 0
+pub record Judges (b : List ℕ) (x : Result Bool Refusal) : Type 0 where
+  pub number : number_told x ≡ (judged_file b).number
+  pub unnamed : x ≡ Ok false → lack_fault (judged_file b).model ≡ 0
 
 -- the model of a file whose number, but for 18, is 0: few enough segments and threads, and first segments that are there
 pub record Builds (b : List ℕ) (m : Model) : Type 0 where
@@ -84,8 +77,3 @@ pub record Builds (b : List ℕ) (m : Model) : Type 0 where
   pub segments : m.n ≤ 64
   pub threads : m.t ≤ 32
   pub firsts : (k : ℕ) → k < m.t → (start_at m k).first < m.n
-
--- that model, or a zero one
-pub record BuildsIf (accepted : Bool) (b : List ℕ) (m : Model) : Type 0 where
-  pub model : accepted ≡ true → Builds b m
-  pub none : accepted ≡ false → m ≡ no_model

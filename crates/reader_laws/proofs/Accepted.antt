@@ -14,7 +14,7 @@ use Rattle.model.specs.declared.Model.{Model}
 use Rattle.model.specs.Values.{no_model, segment_at, ports_at}
 use Rattle.model.specs.Rules.{unless, segment_fault, segments_fault, ports_fault, starts_fault, counts_fault, links_fault, model_fault}
 use Rattle.model_rules.proofs.FaultLaws.{unless-kept}
-use Rattle.reader.specs.declared.Read.{Read}
+use Rattle.reader.specs.Read.{Read}
 use Rattle.reader.specs.Word.{word_at}
 use Rattle.reader.specs.Record.{framing_fault, body_fault, with_record}
 use Rattle.reader.specs.File.{read_or, read_end, read_from, read_file}

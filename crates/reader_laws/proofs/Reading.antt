@@ -14,7 +14,7 @@ use Rattle.base.proofs.IndexLaws.{or_else-zero}
 use Rattle.model.specs.declared.Model.{Model}
 use Rattle.model.specs.Rules.{unless, links_fault}
 use Rattle.model_rules.proofs.FaultLaws.{unless-zero}
-use Rattle.reader.specs.declared.Read.{Read}
+use Rattle.reader.specs.Read.{Read}
 use Rattle.reader.specs.Word.{word_at}
 use Rattle.reader.specs.Record.{follows, length_fits, framing_fault, body_fault, with_record}
 use Rattle.reader.specs.File.{read_or, read_end, read_from}

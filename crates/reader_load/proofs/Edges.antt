@@ -5,7 +5,7 @@ use mathlib.Core.List.{[], ◌∷◌}
 use Rattle.base.specs.Index.{or_else}
 use Rattle.model.specs.Values.{no_segment, no_start}
 use Rattle.model.specs.declared.Model.{Model}
-use Rattle.reader.specs.declared.Read.{Read}
+use Rattle.reader.specs.Read.{Read}
 use Rattle.tables.specs.Outcome.{is_short}
 use Rattle.reader_load.specs.Load.{load_number, by_rows_number}
 

@@ -11,7 +11,7 @@ use Rattle.base.proofs.IndexLaws.{or_else-none, or_else-some, or_else-zero}
 use Rattle.model.specs.Refusal.{accepted, short_table}
 use Rattle.model.specs.Values.{no_model}
 use Rattle.model.specs.Rules.{model_fault, head_fault}
-use Rattle.reader.specs.declared.Read.{Read}
+use Rattle.reader.specs.Read.{Read}
 use Rattle.reader.specs.File.{read_or, read_file}
 use Rattle.reader_laws.proofs.Reading.{read_or-accepted}
 use Rattle.reader_laws.proofs.Accepted.{accepted-kept, read_or-refused, refused-zero}

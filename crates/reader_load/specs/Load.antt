@@ -3,7 +3,7 @@
 use Rattle.std.specs.Prelude.{ℕ, Bool, cond, List, ltb, eqb}
 use Rattle.base.specs.Index.{or_else}
 use Rattle.model.specs.Refusal.{accepted, short_table}
-use Rattle.reader.specs.declared.Read.{Read}
+use Rattle.reader.specs.Read.{Read}
 use Rattle.reader.specs.File.{read_or, read_file}
 use Rattle.tables.specs.Word.{stored}
 use Rattle.tables.specs.Outcome.{is_short, row_words, conflict_marks}

@@ -12,7 +12,8 @@ use borrow.Author.Tests.{ltb-true, ne_eqb}
 use Rattle.base.specs.Index.{or_else}
 use Rattle.base.proofs.IndexLaws.{or_else-none, or_else-zero}
 use Rattle.model_rules.proofs.FaultLaws.{fault-here, unless-zero}
-use Rattle.reader.specs.Record.{framing_fault, ports_bytes_fault}
+use Rattle.reader.specs.Word.{word_at}
+use Rattle.reader.specs.Record.{follows, framing_fault, ports_bytes_fault}
 use Rattle.reader_segment.specs.Parts.{fits, segment_record_fault}
 use Rattle.reader_segment.proofs.SegmentLaws.{segment_record_fault-fits}
 use Rattle.reader_record.specs.declared.Counts.{Counts}
@@ -27,6 +28,11 @@ module _ (last : ℕ) (c : Counts) (b : List ℕ) where
   pub record_fault-framed : record_fault last c b ≡ 0 → framing_fault last b ≡ 0
   unfolding record_fault
   record_fault-framed z = (or_else-zero _ _ z).0
+
+-- what came last counts for what may follow alone
+pub record_fault-last : (a d : ℕ) (c : Counts) (b : List ℕ) → ((n : ℕ) → follows a n ≡ follows d n) → record_fault a c b ≡ record_fault d c b
+unfolding record_fault framing_fault
+record_fault-last a d c b same = rw (same (word_at b 2)) refl
 
 module _ {last s k : ℕ} {b : List ℕ} (o : Opened last b s k) (c : Counts) where
   record_fault-opened : record_fault last c b ≡ or_else (count_fault k c (take s b)) (own_fault k c.v c.e (take s b))

@@ -1,5 +1,5 @@
 -- One record: what its head says, and what follows of a head with no 1, 2 or 3.
---     is_whole-head, follows-no_kind, framing_fault-..     the exits of `framing_fault`
+--     is_whole-head, follows-no_kind, follows-unknown, framing_fault-..     the exits of `framing_fault`
 --     opened-..     what no fault says of the length and the kind
 use Prim.Native.Nat.{ℕ, ◌≤◌, ◌<◌}
 use mathlib.Core.Path.{◌∙◌, ◌≡◌, refl, sym}
@@ -36,6 +36,12 @@ follows-no_kind last n none = rw (ne_eqb n 1 (λ z. none Head (sym z)), ne_eqb n
     go false false false true p = refl
     go false false false false true = refl
     go false false false false false = refl
+
+-- nothing comes after a number of no kind, as after an end
+pub follows-unknown : (last : ℕ) → (last ≡ 0 → ⊥) → ((k : Kind) → kind_number k ≡ last → ⊥) → (n : ℕ) → follows 4 n ≡ follows last n
+unfolding follows
+follows-unknown last first none n =
+    rw (ne_eqb last 0 first, ne_eqb last 1 (λ z. none Head (sym z)), ne_eqb last 2 (λ z. none Segment (sym z)), ne_eqb last 3 (λ z. none Thread (sym z)), ne_eqb last 5 (λ z. none Ports (sym z))) refl
 
 module _ (last : ℕ) (b : List ℕ) where
   pub framing_fault-short : is_whole b ≡ false → 1 ≡ framing_fault last b

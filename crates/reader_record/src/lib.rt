@@ -179,7 +179,7 @@ fn own_fault(kind: Kind, c: Counts, r: &[u8]) -> Result<(), Refusal>
 
 // The first of 1 to 7 and 17 at a record that begins the bytes b, after a record of kind last: "1 to 7 .., lower number first"; else what
 // its head says.
-pub fn record_fault(last: Option<Kind>, c: Counts, b: &[u8]) -> Result<Frame, Refusal>
+pub fn fault_after(last: Option<Kind>, c: Counts, b: &[u8]) -> Result<Frame, Refusal>
     ensures fault { number_told result ≡ record_fault (last_number last) c b.now }
     ensures frame { IfOk result (Frames b.now) }
 {
@@ -188,4 +188,17 @@ pub fn record_fault(last: Option<Kind>, c: Counts, b: &[u8]) -> Result<Frame, Re
     count_fault(frame.kind, c, r)?;
     own_fault(frame.kind, c, r)?;
     Ok(frame)
+}
+
+// The same after a record whose kind has the number last; 0 stands before the first record. Nothing comes after a number that no kind has,
+// as nothing comes after an end.
+pub fn record_fault(last: u32, c: Counts, b: &[u8]) -> Result<Frame, Refusal>
+    ensures fault { number_told result ≡ record_fault last c b.now }
+    ensures frame { IfOk result (Frames b.now) }
+{
+    match Kind::try_from(last) {
+        Ok(kind) => fault_after(Some(kind), c, b),
+        Err(_) if last == 0 => fault_after(None, c, b),
+        Err(_) => fault_after(Some(Kind::End), c, b),
+    }
 }

@@ -14,7 +14,7 @@ use borrow.Author.Tests.{ltb-false, lt-ltb, le-ltb, eq-eqb, ne_eqb}
 use Rattle.base.proofs.BoolLaws.{T→false, false→T, not-or→both}
 use Rattle.model.specs.declared.Model.{Model}
 use Rattle.model.specs.Rules.{model_fault}
-use Rattle.reader.specs.declared.Read.{Read}
+use Rattle.reader.specs.Read.{Read}
 use Rattle.reader.specs.File.{read_file}
 use Rattle.tables.specs.Conflict.{marks_of}
 use Rattle.tables.specs.Word.{words_of, stored}

@@ -31,8 +31,7 @@ fn read_calls<R: Env>(rt: &R, kinds: &mut [u8], labels: &mut [u64]) -> usize
     ensures prefix_len_2 { IsPrefixLen result labels.new }
 {
     let mut text = [0u8; 21];
-    let mut n = 0;
-    while n < labels.len() {
+    for n in 0..labels.len() {
         let k = match rt.arg(n + 1, &mut text) {
             Ok(k) => k,
             Err(FillError::TooLong) => 0,
@@ -40,9 +39,8 @@ fn read_calls<R: Env>(rt: &R, kinds: &mut [u8], labels: &mut [u64]) -> usize
         };
         kinds[n] = transcript_print::kind_of(&text[..k]);
         labels[n] = transcript_print::label_of(&text[..k]);
-        n += 1;
     }
-    n
+    labels.len()
 }
 
 // One read of all, one write of all. One call more than 1,024 tells that there are too many.

@@ -1,7 +1,7 @@
 -- Document 01, "Cases": what is printed of a file's plain run.
 use Rattle.std.specs.Prelude.{ℕ, cond, List, eqb}
 use Rattle.model.specs.Refusal.{accepted}
-use Rattle.reader.specs.declared.Read.{Read}
+use Rattle.reader.specs.Read.{Read}
 use Rattle.reader.specs.File.{read_file}
 use Rattle.plain.specs.Run.{plain_run}
 use Rattle.sheet.specs.Sheet.{refused_line, sheet_of}

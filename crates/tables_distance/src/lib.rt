@@ -72,12 +72,11 @@ fn direct_word(g: Steps, r: usize, s: usize) -> u64
     }
 }
 
-// Row r, which begins at place p: ways of at most one step.
-fn direct_row(words: &mut [u64], n: usize, r: usize, p: usize, g: Steps)
-    requires { p + n ≤ length words.old }
-    ensures { words.new ≡ direct_to g r p words.old n }
+// Row r: ways of at most one step.
+fn direct_row(row: &mut [u64], r: usize, g: Steps)
+    ensures { row.new ≡ direct_to g r 0 row.old (length row.old) }
 {
-    for (s, w) in words[p..p + n].iter_mut().enumerate() {
+    for (s, w) in row.iter_mut().enumerate() {
         *w = direct_word(g, r, s);
     }
 }
@@ -110,7 +109,8 @@ fn relax_row(words: &mut [u64], n: usize, a: u64, p: usize, q: usize)
     }
 }
 
-// One round: every row, with ways over place k.
+// One round: every row, with ways over place k. The words and N stay two parameters, here and below: a struct of both would have to be lent
+// anew for each call, and is no plainer.
 fn round(words: &mut [u64], n: usize, k: usize)
     requires { (k < n) × (n * n ≤ length words.old) }
     ensures { words.new ≡ round_to n k words.old n }
@@ -153,7 +153,7 @@ fn direct_rows(m: Model, words: &mut [u64], n: usize)
     ensures { words.new ≡ direct_rows m words.old n }
 {
     for (r, g) in m.segments[..n].iter().enumerate() {
-        direct_row(words, n, r, r * n, steps_of(g.closer));
+        direct_row(&mut words[r * n..r * n + n], r, steps_of(g.closer));
     }
 }
 

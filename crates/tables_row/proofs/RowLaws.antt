@@ -4,11 +4,12 @@ use Prim.Native.Nat.{ℕ, min, ◌+◌, ◌*◌, ◌≤◌, ◌<◌}
 use mathlib.Core.Path.{◌≡◌, refl, ap, sym, ◌∙◌, subst}
 use mathlib.Core.Logic.{◌⊎◌, inl, inr}
 use mathlib.Core.Bool.{cond}
-use mathlib.Core.List.{List}
+use mathlib.Core.List.{List, ◌++◌}
 use native.Mathlib.Omega.{arith}
 use native.Mathlib.Decide.{ℕ_discrete}
 use lib.Dec.{eqb}
-use lib.ListN.{length, get_or}
+use lib.ListN.{length, get_or, take, drop, get_or-append}
+use lib.Seq.{length-take-le}
 use Rattle.base.proofs.IndexLaws.{store_to-length}
 use Rattle.clock.specs.declared.Bound.{Bound}
 use Rattle.clock.specs.Cycle.{cycle_at}
@@ -146,10 +147,16 @@ module _ (m : Model) (fit : model_fault m ≡ 0) (r : ℕ) (rn : r < m.n) where
               ∙ (ap cut_word (row_settled s sn) ∙ floor-cut s sn);
         }
 
--- for the code: the start, the passes, the cut
+-- for the code: the start, the passes, the cut, in the first k words of a row
 pub row_done :
-    (m : Model) (r n k : ℕ) (steps row relaxed after : List ℕ) → k ≡ min n 64 → 64 ≤ length row → Settles steps k (start_to r row k) relaxed →
-    after ≡ cut_to relaxed k → model_fault m ≡ 0 → n ≡ m.n → steps ≡ step_words m → r < m.n → IsRow m r after
-row_done m r n k steps row relaxed after e room p f fit g h rn =
+    (m : Model) (r n k : ℕ) (steps row started relaxed cut : List ℕ) → k ≡ min n 64 → 64 ≤ length row → started ≡ start_to r (take k row) (length (take k row)) →
+    Settles steps (length started) started relaxed → cut ≡ cut_to relaxed k → model_fault m ≡ 0 → n ≡ m.n → steps ≡ step_words m → r < m.n → IsRow m r (cut ++ drop k row)
+row_done m r n k steps row started relaxed cut e room s p f fit g h rn =
     let same : k ≡ m.n = omega (arith, (model_fault-counts m fit).segments) in
-    subst (λ (us : List ℕ). IsRow m r us) (sym (rw same at f)) (row_cut m fit r rn row relaxed (omega (arith, (model_fault-counts m fit).segments)) (rw (h, same) at p))
+    let size : length (take k row) ≡ m.n = length-take-le k row (omega arith) ∙ same in
+    let s' : started ≡ start_to r (take k row) m.n = rw size at s in
+    let long : length started ≡ m.n = ap length s' ∙ (store_to-length _ 0 (take k row) m.n ∙ size) in
+    let f' : cut ≡ cut_to relaxed m.n = rw same at f in
+    let cut_size : length cut ≡ m.n = ap length f' ∙ (store_to-length _ 0 relaxed m.n ∙ (p.fall.length_kept ∙ long)) in
+    let is = row_cut m fit r rn (take k row) relaxed (omega arith) (rw (h, long, s') at p) in
+    record { at = λ t tn. get_or-append cut (drop k row) 0 t (omega arith) ∙ (ap (λ (us : List ℕ). get_or us t 0) f' ∙ is.at t tn) }

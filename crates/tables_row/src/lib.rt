@@ -37,22 +37,20 @@ pub fn fill_steps(m: Model, steps: &mut [u64])
 }
 
 // "0 to itself"; no other segment is reached yet.
-fn start(row: &mut [u64], k: usize, r: usize)
-    requires { k ≤ length row.old }
-    ensures { row.new ≡ start_to r row.old k }
+fn start(row: &mut [u64], r: usize)
+    ensures { row.new ≡ start_to r row.old (length row.old) }
 {
-    for (s, w) in row[..k].iter_mut().enumerate() {
+    for (s, w) in row.iter_mut().enumerate() {
         *w = if s == r { 0 } else { CUT_WORD };
     }
 }
 
 // Word t made c, if that is less; whether it was.
-fn lower(row: &mut [u64], k: usize, t: usize, c: u64) -> bool
-    requires { k ≤ length row.old }
-    ensures told { result ≡ is_lower k t c row.old }
-    ensures after { row.new ≡ lowered_at k t c row.old }
+fn lower(row: &mut [u64], t: usize, c: u64) -> bool
+    ensures told { result ≡ is_lower (length row.old) t c row.old }
+    ensures after { row.new ≡ lowered_at (length row.old) t c row.old }
 {
-    if t >= k || c >= row[t] {
+    if t >= row.len() || c >= row[t] {
         return false;
     }
     row[t] = c;
@@ -60,10 +58,10 @@ fn lower(row: &mut [u64], k: usize, t: usize, c: u64) -> bool
 }
 
 // The step of place s, to both its next segments.
-fn follow(steps: &[u64], k: usize, s: usize, row: &mut [u64]) -> bool
-    requires { (s < k) × (k ≤ length steps.now) × (k ≤ length row.old) }
-    ensures lowers { Lowers steps.now k result row.old row.new }
-    ensures rests { result ≡ false → RestsAt steps.now k row.old s }
+fn follow(steps: &[u64], s: usize, row: &mut [u64]) -> bool
+    requires { (s < length row.old) × (length row.old ≤ length steps.now) }
+    ensures lowers { Lowers steps.now (length row.old) result row.old row.new }
+    ensures rests { result ≡ false → RestsAt steps.now (length row.old) row.old s }
 {
     let d = row[s];
     let g = steps[s];
@@ -72,20 +70,20 @@ fn follow(steps: &[u64], k: usize, s: usize, row: &mut [u64]) -> bool
         return false;
     }
     let c = tables_distance::sum_word(d, w);
-    let x = lower(row, k, (g / 256 % 256) as usize, c);
-    let y = lower(row, k, (g % 256) as usize, c);
+    let x = lower(row, (g / 256 % 256) as usize, c);
+    let y = lower(row, (g % 256) as usize, c);
     x || y
 }
 
 // The steps of all places in order, each on the row as those before it left it; whether a word changed.
-fn pass(steps: &[u64], k: usize, row: &mut [u64]) -> bool
-    requires { (k ≤ length steps.now) × (k ≤ length row.old) }
-    ensures lowers { Lowers steps.now k result row.old row.new }
-    ensures rests { result ≡ false → RestsTo steps.now k row.old k }
+fn pass(steps: &[u64], row: &mut [u64]) -> bool
+    requires { length row.old ≤ length steps.now }
+    ensures lowers { Lowers steps.now (length row.old) result row.old row.new }
+    ensures rests { result ≡ false → RestsTo steps.now (length row.old) row.old (length row.old) }
 {
     let mut changed = false;
-    for s in 0..k {
-        if follow(steps, k, s, row) {
+    for s in 0..row.len() {
+        if follow(steps, s, row) {
             changed = true;
         }
     }
@@ -93,13 +91,13 @@ fn pass(steps: &[u64], k: usize, row: &mut [u64]) -> bool
 }
 
 // Until a pass changes nothing.
-fn relax(steps: &[u64], k: usize, row: &mut [u64])
-    requires { (k ≤ length steps.now) × (k ≤ length row.old) }
-    ensures { Settles steps.now k row.old row.new }
+fn relax(steps: &[u64], row: &mut [u64])
+    requires { length row.old ≤ length steps.now }
+    ensures { Settles steps.now (length row.old) row.old row.new }
 {
     let mut changed = true;
     while changed {
-        changed = pass(steps, k, row);
+        changed = pass(steps, row);
     }
 }
 
@@ -109,10 +107,11 @@ pub fn fill_row(steps: &[u64], n: u8, r: usize, row: &mut [u64])
     ensures row { (m : Model) → model_fault m ≡ 0 → n ≡ m.n → steps.now ≡ step_words m → r < m.n → 64 ≤ length row.old → IsRow m r row.new }
 {
     let k = usize::from(n).min(64);
-    if row.len() < 64 || steps.len() < 64 || r >= k {
+    if steps.len() < 64 || row.len() < 64 || r >= k {
         return;
     }
-    start(row, k, r);
-    relax(steps, k, row);
+    let row = &mut row[..k];
+    start(row, r);
+    relax(steps, row);
     tables_distance::cut_words(row, k);
 }

@@ -6,6 +6,7 @@ use mathlib.Core.Bool.{Bool, true, false, ◌&&◌}
 use mathlib.Core.List.{List, [], ◌∷◌, ◌++◌}
 use native.Mathlib.Nat.{pow-suc, pow-le-pow_right, zero-add}
 use native.Mathlib.Numerals.{add-one}
+use native.Mathlib.Decide.{ℕ_discrete}
 use native.Mathlib.Omega.{arith}
 use lib.Dec.{ltb, leb}
 use lib.ListN.{length, get_or, take, drop, set, drop_of_length-le, length-drop}
@@ -97,13 +98,13 @@ unfolding kind_of
 kind-none [] h = refl
 kind-none (b ∷ bs) h = absurd (omega arith)
 
-pub kind-grant : (bs : List ℕ) → get_or bs 0 0 ≡ 103 → get_or bs 0 0 ≡ kind_of bs
+pub kind-letter : (bs : List ℕ) → 102 ≤ get_or bs 0 0 → get_or bs 0 0 ≤ 103 → get_or bs 0 0 ≡ kind_of bs
 unfolding kind_of
-kind-grant bs h = rw (eq-eqb (get_or bs 0 0) 103 h) refl
-
-pub kind-finish : (bs : List ℕ) → get_or bs 0 0 ≡ 102 → get_or bs 0 0 ≡ kind_of bs
-unfolding kind_of
-kind-finish bs h = rw h refl
+kind-letter bs a b = go (ℕ_discrete (get_or bs 0 0) 103)
+  where
+    go : Dec (get_or bs 0 0 ≡ 103) → get_or bs 0 0 ≡ kind_of bs
+    go (yes e) = rw (eq-eqb (get_or bs 0 0) 103 e) refl
+    go (no n) = let e : get_or bs 0 0 ≡ 102 = omega arith in rw e refl
 
 pub kind-other : (bs : List ℕ) → (get_or bs 0 0 ≡ 103 → ⊥) → (get_or bs 0 0 ≡ 102 → ⊥) → 114 ≡ kind_of bs
 unfolding kind_of

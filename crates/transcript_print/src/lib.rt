@@ -13,50 +13,35 @@ ghost use Rattle.transcript_print.specs.Text.{call_words, replay_text};
 use early::{Notification, Site};
 use model::Threads;
 
-// Stands for an argument that is no number.
+// Stands for an argument that is no number. Not an Option: a label is a word, and the text that is printed is said of words.
 const NO_NUMBER: u64 = 18446744073709551615;
 
 // The number that digits say.
 fn value_of(arg: &[u8]) -> u64
     ensures { result ≡ value_of arg.now }
 {
-    if arg.len() == 0 {
-        return NO_NUMBER;
-    }
-    if 19 < arg.len() {
+    if arg.is_empty() || 19 < arg.len() {
         return NO_NUMBER;
     }
     let mut x: u64 = 0;
-    let mut i = 0;
-    while i < arg.len() {
-        let b = arg[i];
-        if b < 48 {
+    for b in arg {
+        if !b.is_ascii_digit() {
             return NO_NUMBER;
         }
-        if 57 < b {
-            return NO_NUMBER;
-        }
-        x = x * 10 + buffers::long_byte(b - 48);
-        i += 1;
+        x = x * 10 + u64::from(*b - b'0');
     }
     x
 }
 
-// An argument's kind: `g` for a grant, `f` for a finish, or else `r`.
+// An argument's kind: `g` for a grant, `f` for a finish, or else `r`. The letter, not an enum: the text that is printed is said of letters.
 pub fn kind_of(arg: &[u8]) -> u8
     ensures { result ≡ kind_of arg.now }
 {
-    if arg.len() == 0 {
-        return b'r';
+    let letter = arg.first().copied().unwrap_or(0);
+    match letter {
+        b'g' | b'f' => letter,
+        _ => b'r',
     }
-    let b = arg[0];
-    if b == b'g' {
-        return b;
-    }
-    if b == b'f' {
-        return b;
-    }
-    b'r'
 }
 
 // The number in an argument, after the letter of its kind.
@@ -64,33 +49,29 @@ pub fn label_of(arg: &[u8]) -> u64
     ensures { result ≡ label_of arg.now }
 {
     if kind_of(arg) == b'r' {
-        return value_of(arg);
+        value_of(arg)
+    } else {
+        value_of(&arg[1..])
     }
-    value_of(&arg[1..])
 }
 
 // The thread that a label asks for.
 pub fn thread_of(label: u64) -> u8
     ensures { result ≡ thread_of label }
 {
-    if label < 255 {
-        return label as u8;
-    }
-    255
+    if label < 255 { label as u8 } else { 255 }
 }
 
 // The call that a kind and a label ask for, as a word.
 fn word_of(kind: u8, label: u64) -> u16
     ensures { result ≡ word_of kind label }
 {
-    let k = thread_of(label) as u16;
-    if kind == b'g' {
-        return 256 + k;
+    let k = u16::from(thread_of(label));
+    match kind {
+        b'g' => 256 + k,
+        b'f' => 512 + k,
+        _ => k,
     }
-    if kind == b'f' {
-        return 512 + k;
-    }
-    k
 }
 
 // The words of all calls, at the front of a buffer.
@@ -99,10 +80,8 @@ fn fill_words(kinds: &[u8], labels: &[u64], calls: &mut [u16])
     requires labels_in_bounds_2 { length labels.now ≤ length calls.old }
     ensures { calls.new ≡ placed_in (call_words kinds.now labels.now) calls.old }
 {
-    let mut i = 0;
-    while i < labels.len() {
-        calls[i] = word_of(kinds[i], labels[i]);
-        i += 1;
+    for (i, label) in labels.iter().enumerate() {
+        calls[i] = word_of(kinds[i], *label);
     }
 }
 
@@ -111,22 +90,21 @@ fn put_label(out: &mut [u8], at: usize, label: u64) -> usize
     ensures { Puts out.old at out.new result (32 ∷ label_word label) × (result ≤ at + 21) }
 {
     if label == NO_NUMBER {
-        return buffers::put_word(out, at, b" ?");
+        buffers::put_word(out, at, b" ?")
+    } else {
+        buffers::put_number(out, at, label)
     }
-    buffers::put_number(out, at, label)
 }
 
 // The letter of a call's line.
 fn letter_of(word: u64) -> u8
     ensures { result ≡ letter_of word }
 {
-    if word < 256 {
-        return b'r';
+    match word {
+        0..=255 => b'r',
+        256..=511 => b'g',
+        _ => b'f',
     }
-    if word < 512 {
-        return b'g';
-    }
-    b'f'
 }
 
 // A space, and `granted`, of a finish `finished`.
@@ -134,9 +112,10 @@ fn put_done(out: &mut [u8], at: usize, word: u64) -> usize
     ensures { Puts out.old at out.new result (32 ∷ done_word word) × (result ≤ at + 9) }
 {
     if word < 512 {
-        return buffers::put_word(out, at, b" granted");
+        buffers::put_word(out, at, b" granted")
+    } else {
+        buffers::put_word(out, at, b" finished")
     }
-    buffers::put_word(out, at, b" finished")
 }
 
 // An answer, to the end of its line.
@@ -155,10 +134,11 @@ fn put_answer(
         let a = put_done(out, at, word);
         let b = buffers::put_number(out, a, segment);
         let c = buffers::put_number(out, b, time);
-        return buffers::put_last(out, c, delta);
+        buffers::put_last(out, c, delta)
+    } else {
+        let a = buffers::put_word(out, at, b" refused");
+        buffers::put_last(out, a, number)
     }
-    let a = buffers::put_word(out, at, b" refused");
-    buffers::put_last(out, a, number)
 }
 
 // The line of call i.
@@ -188,10 +168,8 @@ fn put_call_lines(out: &mut [u8], labels: &[u64], answers: &[u64]) -> usize
     ensures { Puts out.old 0 out.new result (call_lines (length labels.now) labels.now answers.now) × (result ≤ 95 * length labels.now) }
 {
     let mut to = 0;
-    let mut i = 0;
-    while i < labels.len() {
+    for i in 0..labels.len() {
         to = put_call_line(out, to, labels, answers, i);
-        i += 1;
     }
     to
 }
@@ -200,11 +178,9 @@ fn put_call_lines(out: &mut [u8], labels: &[u64], answers: &[u64]) -> usize
 fn put_l_line(out: &mut [u8], at: usize, x: Notification) -> usize
     ensures { Puts out.old at out.new result (l_line x) × (result ≤ at + 65) }
 {
-    let event = buffers::long_byte(x.event);
-    let c = x.cycle;
     let a = buffers::put_byte(out, at, b'l');
-    let b = buffers::put_number(out, a, event);
-    sheet_print::put_cycle(out, b, c)
+    let b = buffers::put_number(out, a, u64::from(x.event));
+    sheet_print::put_cycle(out, b, x.cycle)
 }
 
 // The lines of the log, in its order.
@@ -212,13 +188,10 @@ fn put_l_lines(out: &mut [u8], at: usize, site: Site) -> usize
     requires { at ≤ length out.old }
     ensures { Puts out.old at out.new result (l_lines (min site.count places) site.log) × (result ≤ at + 8320) }
 {
-    let n = buffers::least(buffers::wide(site.count), 128);
+    let n = usize::from(site.count).min(128);
     let mut to = at;
-    let mut i = 0;
-    while i < n {
-        let x = site.log[i];
-        to = put_l_line(out, to, x);
-        i += 1;
+    for x in &site.log[..n] {
+        to = put_l_line(out, to, *x);
     }
     to
 }
@@ -227,8 +200,7 @@ fn put_l_lines(out: &mut [u8], at: usize, site: Site) -> usize
 fn put_closing(out: &mut [u8], at: usize, v: u8, t: u8, site: Site, threads: Threads) -> usize
     ensures { Puts out.old at out.new result (closing_of v t site threads.at) × (result ≤ at + 14720) }
 {
-    let xs = site.variables;
-    let a = sheet_print::put_v_lines(out, at, v, xs);
+    let a = sheet_print::put_v_lines(out, at, v, site.variables);
     let b = sheet_print::put_t_lines(out, a, t, threads);
     put_l_lines(out, b, site)
 }
@@ -281,8 +253,5 @@ pub fn replay_text(file: &[u8], kinds: &[u8], labels: &[u64], out: &mut [u8]) ->
     if r.number != 0 {
         return sheet_print::refusal(r.number, out);
     }
-    let site = r.site;
-    let threads = r.threads;
-    let w = 5 * n;
-    transcript(labels, &answers[..w], r.v, r.t, site, threads, out)
+    transcript(labels, &answers[..5 * n], r.v, r.t, r.site, r.threads, out)
 }

@@ -16,7 +16,7 @@ use Rattle.model.specs.Rules.{model_fault}
 use Rattle.model.specs.contracts.Model as model
 use Rattle.model_effect.proofs.LengthLaws.{segments-length}
 use Rattle.model_rules.proofs.RuleLaws.{model_fault-horizon}
-use Rattle.reader.specs.declared.Read.{Read}
+use Rattle.reader.specs.Read.{Read}
 use Rattle.reader.specs.File.{read_or, read_file}
 use Rattle.writer.specs.File.{file_of, trimmed}
 use Rattle.writer.specs.Back.{ReadsBack}

@@ -10,7 +10,7 @@ use lib.ListN.{length}
 use Rattle.model.specs.declared.Model.{Model}
 use Rattle.model.specs.Values.{segment_at, start_at}
 use Rattle.model.specs.Rules.{model_fault}
-use Rattle.reader.specs.declared.Read.{Read}
+use Rattle.reader.specs.Read.{Read}
 use Rattle.reader.specs.File.{read_or, read_file}
 use Rattle.reader_laws.proofs.Accepted.{accepted-kept}
 use Rattle.writer.specs.Bytes.{bytes_of, joined}

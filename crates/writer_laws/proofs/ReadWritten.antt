@@ -23,7 +23,7 @@ use Rattle.model.specs.Port.{no_ports, uses_ports}
 use Rattle.model.specs.Values.{no_statement, no_segment, no_start, no_model, segment_at, start_at, ports_at, with_head, with_segment, with_start, with_ports}
 use Rattle.model.specs.Rules.{unless, head_fault, segment_fault, segments_fault, ports_fault, starts_fault, counts_fault, links_fault, model_fault, closer_fault, statements_fault}
 use Rattle.model_rules.proofs.FaultLaws.{unless-zero}
-use Rattle.reader.specs.declared.Read.{Read}
+use Rattle.reader.specs.Read.{Read}
 use Rattle.reader.specs.Word.{byte_at, long_at}
 use Rattle.reader.specs.Record.{follows, length_fits, body_fault, with_record}
 use Rattle.reader.specs.File.{read_or, read_end, read_from, read_file}

@@ -8,7 +8,7 @@ use Rattle.buffers.specs.Write.{Writes}
 use Rattle.buffers.specs.Written.{length_of, Saves}
 use Rattle.buffers.proofs.WrittenLaws.{saves-writes}
 use Rattle.model.specs.Rules.{model_fault}
-use Rattle.reader.specs.declared.Read.{Read}
+use Rattle.reader.specs.Read.{Read}
 use Rattle.reader.specs.File.{read_file}
 use Rattle.reader_laws.proofs.Accepted.{accepted-kept}
 use Rattle.writer.specs.File.{file_of}

@@ -1,7 +1,7 @@
 -- Document 02, slip 2: what the program `rewrite` prints of a file.
 use Rattle.std.specs.Prelude.{ℕ, ◌<◌, ◌≡◌, cond, List, eqb}
 use Rattle.model.specs.Refusal.{accepted}
-use Rattle.reader.specs.declared.Read.{Read}
+use Rattle.reader.specs.Read.{Read}
 use Rattle.reader.specs.Word.{byte_at}
 use Rattle.reader.specs.File.{read_file}
 use Rattle.writer.specs.File.{file_of}

@@ -14,9 +14,9 @@ returns-then-is_finish c =
     record {
       kept = refl;
       number = λ es l same ws shown.
-          c.finish_number.ensures
-          ∙ (ap (finish_number x.t x.threads.at) c.thread_of-k.ensures
-          ∙ number-finish (x.horizon.0 + 1) x.n x.t es (conflicts_on x.marks x.names.now x.starts) ws x.reach.now l (log_of x.site) x.threads.at
+          c.decide_finish.ensures
+          ∙ (ap (finish_number x.desk.now.t x.threads.at) c.thread_of-k.ensures
+          ∙ number-finish (x.desk.now.horizon.0 + 1) x.desk.now.n x.desk.now.t es (conflicts_on x.desk.now.marks x.desk.now.names.now x.desk.now.starts) ws x.desk.now.reach.now l (log_of x.site) x.threads.at
           x.call (sym c.is_finish.ensures ∙ c.if-is_finish.true));
     }
 
@@ -24,12 +24,12 @@ pub returns : goal.returns
 returns c =
     let x = c.args in
     let d = c.decide in
-    let conflicts = conflicts_on x.marks x.names.now x.starts in
+    let conflicts = conflicts_on x.desk.now.marks x.desk.now.names.now x.desk.now.starts in
     record {
       kept = d.ensures.kept;
       number = λ es l same ws shown.
-          d.ensures.number es l (places_same x.t l x.threads.at es x.places _ _ (sym c.thread_of-k.ensures) same) ws shown
-          ∙ (ap (number_on (x.horizon.0 + 1) x.n x.t es conflicts ws x.reach.now l (log_of x.site) x.threads.at) c.thread_of-k.ensures
-          ∙ number-decided (x.horizon.0 + 1) x.n x.t es conflicts ws x.reach.now l (log_of x.site) x.threads.at
+          d.ensures.number es l (places_same x.desk.now.t l x.threads.at es x.places _ _ (sym c.thread_of-k.ensures) same) ws shown
+          ∙ (ap (number_on (x.desk.now.horizon.0 + 1) x.desk.now.n x.desk.now.t es conflicts ws x.desk.now.reach.now l (log_of x.site) x.threads.at) c.thread_of-k.ensures
+          ∙ number-decided (x.desk.now.horizon.0 + 1) x.desk.now.n x.desk.now.t es conflicts ws x.desk.now.reach.now l (log_of x.site) x.threads.at
           x.call (sym c.is_finish.ensures ∙ c.if-is_finish.false));
     }

@@ -15,8 +15,8 @@ returns-then-hazard c =
     record {
       kept = h.ensures.kept;
       number = λ es l same ws shown.
-          let seen = same-hazard x.n x.t (conflicts_on x.marks x.names.now x.starts) ws x.reach.now (log_of x.site) x.threads.at x.at.thread.0 x.at.cycle s.requires _ _ o.ensures in
-          let told = h.ensures.hazard ws shown.known (shows-within x.n x.t x.reach.now (log_of x.site) x.threads.at _ _ s.requires o.ensures shown.within) in
+          let seen = same-hazard x.desk.now.n x.desk.now.t (conflicts_on x.desk.now.marks x.desk.now.names.now x.desk.now.starts) ws x.desk.now.reach.now (log_of x.site) x.threads.at x.at.thread.0 x.at.cycle s.requires _ _ o.ensures in
+          let told = h.ensures.hazard ws shown.known (shows-within x.desk.now.n x.desk.now.t x.desk.now.reach.now (log_of x.site) x.threads.at _ _ s.requires o.ensures shown.within) in
           ready-hazard _ _ _ _ _ (sym seen ∙ (sym told ∙ c.if-hazard.true));
     }
 
@@ -29,8 +29,8 @@ returns-then-is_full c =
     record {
       kept = h.ensures.kept;
       number = λ es l same ws shown.
-          let seen = same-hazard x.n x.t (conflicts_on x.marks x.names.now x.starts) ws x.reach.now (log_of x.site) x.threads.at x.at.thread.0 x.at.cycle s.requires _ _ o.ensures in
-          let told = h.ensures.hazard ws shown.known (shows-within x.n x.t x.reach.now (log_of x.site) x.threads.at _ _ s.requires o.ensures shown.within) in
+          let seen = same-hazard x.desk.now.n x.desk.now.t (conflicts_on x.desk.now.marks x.desk.now.names.now x.desk.now.starts) ws x.desk.now.reach.now (log_of x.site) x.threads.at x.at.thread.0 x.at.cycle s.requires _ _ o.ensures in
+          let told = h.ensures.hazard ws shown.known (shows-within x.desk.now.n x.desk.now.t x.desk.now.reach.now (log_of x.site) x.threads.at _ _ s.requires o.ensures shown.within) in
           ready-full _ _ _ _ _ (sym seen ∙ (sym told ∙ c.if-hazard.false)) (rw (← same) (sym c.is_full.ensures ∙ c.if-is_full.true));
     }
 
@@ -43,7 +43,7 @@ returns c =
     record {
       kept = h.ensures.kept;
       number = λ es l same ws shown.
-          let seen = same-hazard x.n x.t (conflicts_on x.marks x.names.now x.starts) ws x.reach.now (log_of x.site) x.threads.at x.at.thread.0 x.at.cycle s.requires _ _ o.ensures in
-          let told = h.ensures.hazard ws shown.known (shows-within x.n x.t x.reach.now (log_of x.site) x.threads.at _ _ s.requires o.ensures shown.within) in
+          let seen = same-hazard x.desk.now.n x.desk.now.t (conflicts_on x.desk.now.marks x.desk.now.names.now x.desk.now.starts) ws x.desk.now.reach.now (log_of x.site) x.threads.at x.at.thread.0 x.at.cycle s.requires _ _ o.ensures in
+          let told = h.ensures.hazard ws shown.known (shows-within x.desk.now.n x.desk.now.t x.desk.now.reach.now (log_of x.site) x.threads.at _ _ s.requires o.ensures shown.within) in
           ready-free _ _ _ _ _ (sym seen ∙ (sym told ∙ c.if-hazard.false)) (rw (← same) (sym c.is_full.ensures ∙ c.if-is_full.false));
     }

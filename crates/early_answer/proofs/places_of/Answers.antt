@@ -14,4 +14,4 @@ unfolding thread_at
 returns c h = let x = c.args in
     c.places_with.ensures
     ∙ ap (λ y. places_with (log_of x.counted) y (take x.listed.n x.listed.at))
-    (c.cycle_of-c.ensures ∙ ap (λ j. cycle_of (get_or x.threads.at j no_thread).state) c.wide-i.ensures.0)
+    (c.cycle_of-c.ensures ∙ ap (λ j. cycle_of (get_or x.threads.at j no_thread).state) c.from-i.ensures)

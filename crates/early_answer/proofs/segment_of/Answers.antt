@@ -1,13 +1,9 @@
 -- `early_answer::segment_of` meets its contract.
-use mathlib.Core.Path.{refl}
 use native.Mathlib.Omega.{arith}
-use borrow.Author.Tests.{lt-ltb, le-ltb}
+use borrow.Author.Tests.{lt-ltb}
 use Rattle.model.specs.Record.{thread_at}
 use Rattle.early_answer.proofs.segment_of.Goals as goal
 
-pub returns-then-t-k : goal.returns-then-t-k
-returns-then-t-k c = rw (le-ltb c.args.k c.args.t (omega arith)) refl
-
-pub returns : goal.returns
+pub returns-then-k-t : goal.returns-then-k-t
 unfolding thread_at
-returns c = rw (lt-ltb c.args.k c.args.t (omega arith), ← c.wide-i.ensures.0) c.wide.ensures.0
+returns-then-k-t c = rw (lt-ltb c.args.k c.args.t (omega arith), ← c.from.ensures) c.from-then-k-t.ensures

@@ -8,6 +8,6 @@ use Rattle.early_deliver.proofs.settle.Goals as goal
 pub returns : goal.returns
 returns c =
     let x = c.args in
-    c.settle_below.ensures
-    ∙ (ap (λ l. settled_by (sooner_on x.reach.now c.few.result l) l c.few.result x.threads.at) c.spread-logged.ensures
+    c.settled.ensures
+    ∙ (ap (λ l. settled_by (sooner_on x.reach.now c.few.result l) l c.few.result x.threads.at) c.spread-rows.ensures
     ∙ ap (λ n. settled_by (sooner_on x.reach.now n (log_of x.site)) (log_of x.site) n x.threads.at) c.few.ensures.0)

@@ -1,26 +1,24 @@
--- `early_fit::is_unfit_words` meets its contract. The invariant: the first i words are fit.
-use mathlib.Core.Path.{sym}
-use native.Mathlib.Omega.{arith}
-use lib.ListN.{get_or}
-use borrow.Author.Count.{below_none, below_more}
-use Rattle.early_laws.proofs.FitLaws.{→is_unfit_words}
-use Rattle.early_fit.proofs.FitnessLaws.{is_fit_word-near, is_fit_word-never, is_fit_word-far, is_unfit_words-here}
+-- `early_fit::is_unfit_words` meets its contract: too few words, or one that is unfit.
+use Rattle.std.proofs.Common.{rules, tests, ℕ, ◌∙◌, ap, ◌*◌, not, ◌&&◌, length, take, ltb, leb, eqb}
+use Rattle.std.proofs.lemmas.Iterator.{YieldsList-from_slice}
+use Rattle.std.proofs.lemmas.Iterator.Search.{any_from_yields_List}
+use Rattle.model.specs.Limits.{cut_time}
+use Rattle.tables.specs.Word.{all_ones}
+use Rattle.early_log.proofs.AnyLaws.{list_any-below}
+use Rattle.early_fit.proofs.FitnessLaws.{is_unfit_words-short, is_unfit_words-all}
 use Rattle.early_fit.proofs.is_unfit_words.Goals as goal
 
-pub loop-i-init : goal.loop-i-init
-loop-i-init c = (omega arith, below_none _)
+pub returns-then-words-count : goal.returns-then-words-count
+returns-then-words-count c =
+    let n = ap (λ r. r * r) c.from-row.ensures in
+    ap (ltb (length c.args.words.now)) n ∙ is_unfit_words-short c.args.m.now c.args.words.now (rw n at c.if-words-count.true)
 
-pub returns-then-w : goal.returns-then-w
-returns-then-w c =
+pub returns-else-words-count : goal.returns-else-words-count
+returns-else-words-count c =
+    let m = c.args.m.now in
     let ws = c.args.words.now in
-    let i = c.loop-i.i in
-    λ m p. is_unfit_words-here m ws i (omega arith) (is_fit_word-far (get_or ws i 0) c.if-w-ge-CUT_WORD.true c.if-w.true)
-
-pub loop-i-preserved-else-w : goal.loop-i-preserved-else-w
-loop-i-preserved-else-w c = (omega arith, below_more _ _ c.loop-i.invariant.1 (is_fit_word-never _ c.if-w.false))
-
-pub loop-i-preserved : goal.loop-i-preserved
-loop-i-preserved c = (omega arith, below_more _ _ c.loop-i.invariant.1 (is_fit_word-near _ c.if-w-ge-CUT_WORD.false))
-
-pub returns : goal.returns
-returns c = λ m p. sym (→is_unfit_words m c.args.words.now (omega arith) (λ i h. c.loop-i.invariant.1 i (omega arith)))
+    let n = ap (λ r. r * r) c.from-row.ensures in
+    let enough = rw n at c.if-words-count.false in
+    let test = λ (w : ℕ). leb (1024 * cut_time) w && not (eqb w all_ones) in
+    any_from_yields_List test _ _ _ c.any.ensures.ran (YieldsList-from_slice (take (m.n * m.n) ws) (c.iter.ensures.rest ∙ ap (λ k. take k ws) n)) (λ x b q k. search (rules, tests))
+    ∙ (list_any-below test ws 0 (m.n * m.n) enough ∙ is_unfit_words-all m ws enough)

@@ -1,5 +1,4 @@
 -- `early_hazard::row_threatens` meets its contract: a search over the segments.
-use Prim.Native.Nat.{◌≤◌, ◌-◌}
 use mathlib.Core.Path.{◌≡◌}
 use mathlib.Core.Bool.{false}
 use Rattle.base.specs.Index.{any_below}
@@ -9,7 +8,4 @@ use Rattle.early_hazard.proofs.row_threatens.Given as goal
 
 abbrev pub invariant-loop-s : goal.invariant-loop-s
 invariant-loop-s l =
-    (l.s ≤ l.k) × (any_below l.s (threat_by (conflicts_by l.marked l.own l.names l.ports) l.words l.count l.p l.b l.j l.c l.i) ≡ false)
-
-abbrev pub decreases-loop-s : goal.decreases-loop-s
-decreases-loop-s l = l.k - l.s
+    any_below l.s (threat_by (conflicts_by l.asker.marked l.asker.own l.asker.names.now l.fn.ports) l.row l.count 0 l.b l.j l.asker.c l.asker.i) ≡ false

@@ -11,5 +11,5 @@ returns c =
     let x = c.args in
     let (asked, back, held) =
     moved_all x.m x.site [] (λ ts. holding_none (request_of x.m x.marks x.words.now x.site ts x.k.0)) (request_of-moves x.m x.marks x.words.now x.site x.k.0) x.threads.now _ _ _ _ _ _ _
-    c.moved-n.ensures c.no_threads.ensures c.load-before.ensures c.request_of-done.ensures refl c.store.ensures in
+    c.moved-n.ensures c.no_threads.ensures (c.load-before.ensures, refl) c.request_of-done.ensures refl c.store.ensures in
     (asked, back, rw asked (request_of-answers x.m x.marks x.words.now x.site x.threads.now x.k.0))

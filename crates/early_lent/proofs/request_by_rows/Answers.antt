@@ -13,5 +13,5 @@ returns c =
     let many = length x.row.now in
     let (asked, back, held) =
     moved_all x.m x.site [] (λ ts. holding_none (request_by_rows x.m x.marks many x.site ts x.k.0)) (request_by_rows-moves x.m x.marks many x.site x.k.0) x.threads.now _ _ _ _ _ _ _
-    c.moved-count.ensures c.no_threads.ensures c.load-before.ensures c.request_of_rows-done.ensures.left refl c.store.ensures in
+    c.moved-count.ensures c.no_threads.ensures (c.load-before.ensures, refl) c.request_of_rows-done.ensures.left refl c.store.ensures in
     (asked, back, c.request_of_rows-done.ensures.free)

@@ -4,4 +4,4 @@ use Rattle.early_lent.proofs.request_first.Goals as goal
 
 pub returns : goal.returns
 unfolding request_first
-returns c = rw (← c.least.ensures) c.lend.ensures
+returns c = rw (← c.min.ensures) c.lend.ensures

@@ -2,6 +2,7 @@
 use mathlib.Core.Path.{◌∙◌}
 use lib.ListN.{replicate, length-replicate}
 use Rattle.early_limits.proofs.PlaceLaws.{reach_in-all}
+use Rattle.early_row.specs.Lent.{is_by_steps, lent_of}
 use Rattle.early_answer.specs.Shown.{table_by}
 use Rattle.early_list.proofs.answer_fit.Goals as goal
 
@@ -10,7 +11,7 @@ answer_all-requires c =
     let s = c in
     let x = s.args in
     let r = c.fill_reach in
-    let ws = table_by x.stepwise x.m x.words.now in (
+    let ws = table_by (is_by_steps x.from) x.m (lent_of x.from) in (
       s.requires.0,
       s.requires.1,
       (

@@ -56,4 +56,4 @@ returns c =
     let a = c.answer_fit in
     let said = calls_same (call_by_rows x.m x.marks (length x.row.now)) x.site x.threads x.held.now x.calls.now x.answers.now (omega (arith, c.if-answers-calls.false)) _
     (calls_by_rows-enough x.m x.marks (length x.row.now) c.if-row-lt64.false (map call_at x.calls.now) x.site x.threads.at x.held.now) _ _ _ a.ensures.left a.ensures.held a.ensures.written in
-    record { free = free-front x.row.now a.new.row a.ensures.kept; left = said.0; held = said.1; written = said.2 }
+    record { free = free-front x.row.now a.new.room a.ensures.kept; left = said.0; held = said.1; written = said.2 }

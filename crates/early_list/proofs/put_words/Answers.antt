@@ -1,27 +1,10 @@
 -- `early_list::put_words` meets its contract.
-use Prim.Native.Nat.{suc, ◌+◌}
-use mathlib.Core.Path.{◌≡◌, refl}
+use mathlib.Core.Path.{refl}
 use native.Mathlib.Omega.{arith}
-use lib.ListN.{length-set}
+use Rattle.early_list.proofs.AnswerWordLaws.{words-put}
 use Rattle.early_list.proofs.put_words.Goals as goal
-
-pub bounds-answers-at-2 : goal.bounds-answers-at-2
-bounds-answers-at-2 c = simp length-set (omega arith)
-
-pub bounds-answers-at-3 : goal.bounds-answers-at-3
-bounds-answers-at-3 c = simp length-set (omega arith)
-
-pub bounds-answers-at-4 : goal.bounds-answers-at-4
-bounds-answers-at-4 c = simp length-set (omega arith)
-
-pub bounds-answers-at-5 : goal.bounds-answers-at-5
-bounds-answers-at-5 c = simp length-set (omega arith)
 
 pub returns : goal.returns
 returns c =
-    let at = c.args.at in
-    let e : at + 1 ≡ suc at = omega arith in
-    let f : at + 2 ≡ suc (suc at) = omega arith in
-    let g : at + 3 ≡ suc (suc (suc at)) = omega arith in
-    let h : at + 4 ≡ suc (suc (suc (suc at))) = omega arith in
-    rw (e, f, g, h) refl
+    let x = c.args in
+    words-put x.answers.now _ _ x.at _ c.copy_from_slice.ensures.after (omega arith) (omega arith)

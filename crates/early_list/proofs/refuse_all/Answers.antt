@@ -12,7 +12,7 @@ use Rattle.early_list.proofs.refuse_all.Goals as goal
 pub loop-i-init : goal.loop-i-init
 loop-i-init c =
     let x = c.args in
-    (omega arith, (refl, refuse-none x.calls.now (Refused x.number) x.answers.now))
+    (refl, refuse-none x.calls.now (Refused x.number) x.answers.now)
 
 pub loop-i-preserved : goal.loop-i-preserved
 loop-i-preserved c =
@@ -20,13 +20,13 @@ loop-i-preserved c =
     let x = c.args in
     let put = c.put_answer.ensures in
     let kept = ap length put ∙ length-sets here.answers (5 * here.i) (answer_words (get_or x.calls.now here.i 0) (Refused x.number)) in
-    (omega arith, (kept ∙ here.invariant.1.0, refuse-more x.calls.now (Refused x.number) here.answers _ here.i (omega arith) put ∙ here.invariant.1.1))
+    (kept ∙ here.invariant.0, refuse-more x.calls.now (Refused x.number) here.answers _ here.i (omega arith) put ∙ here.invariant.1)
 
 pub shape_of-answers : goal.shape_of-answers
-shape_of-answers c = c.loop-i.invariant.1.0
+shape_of-answers c = c.loop-i.invariant.0
 
 pub returns : goal.returns
 returns c =
     let x = c.args in
     let here = c.loop-i in
-    sym (words-done here.answers x.calls.now here.i (replicate (length x.calls.now - here.i) (Refused x.number)) (omega arith)) ∙ here.invariant.1.1
+    sym (words-done here.answers x.calls.now here.i (replicate (length x.calls.now - here.i) (Refused x.number)) (omega arith)) ∙ here.invariant.1

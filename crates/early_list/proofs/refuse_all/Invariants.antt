@@ -1,5 +1,5 @@
 -- `early_list::refuse_all` meets its contract. The invariant: the words that are left to write lead to the same buffer.
-use Prim.Native.Nat.{◌*◌, ◌≤◌, ◌-◌}
+use Prim.Native.Nat.{◌*◌, ◌-◌}
 use mathlib.Core.Path.{◌≡◌}
 use lib.ListN.{length, drop, replicate}
 use lib.Seq.{sets}
@@ -9,7 +9,4 @@ use Rattle.early_list.proofs.refuse_all.Given as goal
 
 abbrev pub invariant-loop-i : goal.invariant-loop-i
 invariant-loop-i l =
-    (l.i ≤ length l.calls) × ((length l.answers ≡ length l.initial.answers) × (sets l.answers (5 * l.i) (answers_words (drop l.i l.calls) (replicate (length l.calls - l.i) (Refused l.number))) ≡ sets l.initial.answers 0 (answers_words l.calls (replicate (length l.calls) (Refused l.number)))))
-
-abbrev pub decreases-loop-i : goal.decreases-loop-i
-decreases-loop-i l = length l.calls - l.i
+    (length l.answers ≡ length l.initial.answers) × (sets l.answers (5 * l.i) (answers_words (drop l.i l.calls) (replicate (length l.calls - l.i) (Refused l.number))) ≡ sets l.initial.answers 0 (answers_words l.calls (replicate (length l.calls) (Refused l.number))))

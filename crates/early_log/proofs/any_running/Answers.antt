@@ -1,26 +1,18 @@
--- `early_log::any_running` meets its contract. The invariant: none of the first k threads is running.
-use mathlib.Core.Path.{sym, ◌∙◌}
-use native.Mathlib.Omega.{arith}
-use borrow.Author.Count.{below_none, below_more}
-use Rattle.base.proofs.IndexLaws.{any_below-here, any_below-empty}
-use Rattle.model.specs.Record.{thread_at, is_running}
+-- `early_log::any_running` meets its contract.
+use Rattle.std.proofs.Common.{rules, ◌∙◌, ap, take, arith}
+use Rattle.std.proofs.lemmas.Iterator.{YieldsList-from_slice}
+use Rattle.std.proofs.lemmas.Iterator.Search.{any_from_yields_List}
+use borrow.Author.Tests.{tests}
+use Rattle.model.specs.declared.Thread.{Thread}
+use Rattle.model.specs.Record.{no_thread, thread_at, is_running}
+use Rattle.model_effect.proofs.LengthLaws.{threads-length}
+use Rattle.early_log.proofs.AnyLaws.{list_any-below}
 use Rattle.early_log.proofs.any_running.Goals as goal
 
-pub loop-k-init : goal.loop-k-init
-loop-k-init c = (omega arith, below_none _)
-
-pub returns-then-is_running : goal.returns-then-is_running
-unfolding thread_at
-returns-then-is_running c =
-    let x = c.args in
-    sym (any_below-here x.t (λ k. is_running (thread_at x.threads.at k).state) c.loop-k.k (omega arith) (sym c.is_running.ensures ∙ c.if-is_running.true))
-
-pub loop-k-preserved : goal.loop-k-preserved
-unfolding thread_at
-loop-k-preserved c =
-    (omega arith, below_more _ _ c.loop-k.invariant.1 (sym c.is_running.ensures ∙ c.if-is_running.false))
-
 pub returns : goal.returns
+unfolding thread_at
 returns c =
     let x = c.args in
-    sym (any_below-empty x.t (λ k. is_running (thread_at x.threads.at k).state) (λ i h. c.loop-k.invariant.1 i (omega arith)))
+    let size = threads-length x.threads _ c.well_formed.0 in
+    any_from_yields_List (λ (y : Thread). is_running y.state) _ _ _ c.any.ensures.ran (YieldsList-from_slice (take x.t x.threads.at) (c.iter.ensures.rest ∙ ap (λ n. take n x.threads.at) c.from-n.ensures)) (λ y b q k. search (rules, tests))
+    ∙ list_any-below (λ (y : Thread). is_running y.state) x.threads.at no_thread x.t (omega arith)

@@ -1,13 +1,7 @@
 -- `early_log::counted_site` meets its contract: what is counted for the running threads, or none is running.
 use mathlib.Core.Path.{sym, ◌∙◌}
-use Rattle.early_log.proofs.RunningLaws.{counted-fits, counted_none}
+use Rattle.early_log.proofs.RunningLaws.{counted_none}
 use Rattle.early_log.proofs.counted_site.Goals as goal
-
-pub returns-then-any_running : goal.returns-then-any_running
-returns-then-any_running c =
-    let start = c in
-    let x = start.args in
-    c.counted-c.ensures.site_value (c.counted-c.ensures.full_value ∙ counted-fits x.m x.threads.at x.site start.requires.2)
 
 pub returns : goal.returns
 returns c =

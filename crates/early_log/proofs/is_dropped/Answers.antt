@@ -1,8 +1,8 @@
 -- `early_log::is_dropped` meets its contract: all where there is no floor, else what is before it.
-use mathlib.Core.Path.{◌∙◌}
+use Rattle.clock.specs.Cycle.{is_before}
 use Rattle.early.specs.Log.{is_dropped}
-use Rattle.early_log.proofs.HeldLaws.{is_dropped-At}
 use borrow.Author.Rules.{rules}
+use borrow.Author.Tests.{tests}
 use Rattle.early_log.proofs.is_dropped.Goals as goal
 
 -- no floor
@@ -11,4 +11,5 @@ unfolding is_dropped
 returns-in_default c = search rules
 
 pub returns : goal.returns
-returns c = c.is_before.ensures ∙ is_dropped-At _ c.in-At.is
+unfolding is_dropped is_before
+returns c = search (rules, tests)

@@ -7,7 +7,6 @@ use Rattle.early_log.specs.Spread.{log_in}
 use Rattle.early_log.proofs.least_in.Given as goal
 
 abbrev pub invariant-loop-i : goal.invariant-loop-i
-invariant-loop-i l = (l.i ≤ 128) × (l.i ≤ length (log_in l.events l.times l.deltas l.n)) × (l.best ≡ least_heard (drop l.i (log_in l.events l.times l.deltas l.n)) l.e l.since)
-
-abbrev pub decreases-loop-i : goal.decreases-loop-i
-decreases-loop-i l = l.i
+invariant-loop-i l =
+    let log = log_in l.rows.events l.rows.times l.rows.deltas l.rows.n in
+    (l.i ≤ length log) × (l.best ≡ least_heard (drop l.i log) l.e l.since)

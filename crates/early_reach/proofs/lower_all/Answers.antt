@@ -1,34 +1,30 @@
 -- `early_reach::lower_all` meets its contract: row after row.
 use mathlib.Core.Path.{◌≡◌, refl, ◌∙◌}
 use native.Mathlib.Omega.{arith}
+use borrow.Author.Rules.{rules}
+use lib.ListN.{length}
 use Rattle.early_limits.specs.Limit.{at_most}
-use Rattle.early_ahead.proofs.LimitLaws.{at_most-≤}
-use Rattle.early_reach.proofs.StoreLaws.{rows_lowered-none, rows_lowered-more}
+use Rattle.early_reach.proofs.StoreLaws.{rows_lowered-none, rows_lowered-more, row_lowered-row}
+use Rattle.early_ahead.proofs.LimitLaws.{at_most-min}
 use Rattle.early_reach.proofs.lower_all.Goals as goal
 
 pub loop-r-init : goal.loop-r-init
-loop-r-init c = (omega arith, refl, refl, λ ws knows. rows_lowered-none _ _ ws _ _)
-
-pub lower_segment-requires : goal.lower_segment-requires
-lower_segment-requires c =
-    (omega arith, c.requires.1, omega arith, omega (arith, (at_most-≤ 64 c.args.count).1), omega arith)
+loop-r-init c = (refl, refl, λ ws knows. rows_lowered-none _ _ ws _ _)
 
 pub loop-r-preserved : goal.loop-r-preserved
-loop-r-preserved c = (
-  omega arith,
-  c.lower_segment.ensures.kept.0 ∙ c.loop-r.invariant.1,
-  c.lower_segment.ensures.kept.1 ∙ c.loop-r.invariant.2,
-  λ ws knows. rows_lowered-more _ _ ws _ _ c.loop-r.r _ _ (c.loop-r.invariant.3 ws knows) (c.lower_segment.ensures.lowered ws (rw c.loop-r.invariant.1 knows)),
-)
-
-pub shape_of-row : goal.shape_of-row
-shape_of-row c = c.loop-r.invariant.1
-
-pub shape_of-reach : goal.shape_of-reach
-shape_of-reach c = c.loop-r.invariant.2
-
-pub returns : goal.returns
-returns c =
+loop-r-preserved c =
     let x = c.args in
-    let e : c.loop-r.r ≡ at_most 64 x.count = omega arith in
-    record { kept = (c.loop-r.invariant.1, c.loop-r.invariant.2); lowered = λ ws knows. rw e at (c.loop-r.invariant.3 ws knows) }
+    let l = c.loop-r in (
+      search rules,
+      c.lower_row.ensures.same_length ∙ l.invariant.1,
+      λ ws knows.
+          let row = c.row-row.ensures ws (rw l.invariant.0 knows) (omega (arith, c.min-r-end.ensures, c.from.ensures)) in
+          rows_lowered-more _ _ ws _ _ l.r _ _ (l.invariant.2 ws knows) (row_lowered-row x.notes.now ws _ (length x.notes.now) x.count l.r _ _ c.requires.0 row c.lower_row.ensures),
+    )
+
+pub returns-clause-lowered : goal.returns-clause-lowered
+returns-clause-lowered c = λ ws knows.
+    let l = c.loop-r in
+    let end : l.r ≡ c.min-r-end.result = omega arith in
+    let e : l.r ≡ at_most 64 c.args.count = end ∙ (c.min-r-end.ensures ∙ rw c.from.ensures (at_most-min 64 c.args.count)) in
+    rw e at (l.invariant.2 ws knows)

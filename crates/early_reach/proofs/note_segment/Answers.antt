@@ -1,37 +1,41 @@
 -- `early_reach::note_segment` meets its contract: the statements, one after the other.
-use mathlib.Core.Path.{refl}
+use Prim.Native.Nat.{◌≤◌}
+use mathlib.Core.Path.{◌≡◌, sym, ◌∙◌}
 use native.Mathlib.Omega.{arith}
-use lib.ListN.{get_or}
-use Rattle.base.proofs.ListLaws.{get_d_any}
-use Rattle.model.specs.Values.{no_statement}
+use Rattle.std.proofs.lemmas.List.{length-take}
 use Rattle.model_effect.proofs.LengthLaws.{statements-length}
-use Rattle.early_reach.proofs.NoteLaws.{notes_of-none, notes_of-event, notes_of-other, notes_of-body}
-use Rattle.early_reach.proofs.note_segment.Goals.{then-e-lt32, else-e-lt32}
+use Rattle.early_limits.specs.Limit.{at_most}
+use Rattle.early_reach.proofs.NoteLaws.{notes_of-none, notes_of-event, notes_of-other, notes_of-body, event_of-event, event_of-other, statement-read}
+use Rattle.early_reach.proofs.note_segment.Goals.{in-Notify+then-e-lt32, in-Notify+else-e-lt32, in_default}
+use Rattle.early_ahead.proofs.LimitLaws.{at_most-min}
 use Rattle.early_reach.proofs.note_segment.Goals as goal
 
-pub loop-j-init : goal.loop-j-init
-loop-j-init c = (omega arith, notes_of-none _ _ _ c.args.g.statements)
+pub loop-x-init : goal.loop-x-init
+loop-x-init c = notes_of-none _ _ _ c.args.g.statements
 
-pub loop-j-preserved : goal.loop-j-preserved
-loop-j-preserved c =
-    let l = c.loop-j in
+pub loop-x-preserved : goal.loop-x-preserved
+loop-x-preserved c =
+    let l = c.loop-x in
     let x = c.args in
     let ss = x.g.statements in
-    let size = statements-length x.g _ c.well_formed.0 in
-    let read = get_d_any ss l.j (get_or ss l.j no_statement) no_statement (omega arith) in (
-      omega arith,
-      elim c.if-e-lt32.branch [
-        | then-e-lt32 w ↦ rw (w.notes-is, w.k-is)
-            (notes_of-event x.s x.from x.notes.now ss l.j l.k _ _ _ _ l.invariant.1 (omega arith) read c.event_of-e.ensures w.if-e-lt32.true (omega arith) refl)
-        | else-e-lt32 w ↦ rw (w.notes-is, w.k-is)
-            (notes_of-other x.s x.from x.notes.now ss l.j l.k _ _ _ l.invariant.1 (omega arith) read c.event_of-e.ensures (omega arith))
-      ],
-    )
-
-pub shape_of-notes : goal.shape_of-notes
-shape_of-notes c = c.loop-j.invariant.1.same_length
+    let size = length-take c.min-n.result ss in
+    let read = statement-read ss c.min-n.result l.x-index _ c.loop-x-test.true in
+    elim c.match-x.branch [
+      | in-Notify+then-e-lt32 w ↦ rw (w.notes-is, w.k-is)
+          (notes_of-event x.s x.from x.notes.now ss l.x-index l.k _ _ _ _ l.invariant (omega arith) read (event_of-event _ _ w.in-Notify.is) w.if-e-lt32.true (omega (arith, l.invariant.most, l.invariant.same_length))
+          (omega (arith, w.from-then-e-lt32.ensures)))
+      | in-Notify+else-e-lt32 w ↦ rw (w.notes-is, w.k-is)
+          (notes_of-other x.s x.from x.notes.now ss l.x-index l.k _ _ _ l.invariant (omega arith) read (event_of-event _ _ w.in-Notify.is) w.if-e-lt32.false)
+      | in_default w ↦ rw (w.notes-is, w.k-is)
+          (notes_of-other x.s x.from x.notes.now ss l.x-index l.k _ _ _ l.invariant (omega arith) read (sym (event_of-other _ w.in_default.not-Notify)) (omega arith))
+    ]
 
 pub returns : goal.returns
 returns c =
     let x = c.args in
-    notes_of-body x.s x.from x.notes.now x.g c.loop-j.j _ _ (statements-length x.g _ c.well_formed.0) (omega arith) c.loop-j.invariant.1 (omega arith)
+    let many = statements-length x.g _ c.well_formed.0 in
+    let size = length-take c.min-n.result x.g.statements in
+    let few : c.min-n.result ≤ 32 = omega (arith, c.min-n.ensures) in
+    let end : c.loop-x.x-index ≡ c.min-n.result = omega arith in
+    let e : c.loop-x.x-index ≡ at_most 32 x.g.n = end ∙ (c.min-n.ensures ∙ rw c.from.ensures (at_most-min 32 x.g.n)) in
+    notes_of-body x.s x.from x.notes.now x.g c.loop-x.x-index _ _ many e c.loop-x.invariant (omega arith)

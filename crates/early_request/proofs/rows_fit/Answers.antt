@@ -36,4 +36,4 @@ returns c =
     let x = c.args in
     let a = c.call_fit in
     let e = rows_fit-enough x.m x.marks (length x.lent.now) x.site x.threads.at x.held.now x.call c.if-lent-lt64.false in
-    record { free = free-front x.lent.now a.new.row a.ensures.kept; held = a.ensures.held ∙ ap (λ (r : Called). r.held) e; left = a.ensures.left ∙ ap (λ (r : Called). after_of r.left) e }
+    record { free = free-front x.lent.now a.new.room a.ensures.kept; held = a.ensures.held ∙ ap (λ (r : Called). r.held) e; left = a.ensures.left ∙ ap (λ (r : Called). after_of r.left) e }

@@ -1,24 +1,15 @@
--- `export_state::first_threads` meets its contract: one record after the other.
-use mathlib.Core.Path.{◌≡◌, refl, sym, ◌∙◌}
+-- `export_state::first_threads` meets its contract: the first 32 are copied.
+use mathlib.Core.Path.{◌≡◌, refl}
 use native.Mathlib.Omega.{arith}
-use lib.ListN.{length, length-set}
-use lib.Seq.{take_all}
-use Rattle.model.specs.Record.{no_thread}
-use Rattle.export_state.proofs.FromLaws.{moved_more}
+use lib.ListN.{length, length-take}
+use Rattle.model.specs.declared.Thread.{Thread}
 use Rattle.export_state.proofs.first_threads.Goals as goal
 
-pub loop-k-init : goal.loop-k-init
-loop-k-init c = (omega arith, rw c.no_threads-threads.ensures refl, refl)
+pub slice_bounds-copy_from_slice-end-2 : goal.slice_bounds-copy_from_slice-end-2
+slice_bounds-copy_from_slice-end-2 c = let size : length c.args.held ≡ 40 = c.well_formed.0.1.0.1 in omega (arith, length-take {A = Thread})
 
-pub loop-k-preserved : goal.loop-k-preserved
-loop-k-preserved c =
-    let l = c.loop-k in
-    let s = c in
-    let size : length s.args.held ≡ 40 = s.well_formed.0.1.0.1 in
-    (omega arith, simp length-set l.invariant.1, moved_more l.threads.at s.args.held l.k no_thread (omega arith) (omega arith) l.invariant.2)
-
-pub returns : goal.returns
-returns c =
-    let l = c.loop-k in
-    let k : l.k ≡ 32 = omega arith in
-    sym (take_all 32 l.threads.at (omega arith)) ∙ (rw k at l.invariant.2)
+pub copy_from_slice-requires : goal.copy_from_slice-requires
+copy_from_slice-requires c =
+    let size : length c.args.held ≡ 40 = c.well_formed.0.1.0.1 in
+    let made : length c.no_threads-threads.result.at ≡ 32 = rw c.no_threads-threads.ensures refl in
+    omega (arith, length-take {A = Thread})

@@ -9,6 +9,5 @@ returns-then-answer-lt3 c = let x = c.args in placed_in-short (x.s ∷ x.c.time.
 
 pub returns : goal.returns
 returns c =
-    let w = c in
-    let x = w.args in
-    (rw w.cycle_words-words.ensures at c.put_words.ensures) ∙ placed_in-stored (x.s ∷ x.c.time.0 ∷ x.c.delta.0 ∷ []) x.answer.now w.if-answer-lt3.false
+    let x = c.args in
+    (rw c.cycle_words.ensures at c.put.ensures) ∙ placed_in-stored (x.s ∷ x.c.time.0 ∷ x.c.delta.0 ∷ []) x.answer.now c.if-answer-lt3.false

@@ -1,9 +1,12 @@
 -- `export_state::is_pair_held` meets its contract: the event, then the delta.
-use Rattle.export_state.proofs.HeldLaws.{is_pair_held-low, is_pair_held-high}
+use native.Mathlib.Omega.{arith}
+use Rattle.export_state.specs.Numbers.{is_pair_held}
 use Rattle.export_state.proofs.is_pair_held.Goals as goal
 
 pub returns-then-word_at-lt256 : goal.returns-then-word_at-lt256
-returns-then-word_at-lt256 c = is_pair_held-low c.args.log.now c.args.i _ _ c.word_at.ensures c.word_at-then-word_at-lt256.ensures c.if-word_at-lt256.true
+unfolding is_pair_held
+returns-then-word_at-lt256 c = grind arith
 
-pub returns : goal.returns
-returns c = is_pair_held-high c.args.log.now c.args.i _ c.word_at.ensures c.if-word_at-lt256.false
+pub returns-else-word_at-lt256 : goal.returns-else-word_at-lt256
+unfolding is_pair_held
+returns-else-word_at-lt256 c = grind arith

@@ -10,16 +10,14 @@ use Rattle.early_log.proofs.LengthLaws.{log-length}
 use Rattle.export_state.proofs.log_into.Goals as goal
 
 pub returns-then-out-lt385 : goal.returns-then-out-lt385
-returns-then-out-lt385 c = let s = c in placed_in-short (log_words s.args.site) s.args.out.now (omega (arith, log_words-length s.args.site (log-length s.args.site _ s.well_formed.0)))
+returns-then-out-lt385 c = placed_in-short (log_words c.args.site) c.args.out.now (omega (arith, log_words-length c.args.site (log-length c.args.site _ c.well_formed.0)))
 
 pub put_places-requires : goal.put_places-requires
-put_places-requires c = let s = c in (log-length s.args.site _ s.well_formed.0, simp length-set (omega arith))
+put_places-requires c = (log-length c.args.site _ c.well_formed.0, simp length-set (omega arith))
 
 pub shape_of-out : goal.shape_of-out
 shape_of-out c = ap length c.put_places.ensures ∙ simp (length-sets, length-set)
 
 pub returns : goal.returns
 returns c =
-    let b = c in
-    let s = b in
-    log-stored s.args.site s.args.out.now _ _ (log-length s.args.site _ s.well_formed.0) (omega arith) b.long_byte.ensures c.put_places.ensures
+    log-stored c.args.site c.args.out.now _ _ (log-length c.args.site _ c.well_formed.0) (omega arith) c.from.ensures c.put_places.ensures

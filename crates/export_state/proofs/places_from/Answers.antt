@@ -1,16 +1,10 @@
--- `export_state::places_from` meets its contract. The invariant: the first i places.
-use native.Mathlib.Omega.{arith}
-use Rattle.buffers.proofs.StoreLaws.{tabulate-none, tabulate-stored, tabulate-whole}
+-- `export_state::places_from` meets its contract: each place by its number.
+use borrow.Author.Rules.{rules}
+use Rattle.early.specs.Log.{pair_of}
+use Rattle.clock.specs.Cycle.{cycle_at}
 use Rattle.export_state.specs.Numbers.{place_from}
+use Rattle.export_state.proofs.FromLaws.{from_fn-is}
 use Rattle.export_state.proofs.places_from.Goals as goal
 
-pub loop-i-init : goal.loop-i-init
-loop-i-init c = (omega arith, tabulate-none _ _)
-
-pub loop-i-preserved : goal.loop-i-preserved
-loop-i-preserved c = (omega arith, tabulate-stored _ c.loop-i.places c.loop-i.i (place_from c.args.log.now) _ c.loop-i.invariant.1 c.place_from.ensures)
-
 pub returns : goal.returns
-returns c =
-    let l = c.loop-i in
-    tabulate-whole _ l.places 128 l.i (place_from c.args.log.now) (omega arith) l.invariant.1
+returns c = from_fn-is _ _ (place_from c.args.log.now) (λ i y q k. search rules) _ (pair_of 0 (cycle_at 0 0)) 128 c.from_fn.ensures.items

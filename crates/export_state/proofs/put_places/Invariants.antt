@@ -1,13 +1,9 @@
 -- `export_state::put_places` meets its contract. The invariant: the words of the first i places.
-use Prim.Native.Nat.{◌≤◌, ◌-◌}
 use mathlib.Core.Path.{◌≡◌}
-use lib.ListN.{length, take}
+use lib.ListN.{take}
 use lib.Seq.{sets}
 use Rattle.export_state.specs.Numbers.{pair_words, in_turn}
 use Rattle.export_state.proofs.put_places.Given as goal
 
 abbrev pub invariant-loop-i : goal.invariant-loop-i
-invariant-loop-i l = (l.i ≤ 128) × (length l.out ≡ length l.initial.out) × (l.out ≡ sets l.initial.out 1 (in_turn pair_words (take l.i l.places)))
-
-abbrev pub decreases-loop-i : goal.decreases-loop-i
-decreases-loop-i l = 128 - l.i
+invariant-loop-i l = l.out ≡ sets l.initial.out 1 (in_turn pair_words (take l.i l.fn.places))

@@ -1,20 +1,15 @@
--- `export_state::variables_from` meets its contract. The invariant: the first i values.
-use mathlib.Core.Path.{refl}
-use native.Mathlib.Omega.{arith}
+-- `export_state::variables_from` meets its contract: each value by its number.
+use mathlib.Core.Path.{◌≡◌}
 use lib.ListN.{get_or}
-use Rattle.buffers.proofs.StoreLaws.{tabulate-none, tabulate-stored, tabulate-whole}
+use borrow.Author.Rules.{rules}
+use Rattle.base.specs.Index.{tabulate}
 use Rattle.export_state.specs.Numbers.{variables_from}
+use Rattle.export_state.proofs.FromLaws.{from_fn-is}
 use Rattle.export_state.proofs.variables_from.Goals as goal
-
-pub loop-i-init : goal.loop-i-init
-loop-i-init c = (omega arith, tabulate-none _ _)
-
-pub loop-i-preserved : goal.loop-i-preserved
-loop-i-preserved c = (omega arith, tabulate-stored _ c.loop-i.at c.loop-i.i (λ j. get_or c.args.values.now j 0) _ c.loop-i.invariant.1 c.value_at.ensures)
 
 pub returns : goal.returns
 unfolding variables_from
 returns c =
-    let l = c.loop-i in
-    let e = tabulate-whole 0 l.at 64 l.i (λ j. get_or c.args.values.now j 0) (omega arith) l.invariant.1 in
-    rw e refl
+    let e : c.from_fn.result ≡ tabulate 64 0 (λ i. get_or c.args.values.now i 0) =
+    from_fn-is _ _ (λ i. get_or c.args.values.now i 0) (λ i y q k. search rules) _ 0 64 c.from_fn.ensures.items in
+    rw e

@@ -1,7 +1,7 @@
 -- `export_step::replay_by_rows_into` meets its contract.
 use mathlib.Core.Path.{ap, ◌∙◌}
 use lib.ListN.{length}
-use Rattle.reader.specs.declared.Read.{Read}
+use Rattle.reader.specs.Read.{Read}
 use Rattle.reader.specs.File.{read_file}
 use Rattle.early_laws.proofs.ByRowsLaws.{free-same}
 use Rattle.replay.specs.Replay.{replayed_by_rows, held_by_rows, answers_by_rows}

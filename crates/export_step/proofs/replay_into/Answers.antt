@@ -1,6 +1,6 @@
 -- `export_step::replay_into` meets its contract.
 use mathlib.Core.Path.{ap, ◌∙◌}
-use Rattle.reader.specs.declared.Read.{Read}
+use Rattle.reader.specs.Read.{Read}
 use Rattle.reader.specs.File.{read_file}
 use Rattle.replay.specs.Replay.{replayed_on, words_on, held_on, answers_on}
 use Rattle.export_step.specs.Step.{keeps}

@@ -1,7 +1,7 @@
 -- `export_step::with_room` meets its contract.
 use mathlib.Core.Path.{refl, sym, ap, ◌∙◌}
 use mathlib.Core.List.{[]}
-use Rattle.reader.specs.declared.Read.{Read}
+use Rattle.reader.specs.Read.{Read}
 use Rattle.reader.specs.File.{read_file}
 use Rattle.export_step.specs.Step.{keeps, has_room}
 use Rattle.export_step.proofs.StepLaws.{opened-refused, opened-fit, opened-unfit, room-opened}

@@ -7,7 +7,9 @@ use Rattle.tables_row.proofs.LowerLaws.{to_go}
 use Rattle.tables_row.proofs.relax.Given as goal
 
 abbrev pub invariant-loop-changed : goal.invariant-loop-changed
-invariant-loop-changed l = (length l.row ≡ length l.initial.row) × Falls l.steps l.k l.initial.row l.row × (l.changed ≡ false → RestsTo l.steps l.k l.row l.k)
+invariant-loop-changed l =
+    let k = length l.initial.row in
+    Falls l.steps k l.initial.row l.row × (l.changed ≡ false → RestsTo l.steps k l.row k)
 
 abbrev pub decreases-loop-changed : goal.decreases-loop-changed
-decreases-loop-changed l = to_go l.k l.changed l.row
+decreases-loop-changed l = to_go (length l.initial.row) l.changed l.row

@@ -1,13 +1,9 @@
 -- `transcript_print::fill_words` meets its contract. The invariant: the words of the first i calls are there, and the rest is as it was.
-use Prim.Native.Nat.{◌-◌, ◌≤◌}
 use mathlib.Core.Path.{◌≡◌}
 use mathlib.Core.List.{◌++◌}
-use lib.ListN.{length, take, drop}
+use lib.ListN.{take, drop}
 use Rattle.transcript_print.specs.Text.{call_words}
 use Rattle.transcript_print.proofs.fill_words.Given as goal
 
 abbrev pub invariant-loop-i : goal.invariant-loop-i
-invariant-loop-i l = (l.i ≤ length l.labels) × (length l.calls ≡ length l.initial.calls) × (l.calls ≡ take l.i (call_words l.kinds l.labels) ++ drop l.i l.initial.calls)
-
-abbrev pub decreases-loop-i : goal.decreases-loop-i
-decreases-loop-i l = length l.labels - l.i
+invariant-loop-i l = l.calls ≡ take l.i (call_words l.kinds l.labels) ++ drop l.i l.initial.calls

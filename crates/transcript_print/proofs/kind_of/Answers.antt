@@ -1,15 +1,22 @@
--- `transcript_print::kind_of` meets its contract.
-use Rattle.transcript_print.proofs.LabelLaws.{kind-none, kind-grant, kind-finish, kind-other}
+-- `transcript_print::kind_of` meets its contract: by the first byte, or 0 where there is none.
+use mathlib.Core.Path.{◌≡◌, ◌∙◌}
+use native.Mathlib.Omega.{arith}
+use lib.ListN.{get_or}
+use borrow.Author.Rules.{rules}
+use Rattle.transcript_print.proofs.LabelLaws.{kind-letter, kind-other}
 use Rattle.transcript_print.proofs.kind_of.Goals as goal
 
-pub returns-then-arg-eq0 : goal.returns-then-arg-eq0
-returns-then-arg-eq0 c = kind-none c.args.arg.now c.if-arg-eq0.true
+pub returns-in-103 : goal.returns-in-103
+returns-in-103 c =
+    let e : c.unwrap_or-letter.result ≡ get_or c.args.arg.now 0 0 = search rules in
+    e ∙ kind-letter c.args.arg.now (omega arith) (omega arith)
 
-pub returns-then-b-eq103 : goal.returns-then-b-eq103
-returns-then-b-eq103 c = kind-grant c.args.arg.now c.if-b-eq103.true
+pub returns-in_default : goal.returns-in_default
+returns-in_default c =
+    let e : c.unwrap_or-letter.result ≡ get_or c.args.arg.now 0 0 = search rules in
+    kind-other c.args.arg.now (λ z. omega arith) (λ z. omega arith)
 
-pub returns-then-b-eq102 : goal.returns-then-b-eq102
-returns-then-b-eq102 c = kind-finish c.args.arg.now c.if-b-eq102.true
-
-pub returns : goal.returns
-returns c = kind-other c.args.arg.now c.if-b-eq103.false c.if-b-eq102.false
+pub returns-in_default-2 : goal.returns-in_default-2
+returns-in_default-2 c =
+    let e : c.unwrap_or-letter.result ≡ get_or c.args.arg.now 0 0 = search rules in
+    kind-other c.args.arg.now (λ z. omega arith) (λ z. omega arith)

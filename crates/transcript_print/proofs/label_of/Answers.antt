@@ -15,7 +15,7 @@ slice_bounds-value_of-count c = let k = c.kind_of in omega (arith, kind-long c.a
 pub slice_bounds-value_of-start : goal.slice_bounds-value_of-start
 slice_bounds-value_of-start c = let k = c.kind_of in omega (arith, kind-long c.args.arg.now (λ z. c.if-kind_of-eq114.false (k.ensures ∙ z)))
 
-pub returns : goal.returns
-returns c =
+pub returns-else-kind_of-eq114 : goal.returns-else-kind_of-eq114
+returns-else-kind_of-eq114 c =
     let k = c.kind_of in
-    c.value_of-2.ensures ∙ label-apart c.args.arg.now (λ z. c.if-kind_of-eq114.false (k.ensures ∙ z))
+    c.value_of-else-kind_of-eq114.ensures ∙ label-apart c.args.arg.now (λ z. c.if-kind_of-eq114.false (k.ensures ∙ z))

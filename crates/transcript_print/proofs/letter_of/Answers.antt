@@ -1,17 +1,18 @@
 -- `transcript_print::letter_of` meets its contract.
 use mathlib.Core.Path.{refl}
+use native.Mathlib.Omega.{arith}
 use borrow.Author.Tests.{lt-ltb, le-ltb}
 use Rattle.transcript.specs.Transcript.{letter_of}
 use Rattle.transcript_print.proofs.letter_of.Goals as goal
 
-pub returns-then-word-lt256 : goal.returns-then-word-lt256
+pub returns-in-0-to-255 : goal.returns-in-0-to-255
 unfolding letter_of
-returns-then-word-lt256 c = rw (lt-ltb c.args.word 256 c.if-word-lt256.true) refl
+returns-in-0-to-255 c = rw (lt-ltb c.args.word 256 (omega arith)) refl
 
-pub returns-then-word-lt512 : goal.returns-then-word-lt512
+pub returns-in-256-to-511 : goal.returns-in-256-to-511
 unfolding letter_of
-returns-then-word-lt512 c = let a = c.args in rw (le-ltb a.word 256 c.if-word-lt256.false, lt-ltb a.word 512 c.if-word-lt512.true) refl
+returns-in-256-to-511 c = let a = c.args in rw (le-ltb a.word 256 (omega arith), lt-ltb a.word 512 (omega arith)) refl
 
-pub returns : goal.returns
+pub returns-in_default : goal.returns-in_default
 unfolding letter_of
-returns c = let a = c.args in rw (le-ltb a.word 256 c.if-word-lt256.false, le-ltb a.word 512 c.if-word-lt512.false) refl
+returns-in_default c = let a = c.args in rw (le-ltb a.word 256 (omega arith), le-ltb a.word 512 (omega arith)) refl

@@ -14,6 +14,6 @@ returns-then-number-eq0 c = (
   omega arith,
 )
 
-pub returns : goal.returns
+pub returns-else-number-eq0 : goal.returns-else-number-eq0
 unfolding printed_answer rest_of
-returns c = (rw (ne_eqb _ 0 c.if-number-eq0.false) (puts_then c.put_word-a.ensures c.put_last-2.ensures.0), omega arith)
+returns-else-number-eq0 c = (rw (ne_eqb _ 0 c.if-number-eq0.false) (puts_then c.put_word-a.ensures c.put_last-else-number-eq0.ensures.0), omega arith)

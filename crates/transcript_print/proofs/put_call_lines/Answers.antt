@@ -8,16 +8,15 @@ use Rattle.transcript_print.proofs.put_call_lines.Goals as goal
 
 pub loop-i-init : goal.loop-i-init
 unfolding call_lines
-loop-i-init c = (omega arith, (puts_none _ _ _ (omega arith), omega arith))
+loop-i-init c = (puts_none _ _ _ (omega arith), omega arith)
 
 pub loop-i-preserved : goal.loop-i-preserved
 unfolding call_lines
 loop-i-preserved c =
-    let l = c in
-    let a = l.args in
-    (omega arith, (puts-next (λ i. call_lines i a.labels.now a.answers.now) l.loop-i.i l.loop-i.invariant.1.0 c.put_call_line-to.ensures.0 refl, omega arith))
+    let a = c.args in
+    (puts-next (λ i. call_lines i a.labels.now a.answers.now) c.loop-i.i c.loop-i.invariant.0 c.put_call_line-to.ensures.0 refl, omega arith)
 
 pub returns : goal.returns
 returns c =
     let e : c.loop-i.i ≡ length c.args.labels.now = omega arith in
-    (rw e at c.loop-i.invariant.1.0, omega arith)
+    (rw e at c.loop-i.invariant.0, omega arith)

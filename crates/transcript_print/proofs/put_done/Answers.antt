@@ -8,6 +8,6 @@ pub returns-then-word-lt512 : goal.returns-then-word-lt512
 unfolding done_word
 returns-then-word-lt512 c = (rw (lt-ltb _ 512 c.if-word-lt512.true) c.put_word.ensures, omega arith)
 
-pub returns : goal.returns
+pub returns-else-word-lt512 : goal.returns-else-word-lt512
 unfolding done_word
-returns c = (rw (le-ltb _ 512 c.if-word-lt512.false) c.put_word-2.ensures, omega arith)
+returns-else-word-lt512 c = (rw (le-ltb _ 512 c.if-word-lt512.false) c.put_word-else-word-lt512.ensures, omega arith)

@@ -7,4 +7,4 @@ use Rattle.transcript_print.proofs.put_l_line.Goals as goal
 
 pub returns : goal.returns
 unfolding l_line rest_of
-returns c = (puts_then c.put_byte-a.ensures (puts_then (rw c.long_byte-event.ensures at c.put_number-b.ensures.0) c.put_cycle.ensures.0), omega arith)
+returns c = (puts_then c.put_byte-a.ensures (puts_then (rw c.from.ensures at c.put_number-b.ensures.0) c.put_cycle.ensures.0), omega arith)

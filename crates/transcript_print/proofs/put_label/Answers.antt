@@ -8,6 +8,6 @@ pub returns-then-label-eq-NO_NUMBER : goal.returns-then-label-eq-NO_NUMBER
 unfolding label_word
 returns-then-label-eq-NO_NUMBER c = (rw (eq-eqb _ 18446744073709551615 c.if-label-eq-NO_NUMBER.true) c.put_word.ensures, omega arith)
 
-pub returns : goal.returns
+pub returns-else-label-eq-NO_NUMBER : goal.returns-else-label-eq-NO_NUMBER
 unfolding label_word
-returns c = (rw (ne_eqb _ 18446744073709551615 c.if-label-eq-NO_NUMBER.false) c.put_number.ensures.0, omega arith)
+returns-else-label-eq-NO_NUMBER c = (rw (ne_eqb _ 18446744073709551615 c.if-label-eq-NO_NUMBER.false) c.put_number.ensures.0, omega arith)

@@ -6,5 +6,5 @@ use Rattle.transcript_print.proofs.thread_of.Goals as goal
 pub returns-then-label-lt255 : goal.returns-then-label-lt255
 returns-then-label-lt255 c = thread_of-small _ (omega arith)
 
-pub returns : goal.returns
-returns c = thread_of-large _ (omega arith)
+pub returns-else-label-lt255 : goal.returns-else-label-lt255
+returns-else-label-lt255 c = thread_of-large _ (omega arith)

@@ -1,41 +1,45 @@
 -- `transcript_print::value_of` meets its contract. The invariant: the rest of the argument, with the number so far, says what the whole says.
+use mathlib.Core.Path.{sym, ◌∙◌}
+use mathlib.Core.Logic.{⊎_elim}
 use native.Mathlib.Omega.{arith}
+use borrow.Author.Tests.{eqb-true, eqb-false}
 use Rattle.transcript_print.proofs.LabelLaws.{left-none, left-more, left_below, left-above, left-fits, value-empty, value-long, value-whole}
 use Rattle.transcript_print.proofs.value_of.Goals as goal
+use Rattle.transcript_print.proofs.value_of.Goals.{then-is_empty-via-then-is_empty, then-is_empty-via-else-is_empty+then-arg-gt19}
 
-pub returns-then-arg-eq0 : goal.returns-then-arg-eq0
-returns-then-arg-eq0 c = value-empty c.args.arg.now c.if-arg-eq0.true
+pub returns-then-is_empty : goal.returns-then-is_empty
+returns-then-is_empty c =
+    elim c.then-is_empty.branch [
+      | then-is_empty-via-then-is_empty w ↦ value-empty c.args.arg.now (eqb-true _ _ (sym c.is_empty.ensures ∙ w.if-is_empty.true))
+      | then-is_empty-via-else-is_empty+then-arg-gt19 w ↦ value-long c.args.arg.now w.if-arg-gt19.true
+    ]
 
-pub returns-then-arg-gt19 : goal.returns-then-arg-gt19
-returns-then-arg-gt19 c = value-long c.args.arg.now c.if-arg-gt19.true
+pub loop-b-init : goal.loop-b-init
+loop-b-init c = left-none _
 
-pub loop-i-init : goal.loop-i-init
-loop-i-init c = (omega arith, left-none _)
-
-pub returns-then-b-lt48 : goal.returns-then-b-lt48
-returns-then-b-lt48 c =
-    let l = c.loop-i in
-    left_below c.args.arg.now l.i l.x (omega arith) l.invariant.1 c.if-b-lt48.true
-
-pub returns-then-b-gt57 : goal.returns-then-b-gt57
-returns-then-b-gt57 c =
-    let l = c.loop-i in
-    left-above c.args.arg.now l.i l.x (omega arith) l.invariant.1 c.if-b-gt57.true
+pub returns-then-not-is_ascii_digit : goal.returns-then-not-is_ascii_digit
+returns-then-not-is_ascii_digit c =
+    let l = c.loop-b in
+    ⊎_elim
+    (λ a. left_below c.args.arg.now l.b-index l.x c.loop-b-test.true l.invariant a)
+    (λ a. left-above c.args.arg.now l.b-index l.x c.loop-b-test.true l.invariant a)
+    c.if-not-is_ascii_digit.ensures.cases
 
 pub overflow_mul-x : goal.overflow_mul-x
 overflow_mul-x c =
-    let l = c.loop-i in
-    omega (arith, left-fits c.args.arg.now l.i l.x (omega arith) l.invariant.1)
+    let l = c.loop-b in
+    omega (arith, left-fits c.args.arg.now l.b-index l.x (omega arith) l.invariant)
 
 pub overflow_add-x : goal.overflow_add-x
 overflow_add-x c =
-    let l = c.loop-i in
-    omega (arith, left-fits c.args.arg.now l.i l.x (omega arith) l.invariant.1)
+    let l = c.loop-b in
+    omega (arith, left-fits c.args.arg.now l.b-index l.x (omega arith) l.invariant)
 
-pub loop-i-preserved : goal.loop-i-preserved
-loop-i-preserved c =
-    let l = c.loop-i in
-    (omega arith, rw c.long_byte.ensures (left-more c.args.arg.now l.i l.x (omega arith) l.invariant.1 c.if-b-lt48.false c.if-b-gt57.false))
+pub loop-b-preserved : goal.loop-b-preserved
+loop-b-preserved c =
+    let l = c.loop-b in
+    rw c.from.ensures (left-more c.args.arg.now l.b-index l.x c.loop-b-test.true l.invariant (omega (arith, c.if-not-is_ascii_digit.ensures.cases)) (omega (arith, c.if-not-is_ascii_digit.ensures.cases)))
 
 pub returns : goal.returns
-returns c = value-whole c.args.arg.now c.loop-i.i c.loop-i.x (omega arith) (omega arith) (omega arith) c.loop-i.invariant.1
+returns c =
+    value-whole c.args.arg.now c.loop-b.b-index c.loop-b.x (omega (arith, eqb-false _ _ (sym c.is_empty.ensures ∙ c.if-is_empty.false))) c.if-arg-gt19.false c.loop-b-test.false c.loop-b.invariant
