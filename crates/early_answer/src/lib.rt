@@ -270,6 +270,7 @@ fn store_written(g: Segment, v: Variables, w: Variables) -> Variables
 }
 
 // The values that a call's segment reads: those held at a finish, else the variables.
+// Here and below `finishes` stays a truth value: the call tells it, and a closure for each way would carry `held` along, which is no plainer.
 fn values_for(finishes: bool, v: Variables, held: &[u32], k: u8) -> Variables
     requires { finishes ≡ true → 64 * k + 64 ≤ length held.now }
     ensures { result.at ≡ cond finishes (held_at held.now k) v.at }
