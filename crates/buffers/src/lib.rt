@@ -35,31 +35,6 @@ pub fn written_length(w: Written) -> usize
     }
 }
 
-// Numbers in wider words, and the lesser of two.
-pub fn wide(x: u8) -> usize
-    ensures { (result ≡ x) × (result < 256) }
-{
-    usize::from(x)
-}
-
-pub fn long_byte(x: u8) -> u64
-    ensures { result ≡ x }
-{
-    u64::from(x)
-}
-
-pub fn long_word(x: u32) -> u64
-    ensures { result ≡ x }
-{
-    u64::from(x)
-}
-
-pub fn least(a: usize, b: usize) -> usize
-    ensures { result ≡ min a b }
-{
-    a.min(b)
-}
-
 // A word of 64 bits, and one of 32; 0 past the end.
 pub fn word_at(words: &[u64], i: usize) -> u64
     ensures { result ≡ get_or words.now i 0 }

@@ -19,13 +19,6 @@ const UNIT: u64 = 65536;
 // From here on a limit stands for never in a sum.
 const TOP: u64 = 4611686018427387904;
 
-// x, or k where that is less.
-pub fn at_most(k: usize, x: u8) -> usize
-    ensures { (result ≡ at_most k x) × (result ≤ k) }
-{
-    usize::from(x).min(k)
-}
-
 // A cycle as a limit.
 pub fn limit_of(c: Cycle) -> u64
     ensures { result ≡ limit_of_cycle c }
@@ -46,12 +39,6 @@ pub fn limit_of_word(w: u64) -> u64
         return NEVER;
     }
     t * UNIT + w % 1024
-}
-
-pub fn lesser_of(a: u64, b: u64) -> u64
-    ensures { result ≡ lesser a b }
-{
-    a.min(b)
 }
 
 // Document 01: "a distance is added as the clock says": a time wait starts the delta anew.

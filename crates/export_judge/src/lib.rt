@@ -14,12 +14,6 @@ ghost use Rattle.export_model.specs.Judged.{closer_numbers_fault, op_numbers_fau
 use model::LARGEST_TIME;
 use refusal::Refusal;
 
-pub fn size_of(x: u32) -> usize
-    ensures { (result ≡ x) × (result ≤ 4294967295) }
-{
-    x as usize
-}
-
 // A variable of the model, or a port.
 fn is_name(v: u32, x: u32) -> bool
     ensures { result ≡ is_name v x }

@@ -58,12 +58,6 @@ pub struct Counts {
     pub named: bool,
 }
 
-pub fn size_of(x: u32) -> usize
-    ensures { result ≡ x }
-{
-    x as usize
-}
-
 // Whether a record's head and its length are there. No length that is there is below the head's.
 #[tactic(auto, unfolding(crate::specs::Parts::is_whole))]
 fn is_whole(b: &[u8]) -> bool

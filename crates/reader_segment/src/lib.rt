@@ -13,13 +13,6 @@ use clock::Delay;
 use model::{Closer, Next, Op, Segment, Statement};
 use refusal::Refusal;
 
-// A byte as a longer word.
-pub fn wide(x: u8) -> u32
-    ensures { (result ≡ x) × (result < 256) }
-{
-    u32::from(x)
-}
-
 // Document 01: "Little-endian." The bytes are there.
 fn word_within(s: &[u8], at: usize) -> u32
     requires { at + 2 ≤ length s.now }
