@@ -6,15 +6,13 @@ ghost use Rattle.io.specs.Counts.{IsPrefixLen};
 
 use std::io::{Read, Result};
 
-// No part is so long: what the length is where the file has ended.
-const ENDED: usize = 65536;
-
 // Reads until the buffer is full or the file has ended, and answers how many bytes came to its front. Here and below the one error is the
 // reader's own; what came before it may stand in the buffer, which keeps its length.
 fn read_full<R: Read>(file: &mut R, buffer: &mut [u8]) -> Result<usize>
     ensures ok { IfOk result (λ n. IsPrefixLen n buffer.new) }
     ensures kept { length buffer.new ≡ length buffer.old }
 {
+    // A while: each turn goes on by as many bytes as the reader gave.
     let mut done = 0;
     while done < buffer.len() {
         let n = file.read(&mut buffer[done..])?;
@@ -26,13 +24,13 @@ fn read_full<R: Read>(file: &mut R, buffer: &mut [u8]) -> Result<usize>
     Ok(done)
 }
 
-// The two bytes of a length, or of a count.
-pub fn read_length<R: Read>(file: &mut R) -> Result<usize> {
+// The two bytes of a length, or of a count; none where the file has ended.
+pub fn read_length<R: Read>(file: &mut R) -> Result<Option<usize>> {
     let mut head = [0u8; 2];
     if read_full(file, &mut head)? < 2 {
-        return Ok(ENDED);
+        return Ok(None);
     }
-    Ok(buffers::wide(head[0]) + buffers::wide(head[1]) * 256)
+    Ok(Some(usize::from(u16::from_le_bytes(head))))
 }
 
 // Reads n bytes to the front of the buffer, and answers how many came: none where there is no room for them.
@@ -51,21 +49,13 @@ pub fn next_part<R: Read>(file: &mut R, buffer: &mut [u8]) -> Result<usize>
     ensures ok { IfOk result (λ n. IsPrefixLen n buffer.new) }
     ensures kept { length buffer.new ≡ length buffer.old }
 {
-    let n = read_length(file)?;
-    read_part(file, buffer, n)
+    match read_length(file)? {
+        Some(n) => read_part(file, buffer, n),
+        None => Ok(0),
+    }
 }
 
 // Whether two rows of bytes are equal.
 pub fn are_equal(a: &[u8], b: &[u8]) -> bool {
-    if a.len() != b.len() {
-        return false;
-    }
-    let mut i = 0;
-    while i < a.len() {
-        if a[i] != b[i] {
-            return false;
-        }
-        i += 1;
-    }
-    true
+    a == b
 }

@@ -11,11 +11,11 @@ pub fn plain_sheet(file: &[u8], budget: u64, out: &mut [u8]) -> usize
     ensures writes { Writes out.old out.new result (printed budget file.now) }
     ensures file_len_bound { length (printed budget file.now) ≤ longest_sheet }
 {
-    let read = reader_file::read_file(file);
-    if read.number == 0 {
-        let m = read.model;
-        let run = plain_core::plain_run(m, budget);
-        return sheet_print::sheet(m.v, m.t, run, out);
+    match reader_file::read_file(file) {
+        Ok(m) => {
+            let run = plain_core::plain_run(m, budget);
+            sheet_print::sheet(m.v, m.t, run, out)
+        }
+        Err(r) => sheet_print::refusal(u8::from(r), out),
     }
-    sheet_print::refusal(read.number, out)
 }

@@ -20,17 +20,13 @@ fn read_calls<F: Read>(runs: &mut F, kinds: &mut [u8], labels: &mut [u64]) -> Re
     ensures kept { length kinds.new ≡ length kinds.old }
     ensures kept_labels { length labels.new ≡ length labels.old }
 {
-    let count = parts::read_length(runs)?;
+    let room = labels.len();
+    let n = parts::read_length(runs)?.unwrap_or(room).min(room);
     let mut text = [0u8; 21];
-    let mut n = 0;
-    while n < labels.len() {
-        if count <= n {
-            return Ok(n);
-        }
+    for i in 0..n {
         let k = parts::next_part(runs, &mut text)?;
-        kinds[n] = transcript_print::kind_of(&text[..k]);
-        labels[n] = transcript_print::label_of(&text[..k]);
-        n += 1;
+        kinds[i] = transcript_print::kind_of(&text[..k]);
+        labels[i] = transcript_print::label_of(&text[..k]);
     }
     Ok(n)
 }

@@ -15,6 +15,7 @@ ghost use Rattle.writer.specs.Back.{ReadsBack};
 use buffers::Written;
 use clock::Time;
 use model::{Model, Start};
+use refusal::Refusal;
 
 // Document 01: "head, length 10".
 fn put_head(out: &mut [u8], at: usize, horizon: Time, v: u8, e: u8) -> usize
@@ -141,13 +142,12 @@ pub fn write(m: Model, out: &mut [u8]) -> Written
     ensures saves { Saves out.old out.new result (model_fault m) (file_of m) }
     ensures back { ReadsBack m result out.new }
 {
-    let fault = model_rules::model_fault(m);
     let size = size_of(m);
-    if fault != 0 {
-        return Written::Refused(fault);
+    if let Err(fault) = model_rules::model_fault(m) {
+        return Written::Refused(u8::from(fault));
     }
     if out.len() < size {
-        return Written::Refused(16);
+        return Written::Refused(u8::from(Refusal::ShortTable));
     }
     Written::Length(put_file(m, out))
 }
