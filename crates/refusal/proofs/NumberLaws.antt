@@ -1,7 +1,12 @@
 -- No refusal has number 0, so an answer with a number is no success.
-use mathlib.Core.Path.{◌≡◌, refl}
+--     number_of-not_0, number_told-err, number_told-ok     the number of each case
+--     told-refused, told-held     by the test whether an answer is an error
+use mathlib.Core.Path.{◌≡◌, refl, sym, ◌∙◌}
 use native.Mathlib.Omega.{arith}
-use Rattle.std.specs.Prelude.{Result, Ok, Err}
+use mathlib.Core.Bool.{true, false}
+use borrow.Author.Tests.{both_ways}
+use Rattle.std.specs.Prelude.{ℕ, Result, Ok, Err}
+use Rattle.std.specs.Result.{is_err}
 use Rattle.refusal.specs.declared.Refusal.{Refusal}
 use Rattle.refusal.specs.declared.Refusal.TheVariants.{ShortFile, WrongKind, WrongLength, WrongCount, WrongCloser, WrongStatement, WrongName, WrongTarget, ExtraBytes, WrongThread, Unfit, NotReady, PastHorizon, HazardStands, LogFull, ShortTable, WrongPort, LackedPort, OutOfTurn}
 use Rattle.refusal.specs.Number.{number_of, number_told}
@@ -33,3 +38,12 @@ number_told-err a r e = rw e refl
 
 pub number_told-ok : {A : Type 0} (a : Result A Refusal) (x : A) → a ≡ Ok x → number_told a ≡ 0
 number_told-ok a x e = rw e refl
+
+-- an answer that is an error has a number, and any other has none
+pub told-refused : {A : Type 0} (a : Result A Refusal) (n : ℕ) → number_told a ≡ n → is_err a ≡ true → n ≡ 0 → ⊥
+told-refused (Ok x) n e t z = both_ways false refl t
+told-refused (Err r) n e t z = number_of-not_0 r (e ∙ z)
+
+pub told-held : {A : Type 0} (a : Result A Refusal) (n : ℕ) → number_told a ≡ n → is_err a ≡ false → n ≡ 0
+told-held (Ok x) n e t = sym e
+told-held (Err r) n e t = absurd (both_ways true t refl)

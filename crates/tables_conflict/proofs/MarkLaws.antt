@@ -2,7 +2,7 @@
 use Prim.Native.Nat.{ℕ, ◌≤◌, ◌<◌}
 use mathlib.Core.Path.{◌≡◌, refl, ap, sym, ◌∙◌}
 use mathlib.Core.Logic.{inl, inr}
-use mathlib.Core.Bool.{Bool, true, false, ◌&&◌, ◌||◌}
+use mathlib.Core.Bool.{Bool, false, ◌&&◌, ◌||◌}
 use mathlib.Core.List.{List, []}
 use native.Mathlib.Omega.{arith}
 use native.Mathlib.Nat.{zero-add}
@@ -10,12 +10,7 @@ use native.Mathlib.Decide.{dec_lt, ℕ_discrete}
 use lib.Dec.{T}
 use lib.ListN.{length, get_or, replicate, length-replicate, get_or-replicate}
 use lib.Seq.{ext_get_or}
-use borrow.Author.Tests.{lt-ltb, le-ltb, both_ways}
-use Rattle.std.specs.Prelude.{Result, Ok, Err}
-use Rattle.std.specs.Result.{is_err}
-use Rattle.refusal.specs.declared.Refusal.{Refusal}
-use Rattle.refusal.specs.Number.{number_told}
-use Rattle.refusal.proofs.NumberLaws.{number_of-not_0}
+use borrow.Author.Tests.{lt-ltb, le-ltb}
 use Rattle.base.specs.Index.{any_below, tabulate}
 use Rattle.base.proofs.BoolLaws.{T-same, and→both}
 use Rattle.base.proofs.IndexLaws.{any_below-some, any_below-found, tabulate-at, tabulate-length, tabulate-is, store_to-none, store_to-length, store_to-other, store_to-at}
@@ -124,15 +119,6 @@ module _ (m : Model) (fit : model_fault m ≡ 0) (placed : Placed m m.n) where
 rows_to-none : (ms : List Masks) (n : ℕ) → no_marks ≡ rows_to ms n 0
 unfolding rows_to
 rows_to-none ms n = store_to-none _ 0 no_marks
-
--- an answer that is an error has a number, and any other has none
-pub told-refused : (a : Result (Unit {0}) Refusal) (n : ℕ) → number_told a ≡ n → is_err a ≡ true → n ≡ 0 → ⊥
-told-refused (Ok x) n e t z = both_ways false refl t
-told-refused (Err r) n e t z = number_of-not_0 r (e ∙ z)
-
-pub told-held : (a : Result (Unit {0}) Refusal) (n : ℕ) → number_told a ≡ n → is_err a ≡ false → n ≡ 0
-told-held (Ok x) n e t = sym e
-told-held (Err r) n e t = absurd (both_ways true t refl)
 
 -- for the code: n is N where the model keeps the file rules, else 0
 module _ (m : Model) (n : ℕ) (count : n ≡ if_held m m.n 0) where

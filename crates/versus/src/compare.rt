@@ -1,5 +1,6 @@
 // What both sides hold as words, against each other.
 use crate::print;
+use crate::print::Spot;
 use std::io::Result;
 
 fn word(words: &[u64], i: usize) -> u64 {
@@ -11,14 +12,11 @@ fn differs_at(a: &[u64], b: &[u64], n: usize) -> Option<usize> {
     (0..n).find(|i| word(a, *i) != word(b, *i))
 }
 
-// The first n words of the library's side and of the second; a difference is written and counted, with three numbers that say where.
-// Whether there is none.
-fn hold_words<R: Print>(
+// The first n words of the library's side and of the second; a difference is written and counted. Whether there is none.
+pub fn hold<R: Print>(
     rt: &R,
     totals: &mut [u64; 24],
-    x: u64,
-    y: u64,
-    z: u64,
+    spot: Spot,
     a: &[u64],
     b: &[u64],
     n: usize,
@@ -27,35 +25,8 @@ fn hold_words<R: Print>(
         return Ok(true);
     };
     crate::add(totals, crate::DIFFERENCES, 1);
-    print::difference(rt, x, y, z, i as u64, word(a, i), word(b, i))?;
+    print::difference(rt, spot, i as u64, word(a, i), word(b, i))?;
     Ok(false)
-}
-
-pub fn hold<R: Print>(
-    rt: &R,
-    totals: &mut [u64; 24],
-    x: u64,
-    y: u64,
-    z: u64,
-    a: &[u64; 640],
-    b: &[u64; 640],
-    n: usize,
-) -> Result<bool> {
-    hold_words(rt, totals, x, y, z, a, b, n)
-}
-
-// Two lists of answers, so many words of them.
-pub fn hold_answers<R: Print>(
-    rt: &R,
-    totals: &mut [u64; 24],
-    x: u64,
-    y: u64,
-    z: u64,
-    a: &[u64; 20480],
-    b: &[u64; 20480],
-    n: usize,
-) -> Result<bool> {
-    hold_words(rt, totals, x, y, z, a, b, n)
 }
 
 // The first place where the library's held value is neither the second side's nor, as that, still its junk; with both.
@@ -78,9 +49,7 @@ fn differs_in(
 pub fn hold_kept<R: Print>(
     rt: &R,
     totals: &mut [u64; 24],
-    x: u64,
-    y: u64,
-    z: u64,
+    spot: Spot,
     values: &[u32; 2048],
     junk: u64,
     kept: &[u64; 2048],
@@ -88,7 +57,7 @@ pub fn hold_kept<R: Print>(
 ) -> Result<()> {
     if let Some((i, a, b)) = differs_in(values, junk, kept, other) {
         crate::add(totals, crate::DIFFERENCES, 1);
-        print::difference(rt, x, y, z, i.wrapping_add(1000), a, b)?;
+        print::difference(rt, spot, i.wrapping_add(1000), a, b)?;
     }
     Ok(())
 }
@@ -97,15 +66,13 @@ pub fn hold_kept<R: Print>(
 pub fn hold_number<R: Print>(
     rt: &R,
     totals: &mut [u64; 24],
-    x: u64,
-    y: u64,
-    z: u64,
+    spot: Spot,
     a: u64,
     b: u64,
 ) -> Result<()> {
     if a != b {
         crate::add(totals, crate::DIFFERENCES, 1);
-        print::difference(rt, x, y, z, 611, a, b)?;
+        print::difference(rt, spot, 611, a, b)?;
     }
     Ok(())
 }

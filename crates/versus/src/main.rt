@@ -8,6 +8,7 @@ mod library;
 mod orders;
 mod print;
 
+use crate::print::Spot;
 use second::number::at;
 use second::{draw, layout, number, simulator};
 use std::io::{Read, Result};
@@ -66,9 +67,13 @@ fn hold<R: Print>(
     count(totals, &desk);
     let mut held = [0u64; 640];
     library::run(library::model_in(file), budget, &mut held);
-    let h = simulator::field(file, 4, 0, 4);
+    let spot = Spot {
+        seed,
+        list: simulator::field(file, 4, 0, 4),
+        call: budget,
+    };
     let words = layout::words_of(&desk);
-    compare::hold(rt, totals, seed, h, budget, &held, &words, layout::ALL)?;
+    compare::hold(rt, totals, spot, &held, &words, layout::ALL)?;
     Ok(())
 }
 
@@ -155,7 +160,12 @@ fn refuse<R: Print>(
     library::run(x, 300, &mut held);
     let mut refused = [0u64; 640];
     refused[layout::ANSWER] = 11;
-    if compare::hold(rt, totals, seed, 0, 300, &held, &refused, layout::ALL)? {
+    let spot = Spot {
+        seed,
+        list: 0,
+        call: 300,
+    };
+    if compare::hold(rt, totals, spot, &held, &refused, layout::ALL)? {
         add(totals, REFUSALS, 1);
     }
     Ok(())

@@ -1,6 +1,9 @@
 // Lists of calls through the scheduler and through the second scheduler, each answer and each state compared, and the claim of document 02,
 // slip 7, at the end. Lists 0 to 2 start fresh, lists 3 to 5 at a drawn state; `second::calls` draws them.
+use crate::library::Tables;
+use crate::print::Spot;
 use crate::{compare, library};
+use second::calls::Turn;
 use second::graph::Graph;
 use second::issue::{How, Reply};
 use second::number::at;
@@ -53,6 +56,22 @@ struct List {
     last: Option<u64>,
     goes_on: bool,
     told: [u64; 32],
+}
+
+// A list on both sides: the second side's desk and what is held beside it, the library's state as words and its held values.
+#[derive(Drop)]
+struct Sides {
+    desk: [u64; 640],
+    kept: [u64; 2048],
+    held: [u64; 640],
+    values: [u32; 2048],
+}
+
+// The calls that were made, and the second scheduler's answers, five words each.
+#[derive(Drop)]
+struct Calls {
+    words: [u16; 4096],
+    answers: [u64; 20480],
 }
 
 // Which call a word is, and of which thread; one of no call is a finish of thread 255.
@@ -110,42 +129,44 @@ fn count_done(totals: &mut [u64; 24], how: How, key: u64, floor: u64) {
     }
 }
 
-// What each thread has run, with one more segment if the call is not a finish.
-fn told_by(told: [u64; 32], word: u64, r: Reply) -> [u64; 32] {
-    let mut next = told;
-    if how_of(word) != How::Finish {
-        let k = (word % 32) as usize;
-        let key = r.time % 4294967296 * 1024 + r.delta % 1024;
-        next[k] = simulator::told(next[k], r.segment, key);
-    }
-    next
-}
-
-// One more call made, of a turn's word, with the library's answer.
-fn after(l: List, word: u64, stamp: Option<u64>, r: Reply, same: bool) -> List {
-    let mut next = l;
-    next.made = l.made.wrapping_add(1);
-    next.goes_on = same;
-    next.last = stamp;
-    if r.number == 0 {
-        next.last = None;
-        next.done = l.done.wrapping_add(1);
-        next.told = told_by(l.told, word, r);
-        if how_of(word) != How::Finish {
-            next.ran = l.ran.wrapping_add(1);
+impl List {
+    fn spot(&self) -> Spot {
+        Spot {
+            seed: self.seed,
+            list: self.number,
+            call: self.made,
         }
     }
-    next
+
+    // One more call made, with the library's answer.
+    fn note(&mut self, call: Turn, r: Reply, same: bool) {
+        self.made = self.made.wrapping_add(1);
+        self.goes_on = same;
+        self.last = call.stamp;
+        if r.number == 0 {
+            self.last = None;
+            self.done = self.done.wrapping_add(1);
+            if how_of(call.word) != How::Finish {
+                self.ran = self.ran.wrapping_add(1);
+                let told = &mut self.told[(call.word % 32) as usize];
+                let key = r.time % 4294967296 * 1024 + r.delta % 1024;
+                *told = simulator::told(*told, r.segment, key);
+            }
+        }
+    }
 }
 
-// The second scheduler's answer to call n, five words.
-fn note(answers: &mut [u64; 20480], n: u64, word: u64, r: Reply) {
-    let k = (n % 4096 * 5) as usize;
-    answers[k] = word;
-    answers[k + 1] = r.number;
-    answers[k + 2] = r.segment;
-    answers[k + 3] = r.time;
-    answers[k + 4] = r.delta;
+impl Calls {
+    // Call n and the second scheduler's answer.
+    fn note(&mut self, n: u64, word: u64, r: Reply) {
+        let n = (n % 4096) as usize;
+        self.words[n] = (word % 65536) as u16;
+        self.answers[5 * n] = word;
+        self.answers[5 * n + 1] = r.number;
+        self.answers[5 * n + 2] = r.segment;
+        self.answers[5 * n + 3] = r.time;
+        self.answers[5 * n + 4] = r.delta;
+    }
 }
 
 // A call in the second scheduler.
@@ -153,22 +174,21 @@ fn issue_next(
     totals: &mut [u64; 24],
     file: &[u8],
     graph: &Graph,
-    desk: &mut [u64; 640],
-    kept: &mut [u64; 2048],
+    sides: &mut Sides,
     word: u64,
 ) -> Reply {
-    let floor = issue::floor(desk);
+    let floor = issue::floor(&sides.desk);
     let how = how_of(word);
     let k = thread_of(word);
-    let key = key_of(at(desk, simulator::RECORDS, k));
-    let r = issue::call(file, graph, desk, kept, how, k);
+    let key = key_of(at(&sides.desk, simulator::RECORDS, k));
+    let r = issue::call(file, graph, &mut sides.desk, &mut sides.kept, how, k);
     crate::add(totals, CALLS, 1);
     if r.number == 0 {
         count_done(totals, how, key, floor);
     } else {
-        count_refusal(totals, graph, desk, k, r.number, floor);
+        count_refusal(totals, graph, &sides.desk, k, r.number, floor);
     }
-    count_running(totals, desk);
+    count_running(totals, &sides.desk);
     crate::add(totals, OVERRUNS, r.overruns);
     r
 }
@@ -187,55 +207,39 @@ fn lent(t: u64, n: u64) -> usize {
 fn hold_turn<R: Print>(
     rt: &R,
     totals: &mut [u64; 24],
-    l: List,
-    desk: &[u64; 640],
-    held: &[u64; 640],
+    spot: Spot,
+    sides: &Sides,
     a: Reply,
     b: Reply,
 ) -> Result<bool> {
-    let mut first = *held;
+    let mut first = sides.held;
     layout::put_reply(&mut first, a);
-    let mut other = layout::words_of(desk);
+    let mut other = layout::words_of(&sides.desk);
     layout::put_reply(&mut other, b);
-    compare::hold(
-        rt,
-        totals,
-        l.seed,
-        l.number,
-        l.made,
-        &first,
-        &other,
-        layout::ALL,
-    )
+    compare::hold(rt, totals, spot, &first, &other, layout::ALL)
 }
 
 // The next call in both.
 fn turn<R: Print>(
     rt: &R,
     totals: &mut [u64; 24],
-    list: &mut [u16; 4096],
-    answers: &mut [u64; 20480],
-    file: &[u8],
-    words: &[u64; 4096],
+    calls: &mut Calls,
+    tables: Tables,
     graph: &Graph,
-    desk: &mut [u64; 640],
-    kept: &mut [u64; 2048],
-    held: &mut [u64; 640],
-    values: &mut [u32; 2048],
-    l: List,
-) -> Result<List> {
-    let Some(now) = calls::next(desk, l.seed, l.number, l.made, l.last) else {
-        let mut end = l;
-        end.goes_on = false;
-        return Ok(end);
+    sides: &mut Sides,
+    l: &mut List,
+) -> Result<()> {
+    let Some(now) = calls::next(&sides.desk, l.seed, l.number, l.made, l.last) else {
+        l.goes_on = false;
+        return Ok(());
     };
-    let t = at(desk, simulator::THREADS, 0);
-    let b = issue_next(totals, file, graph, desk, kept, now.word);
-    let a = library::ask(file, words, held, values, now.word, lent(t, l.made));
-    list[(l.made % 4096) as usize] = (now.word % 65536) as u16;
-    note(answers, l.made, now.word, b);
-    let same = hold_turn(rt, totals, l, desk, held, a, b)?;
-    Ok(after(l, now.word, now.stamp, a, same))
+    let lent = lent(at(&sides.desk, simulator::THREADS, 0), l.made);
+    let b = issue_next(totals, tables.file, graph, sides, now.word);
+    let a = library::ask(tables, &mut sides.held, &mut sides.values, now.word, lent);
+    calls.note(l.made, now.word, b);
+    let same = hold_turn(rt, totals, l.spot(), sides, a, b)?;
+    l.note(now, a, same);
+    Ok(())
 }
 
 // Some lists are long enough for delta 1,023.
@@ -250,27 +254,18 @@ fn length(seed: u64, list: u64) -> u64 {
 fn one_by_one<R: Print>(
     rt: &R,
     totals: &mut [u64; 24],
-    list: &mut [u16; 4096],
-    answers: &mut [u64; 20480],
-    file: &[u8],
-    words: &[u64; 4096],
+    calls: &mut Calls,
+    tables: Tables,
     graph: &Graph,
-    desk: &mut [u64; 640],
-    kept: &mut [u64; 2048],
-    held: &mut [u64; 640],
-    values: &mut [u32; 2048],
-    l: List,
-) -> Result<List> {
-    let mut now = l;
+    sides: &mut Sides,
+    l: &mut List,
+) -> Result<()> {
     for _ in 0..length(l.seed, l.number) {
-        if !now.goes_on {
-            break;
+        if l.goes_on {
+            turn(rt, totals, calls, tables, graph, sides, l)?;
         }
-        now = turn(
-            rt, totals, list, answers, file, words, graph, desk, kept, held, values, now,
-        )?;
     }
-    Ok(now)
+    Ok(())
 }
 
 // What a list in one call left: every answer again, how many were not refused, the state at its end, and what is held.
@@ -279,64 +274,58 @@ fn hold_whole<R: Print>(
     totals: &mut [u64; 24],
     answers: &[u64; 20480],
     out: &[u64; 20480],
-    desk: &[u64; 640],
+    sides: &Sides,
     held: &[u64; 640],
-    kept: &[u64; 2048],
     values: &[u32; 2048],
     junk: u64,
-    l: List,
+    l: &List,
 ) -> Result<()> {
-    let mut left = layout::words_of(desk);
+    let mut left = layout::words_of(&sides.desk);
     left[layout::RAN] = l.done;
-    compare::hold(
-        rt,
-        totals,
-        l.seed,
-        l.number,
-        l.made,
-        held,
-        &left,
-        layout::ALL,
-    )?;
+    let spot = l.spot();
+    compare::hold(rt, totals, spot, held, &left, layout::ALL)?;
     let n = (l.made % 4096 * 5) as usize;
-    compare::hold_answers(rt, totals, l.seed, l.number, l.made, out, answers, n + 5)?;
-    compare::hold_kept(
-        rt, totals, l.seed, l.number, l.made, values, junk, kept, JUNK,
-    )
+    compare::hold(rt, totals, spot, out, answers, n + 5)?;
+    compare::hold_kept(rt, totals, spot, values, junk, &sides.kept, JUNK)
 }
 
 // The same list in one call, from the state that it started at: with the table, and by rows.
 fn whole<R: Print>(
     rt: &R,
     totals: &mut [u64; 24],
-    list: &[u16; 4096],
-    answers: &[u64; 20480],
-    file: &[u8],
-    words: &[u64; 4096],
-    desk: &[u64; 640],
-    kept: &[u64; 2048],
+    calls: &Calls,
+    tables: Tables,
+    sides: &Sides,
     begun: &[u64; 640],
-    l: List,
+    l: &List,
 ) -> Result<()> {
-    let asked = number::first(list, l.made as usize);
+    let asked = number::first(&calls.words, l.made as usize);
+    let answers = &calls.answers;
     let mut out = [0u64; 20480];
     let mut held = layout::words_of(begun);
     let mut values = library::values_at(begun, l.seed, TABLE_JUNK);
-    library::ask_all(file, words, &mut held, &mut values, asked, &mut out);
+    library::ask_all(tables, &mut held, &mut values, asked, &mut out);
     hold_whole(
-        rt, totals, answers, &out, desk, &held, kept, &values, TABLE_JUNK, l,
+        rt, totals, answers, &out, sides, &held, &values, TABLE_JUNK, l,
     )?;
     let mut again = [0u64; 20480];
     let mut state = layout::words_of(begun);
     let mut other = library::values_at(begun, l.seed, ROWS_JUNK);
-    library::ask_all_by_rows(file, junk(l), &mut state, &mut other, asked, &mut again);
+    library::ask_all_by_rows(
+        tables.file,
+        junk(l),
+        &mut state,
+        &mut other,
+        asked,
+        &mut again,
+    );
     hold_whole(
-        rt, totals, answers, &again, desk, &state, kept, &other, ROWS_JUNK, l,
+        rt, totals, answers, &again, sides, &state, &other, ROWS_JUNK, l,
     )
 }
 
 // What the words of a row hold beforehand: nothing, all ones, or some distance.
-fn junk(l: List) -> u64 {
+fn junk(l: &List) -> u64 {
     match (l.seed / 3).wrapping_add(l.number) % 3 {
         0 => 0,
         1 => NEVER,
@@ -367,7 +356,7 @@ fn hold_ended<R: Print>(
     totals: &mut [u64; 24],
     file: &[u8],
     held: &[u64; 640],
-    l: List,
+    l: &List,
 ) -> Result<()> {
     let mut other = [0u64; 640];
     simulator::simulate(file, l.ran.wrapping_add(1), &mut other);
@@ -377,13 +366,13 @@ fn hold_ended<R: Print>(
     let mut plain = layout::words_of(&other);
     put_histories(&mut plain, &histories_on(&other));
     let n = layout::PLAIN + 33;
-    compare::hold(rt, totals, l.seed, l.number, l.made, &first, &plain, n)?;
+    compare::hold(rt, totals, l.spot(), &first, &plain, n)?;
     crate::add(totals, ENDED, 1);
     Ok(())
 }
 
 // The call that "is not refused", if there is one: a finish of a running thread, or the least stamp's request or grant.
-fn next_done(desk: &[u64; 640], l: List) -> Option<u64> {
+fn next_done(desk: &[u64; 640], l: &List) -> Option<u64> {
     if let Some(k) = calls::running_from(desk, l.seed % 32) {
         return Some(calls::word_of(How::Finish, k));
     }
@@ -394,20 +383,29 @@ fn next_done(desk: &[u64; 640], l: List) -> Option<u64> {
 fn hold_ending<R: Print>(
     rt: &R,
     totals: &mut [u64; 24],
-    file: &[u8],
-    words: &[u64; 4096],
-    desk: &[u64; 640],
-    held: &mut [u64; 640],
-    values: &mut [u32; 2048],
-    l: List,
+    tables: Tables,
+    sides: &mut Sides,
+    l: &List,
 ) -> Result<()> {
-    let Some(word) = next_done(desk, l) else {
-        return hold_ended(rt, totals, file, held, l);
+    let Some(word) = next_done(&sides.desk, l) else {
+        return hold_ended(rt, totals, tables.file, &sides.held, l);
     };
-    let r = library::ask(file, words, held, values, word, 40);
-    compare::hold_number(rt, totals, l.seed, l.number, l.made, r.number, 0)?;
+    let r = library::ask(tables, &mut sides.held, &mut sides.values, word, 40);
+    compare::hold_number(rt, totals, l.spot(), r.number, 0)?;
     crate::add(totals, WENT_ON, 1);
     Ok(())
+}
+
+// What both sides hold at the start of a list.
+fn begin(desk: [u64; 640], seed: u64) -> Sides {
+    let mut kept = [0u64; 2048];
+    start::hold(&desk, seed, JUNK, &mut kept);
+    Sides {
+        desk,
+        kept,
+        held: layout::words_of(&desk),
+        values: library::values_at(&desk, seed, JUNK),
+    }
 }
 
 fn hold_list<R: Print>(
@@ -415,20 +413,17 @@ fn hold_list<R: Print>(
     totals: &mut [u64; 24],
     seed: u64,
     number: u64,
-    file: &[u8],
-    words: &[u64; 4096],
+    tables: Tables,
     graph: &Graph,
 ) -> Result<()> {
-    let mut desk = [0u64; 640];
-    start::set_up(file, seed, number, &mut desk);
-    let begun = desk;
-    let mut kept = [0u64; 2048];
-    start::hold(&desk, seed, JUNK, &mut kept);
-    let mut held = layout::words_of(&desk);
-    let mut values = library::values_at(&desk, seed, JUNK);
-    let mut list = [0u16; 4096];
-    let mut answers = [0u64; 20480];
-    let start = List {
+    let mut begun = [0u64; 640];
+    start::set_up(tables.file, seed, number, &mut begun);
+    let mut sides = begin(begun, seed);
+    let mut calls = Calls {
+        words: [0; 4096],
+        answers: [0; 20480],
+    };
+    let mut l = List {
         seed,
         number,
         made: 0,
@@ -438,27 +433,12 @@ fn hold_list<R: Print>(
         goes_on: true,
         told: [0u64; 32],
     };
-    let l = one_by_one(
-        rt,
-        totals,
-        &mut list,
-        &mut answers,
-        file,
-        words,
-        graph,
-        &mut desk,
-        &mut kept,
-        &mut held,
-        &mut values,
-        start,
-    )?;
-    compare::hold_kept(rt, totals, seed, number, l.made, &values, JUNK, &kept, JUNK)?;
-    whole(
-        rt, totals, &list, &answers, file, words, &desk, &kept, &begun, l,
-    )?;
+    one_by_one(rt, totals, &mut calls, tables, graph, &mut sides, &mut l)?;
+    compare::hold_kept(rt, totals, l.spot(), &sides.values, JUNK, &sides.kept, JUNK)?;
+    whole(rt, totals, &calls, tables, &sides, &begun, &l)?;
     crate::add(totals, LISTS, 1);
     if number < 3 {
-        hold_ending(rt, totals, file, words, &desk, &mut held, &mut values, l)?;
+        hold_ending(rt, totals, tables, &mut sides, &l)?;
     }
     Ok(())
 }
@@ -501,6 +481,15 @@ fn spoil(held: &mut [u64; 640], way: u64, n: u64, e: u64, h: u64) {
     }
 }
 
+// Where states that are not fit stand.
+fn unfit(seed: u64) -> Spot {
+    Spot {
+        seed,
+        list: 6,
+        call: 0,
+    }
+}
+
 // 11, and all stays.
 fn hold_unmoved<R: Print>(
     rt: &R,
@@ -512,8 +501,9 @@ fn hold_unmoved<R: Print>(
 ) -> Result<()> {
     crate::add(totals, CALLS, 1);
     crate::add(totals, 8, 1);
-    compare::hold_number(rt, totals, seed, 6, 0, number, 11)?;
-    compare::hold(rt, totals, seed, 6, 0, held, same, layout::ALL)?;
+    let spot = unfit(seed);
+    compare::hold_number(rt, totals, spot, number, 11)?;
+    compare::hold(rt, totals, spot, held, same, layout::ALL)?;
     Ok(())
 }
 
@@ -522,14 +512,13 @@ fn refuse<R: Print>(
     rt: &R,
     totals: &mut [u64; 24],
     seed: u64,
-    file: &[u8],
-    words: &[u64; 4096],
+    tables: Tables,
     held: &mut [u64; 640],
     k: u64,
     lent: usize,
 ) -> Result<()> {
     let same = *held;
-    let r = library::request(file, words, held, k, lent);
+    let r = library::request(tables, held, k, lent);
     hold_unmoved(rt, totals, seed, r.number, &same, held)
 }
 
@@ -538,17 +527,16 @@ fn refuse_call<R: Print>(
     rt: &R,
     totals: &mut [u64; 24],
     seed: u64,
-    file: &[u8],
-    words: &[u64; 4096],
+    tables: Tables,
     held: &mut [u64; 640],
     word: u64,
     n: usize,
 ) -> Result<()> {
     let same = *held;
     let mut values = [7u32; 2048];
-    let r = library::call_with(file, words, held, &mut values, word, n);
+    let r = library::call_with(tables, held, &mut values, word, n);
     hold_unmoved(rt, totals, seed, r.number, &same, held)?;
-    compare::hold_kept(rt, totals, seed, 6, 0, &values, 7, &[7u64; 2048], 7)
+    compare::hold_kept(rt, totals, unfit(seed), &values, 7, &[7u64; 2048], 7)
 }
 
 // By rows: the answer of one request, and all stays.
@@ -561,10 +549,15 @@ fn hold_refused<R: Print>(
     answer: u64,
     number: u64,
 ) -> Result<()> {
-    compare::hold_number(rt, totals, seed, 7, 0, answer, number)?;
+    let spot = Spot {
+        seed,
+        list: 7,
+        call: 0,
+    };
+    compare::hold_number(rt, totals, spot, answer, number)?;
     left[layout::ANSWER] = held[layout::ANSWER];
     left[layout::RAN] = held[layout::RAN];
-    compare::hold(rt, totals, seed, 7, 0, left, held, layout::ALL)?;
+    compare::hold(rt, totals, spot, left, held, layout::ALL)?;
     Ok(())
 }
 
@@ -603,28 +596,26 @@ fn refuse_few<R: Print>(
 }
 
 // A state that is not fit; for some seeds one beside distances that are out of range.
-fn hold_unfit<R: Print>(
-    rt: &R,
-    totals: &mut [u64; 24],
-    seed: u64,
-    file: &[u8],
-    words: &[u64; 4096],
-) -> Result<()> {
+fn hold_unfit<R: Print>(rt: &R, totals: &mut [u64; 24], seed: u64, tables: Tables) -> Result<()> {
     let mut desk = [0u64; 640];
-    let k = calls::any_thread(seed, start::set_up(file, seed, 3, &mut desk));
+    let k = calls::any_thread(seed, start::set_up(tables.file, seed, 3, &mut desk));
     let mut held = layout::words_of(&desk);
     if seed % 4 == 0 {
         let far = [1024000001024u64; 4096];
-        refuse(rt, totals, seed, file, &far, &mut held, k, 40)?;
-        return Ok(());
+        let far = Tables {
+            file: tables.file,
+            words: &far,
+        };
+        return refuse(rt, totals, seed, far, &mut held, k, 40);
     }
     let n = at(&desk, simulator::SEGMENTS, 0);
-    let e = simulator::byte(file, 9, 0);
-    spoil(&mut held, seed / 4, n, e, simulator::field(file, 4, 0, 4));
-    refuse(rt, totals, seed, file, words, &mut held, k, 40)?;
+    let e = simulator::byte(tables.file, 9, 0);
+    let h = simulator::field(tables.file, 4, 0, 4);
+    spoil(&mut held, seed / 4, n, e, h);
+    refuse(rt, totals, seed, tables, &mut held, k, 40)?;
     let word = calls::word_of(calls::how_of(seed / 12), k);
-    refuse_call(rt, totals, seed, file, words, &mut held, word, 2048)?;
-    refuse_by_rows(rt, totals, seed, file, &held, word)
+    refuse_call(rt, totals, seed, tables, &mut held, word, 2048)?;
+    refuse_by_rows(rt, totals, seed, tables.file, &held, word)
 }
 
 // None, or one less.
@@ -636,15 +627,9 @@ fn less_by(n: usize, seed: u64) -> usize {
 }
 
 // The fresh state with no thread records lent, or one too few, and with held values too few.
-fn hold_short<R: Print>(
-    rt: &R,
-    totals: &mut [u64; 24],
-    seed: u64,
-    file: &[u8],
-    words: &[u64; 4096],
-) -> Result<()> {
+fn hold_short<R: Print>(rt: &R, totals: &mut [u64; 24], seed: u64, tables: Tables) -> Result<()> {
     let mut desk = [0u64; 640];
-    let t = start::set_up(file, seed, 0, &mut desk);
+    let t = start::set_up(tables.file, seed, 0, &mut desk);
     let mut held = layout::words_of(&desk);
     let few = if seed % 2 == 0 {
         0
@@ -652,19 +637,10 @@ fn hold_short<R: Print>(
         t.saturating_sub(1)
     };
     let k = calls::any_thread(seed, t);
-    refuse(rt, totals, seed, file, words, &mut held, k, few as usize)?;
+    refuse(rt, totals, seed, tables, &mut held, k, few as usize)?;
     let n = (64 * (t % 33)) as usize;
     let word = calls::word_of(calls::how_of(seed / 2), k);
-    refuse_call(
-        rt,
-        totals,
-        seed,
-        file,
-        words,
-        &mut held,
-        word,
-        less_by(n, seed),
-    )
+    refuse_call(rt, totals, seed, tables, &mut held, word, less_by(n, seed))
 }
 
 // The fresh state with 63 words lent, for a thread of the model or for none.
@@ -694,7 +670,12 @@ fn hold_fresh<R: Print>(
     let mut held = [0u64; 640];
     library::fresh(file, &mut held);
     let words = layout::words_of(desk);
-    compare::hold(rt, totals, seed, 0, 0, &held, &words, layout::ALL)?;
+    let spot = Spot {
+        seed,
+        list: 0,
+        call: 0,
+    };
+    compare::hold(rt, totals, spot, &held, &words, layout::ALL)?;
     Ok(())
 }
 
@@ -702,12 +683,11 @@ fn hold_all<R: Print>(
     rt: &R,
     totals: &mut [u64; 24],
     seed: u64,
-    file: &[u8],
-    words: &[u64; 4096],
+    tables: Tables,
     graph: &Graph,
 ) -> Result<()> {
     for list in 0..6 {
-        hold_list(rt, totals, seed, list, file, words, graph)?;
+        hold_list(rt, totals, seed, list, tables, graph)?;
     }
     crate::add(totals, MODELS, 1);
     Ok(())
@@ -728,9 +708,13 @@ pub fn hold_lists<R: Print>(
     graph::fill(file, &desk, &mut graph);
     let mut words = [0u64; 4096];
     library::fill_words(file, &mut words);
+    let tables = Tables {
+        file,
+        words: &words,
+    };
     hold_fresh(rt, totals, seed, file, &desk)?;
-    hold_unfit(rt, totals, seed, file, &words)?;
-    hold_short(rt, totals, seed, file, &words)?;
+    hold_unfit(rt, totals, seed, tables)?;
+    hold_short(rt, totals, seed, tables)?;
     hold_few(rt, totals, seed, file)?;
-    hold_all(rt, totals, seed, file, &words, &graph)
+    hold_all(rt, totals, seed, tables, &graph)
 }

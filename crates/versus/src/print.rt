@@ -10,24 +10,18 @@ fn spaced<R: Print>(rt: &R, x: u64) -> Result<()> {
     print!(rt; " {x}")
 }
 
-// Three numbers that say where; the word that differs first, the library's and the second side's.
-pub fn difference<R: Print>(
-    rt: &R,
-    x: u64,
-    y: u64,
-    z: u64,
-    place: u64,
-    first: u64,
-    second: u64,
-) -> Result<()> {
-    text(rt, b"difference:")?;
-    spaced(rt, x)?;
-    spaced(rt, y)?;
-    spaced(rt, z)?;
-    spaced(rt, place)?;
-    spaced(rt, first)?;
-    spaced(rt, second)?;
-    text(rt, b"\n")
+// Three numbers that say where: a seed, its list and the call, or a horizon and a budget.
+#[derive(Clone, Copy)]
+pub struct Spot {
+    pub seed: u64,
+    pub list: u64,
+    pub call: u64,
+}
+
+// The word that differs first, the library's and the second side's.
+pub fn difference<R: Print>(rt: &R, spot: Spot, place: u64, first: u64, second: u64) -> Result<()> {
+    let Spot { seed, list, call } = spot;
+    println!(rt; "difference: {seed} {list} {call} {place} {first} {second}")
 }
 
 // So many counts, and the last: differences.

@@ -1,7 +1,7 @@
 -- `early_request::fresh` meets its contract.
 use mathlib.Core.Path.{sym, ◌∙◌}
 use Rattle.model_rules.proofs.RuleLaws.{model_fault-counts}
-use Rattle.tables_distance.proofs.RefusalLaws.{told-refused, told-held}
+use Rattle.refusal.proofs.NumberLaws.{told-refused, told-held}
 use Rattle.early_request.proofs.FreshLaws.{fresh-refused, fresh-accepted}
 use Rattle.early_request.proofs.fresh.Goals as goal
 

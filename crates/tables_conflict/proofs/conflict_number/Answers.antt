@@ -1,7 +1,7 @@
 -- `tables_conflict::conflict_number` meets its contract: unfit, or none.
 use mathlib.Core.Path.{sym, ◌∙◌}
 use Rattle.tables.proofs.OutcomeLaws.{conflict-unfit, conflict-held}
-use Rattle.tables_conflict.proofs.MarkLaws.{told-refused, told-held}
+use Rattle.refusal.proofs.NumberLaws.{told-refused, told-held}
 use Rattle.tables_conflict.proofs.conflict_number.Goals as goal
 
 pub returns-then-is_err : goal.returns-then-is_err

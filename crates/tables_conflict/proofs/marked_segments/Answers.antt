@@ -1,7 +1,8 @@
 -- `tables_conflict::marked_segments` meets its contract: none, or N.
 use mathlib.Core.Path.{refl, sym, ◌∙◌}
 use Rattle.tables.proofs.OutcomeLaws.{if_held-yes, if_held-no, conflict-held}
-use Rattle.tables_conflict.proofs.MarkLaws.{numbered-held, told-refused, told-held}
+use Rattle.refusal.proofs.NumberLaws.{told-refused, told-held}
+use Rattle.tables_conflict.proofs.MarkLaws.{numbered-held}
 use Rattle.tables_conflict.proofs.marked_segments.Goals as goal
 
 pub returns-then-is_err : goal.returns-then-is_err

@@ -3,7 +3,7 @@ use Prim.Native.Nat.{◌*◌}
 use mathlib.Core.Path.{refl, sym, ◌∙◌}
 use borrow.Author.Tests.{lt-ltb, le-ltb}
 use Rattle.tables.proofs.OutcomeLaws.{if_held-yes, if_held-no}
-use Rattle.tables_distance.proofs.RefusalLaws.{told-refused, told-held}
+use Rattle.refusal.proofs.NumberLaws.{told-refused, told-held}
 use Rattle.tables_distance.proofs.refusal.Goals as goal
 
 pub returns-then-is_err : goal.returns-then-is_err
