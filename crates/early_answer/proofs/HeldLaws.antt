@@ -14,7 +14,7 @@ use lib.Seq.{take_all}
 use borrow.Rule.Slice.PartMut.{put_mid}
 use Rattle.std.proofs.lemmas.List.Edits.{sets-eq}
 use Rattle.std.proofs.lemmas.Slice.{put_mid-paste}
-use Rattle.base.specs.Index.{tabulate, store_to}
+use Rattle.base.specs.Index.{store_to}
 use Rattle.base.proofs.IndexLaws.{tabulate-is, store_to-none, store_to-more, store_to-length, store_to-at}
 use Rattle.masks.specs.Mask.{bit_at}
 use Rattle.model.specs.declared.Segment.{Segment}

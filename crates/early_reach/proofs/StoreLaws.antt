@@ -2,7 +2,7 @@
 --     places-..     no store, one more, one pass after the other, the same in other words
 --     row_lowered-..     a row, note after note; a row worked out is that of the table
 --     rows_lowered-.., reached-..     the rows; they are those of all segments
-use Prim.Native.Nat.{ℕ, min, ◌+◌, ◌*◌, ◌/◌, ◌%◌, ◌≤◌, ◌<◌, ◌-◌}
+use Prim.Native.Nat.{ℕ, ◌+◌, ◌*◌, ◌/◌, ◌%◌, ◌≤◌, ◌<◌, ◌-◌}
 use mathlib.Core.Path.{◌≡◌, refl, ap, sym, ◌∙◌}
 use mathlib.Core.Bool.{Bool, true, false, cond}
 use mathlib.Core.List.{List, ◌++◌}

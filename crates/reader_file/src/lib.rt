@@ -70,6 +70,7 @@ fn judge(bytes: &[u8]) -> Result<bool, Refusal>
     let mut c = no_counts();
     let mut last = None;
     let mut at = 0;
+    // A while, not a range: each turn goes on by the length of the record that it read.
     while at < bytes.len() {
         let b = &bytes[at..];
         let frame = reader_record::fault_after(last, c, b)?;
@@ -122,6 +123,7 @@ fn model_from(bytes: &[u8]) -> Model
     let mut segments = [model_effect::no_segment(); 64];
     let mut starts = [model_effect::no_start(); 32];
     let mut at = 10;
+    // A while, not a range: each turn goes on by the length of the record that it read.
     while 4 < bytes.len() - at {
         let b = &bytes[at..];
         let size = reader_segment::word_at(b, 0) as usize;

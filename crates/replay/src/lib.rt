@@ -2,12 +2,14 @@
 #![tactic(auto)]
 
 ghost use Rattle.std.specs.Prelude.{◌*◌, ◌≡◌, ◌||◌, ltb, length};
+ghost use Rattle.refusal.specs.Number.{number_of};
 ghost use Rattle.reader.specs.File.{read_file};
 ghost use Rattle.early.specs.ByRows.{LeftFree};
 ghost use Rattle.replay.specs.Replay.{refused_with, replayed_on, words_on, held_on, answers_on, replayed_by_rows, held_by_rows, answers_by_rows, replayed_of, words_after, held_after, answers_after, Keeps};
 
 use early::Site;
 use model::{Model, Threads};
+use refusal::Refusal;
 
 // What a replay leaves: the number of the refusal or 0, how many calls were not refused, the counts of variables and threads, the state
 // and the records.
@@ -22,11 +24,11 @@ pub struct Replayed {
 }
 
 // Beside a number all else is zero, as the fresh state of a zero model is.
-fn refused(number: u8) -> Replayed
-    ensures { result ≡ refused_with number }
+fn refused(r: Refusal) -> Replayed
+    ensures { result ≡ refused_with (number_of r) }
 {
     Replayed {
-        number,
+        number: u8::from(r),
         granted: 0,
         v: 0,
         t: 0,
@@ -39,10 +41,7 @@ fn refused(number: u8) -> Replayed
 fn is_unfit_lent(t: u8, held: usize, calls: usize, words: usize) -> bool
     ensures { result ≡ ltb words (5 * calls) || ltb held (64 * t) }
 {
-    if words / 5 < calls {
-        return true;
-    }
-    held < 64 * buffers::wide(t)
+    words / 5 < calls || held < 64 * usize::from(t)
 }
 
 // Every call of the list, the first on the fresh state of a held model, each later one on what the last one left: 11 for a buffer of
@@ -62,37 +61,31 @@ pub fn replay_on(
     ensures keeps { result.number ≡ 0 → Keeps m held.old calls.now result held.new }
 {
     if is_unfit_lent(m.t, held.len(), calls.len(), answers.len()) {
-        return refused(11);
+        return refused(Refusal::Unfit);
     }
-    let number = tables_distance::distances(m, words);
-    if number != 0 {
-        return refused(number);
+    if let Err(r) = tables_distance::distances(m, words) {
+        return refused(r);
     }
     let fresh = early_request::fresh(m);
-    let site = fresh.site;
-    let threads = fresh.threads;
     let marks = tables_conflict::conflict_marks(m);
-    let n = buffers::wide(m.n);
-    let size = n * n;
+    let n = usize::from(m.n);
     let left = early_list::calls(
         m,
         marks,
-        &words[..size],
-        site,
-        threads,
+        &words[..n * n],
+        fresh.site,
+        fresh.threads,
         held,
         calls,
         answers,
     );
-    let site = left.site;
-    let threads = left.threads;
     Replayed {
         number: 0,
         granted: left.granted,
         v: m.v,
         t: m.t,
-        site,
-        threads,
+        site: left.site,
+        threads: left.threads,
     }
 }
 
@@ -111,28 +104,33 @@ pub fn replay_by_rows(
     ensures keeps { result.number ≡ 0 → Keeps m held.old calls.now result held.new }
 {
     if is_unfit_lent(m.t, held.len(), calls.len(), answers.len()) {
-        return refused(11);
+        return refused(Refusal::Unfit);
     }
     let fresh = early_request::fresh(m);
     if fresh.number != 0 {
-        return refused(11);
+        return refused(Refusal::Unfit);
     }
     if row.len() < 64 {
-        return refused(16);
+        return refused(Refusal::ShortTable);
     }
-    let site = fresh.site;
-    let threads = fresh.threads;
     let marks = tables_conflict::conflict_marks(m);
-    let after = early_list::calls_by_rows(m, marks, row, site, threads, held, calls, answers);
-    let site = after.site;
-    let threads = after.threads;
+    let after = early_list::calls_by_rows(
+        m,
+        marks,
+        row,
+        fresh.site,
+        fresh.threads,
+        held,
+        calls,
+        answers,
+    );
     Replayed {
         number: 0,
         granted: after.granted,
         v: m.v,
         t: m.t,
-        site,
-        threads,
+        site: after.site,
+        threads: after.threads,
     }
 }
 
@@ -150,10 +148,8 @@ pub fn replay(
     ensures written { answers.new ≡ answers_after file.now words.old held.old calls.now answers.old }
     ensures keeps { result.number ≡ 0 → Keeps (read_file file.now).model held.old calls.now result held.new }
 {
-    let read = reader_file::read_file(file);
-    if read.number != 0 {
-        return refused(read.number);
+    match reader_file::read_file(file) {
+        Ok(m) => replay_on(m, words, held, calls, answers),
+        Err(r) => refused(r),
     }
-    let m = read.model;
-    replay_on(m, words, held, calls, answers)
 }

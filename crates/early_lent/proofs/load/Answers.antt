@@ -4,7 +4,6 @@ use native.Mathlib.Omega.{arith}
 use lib.ListN.{drop}
 use mathlib.Core.List.{List, ◌++◌}
 use Rattle.model.specs.declared.Thread.{Thread}
-use Rattle.model.specs.declared.Threads.{Threads}
 use Rattle.model_effect.proofs.LengthLaws.{threads-length}
 use Rattle.early_lent.proofs.MovedLaws.{loaded-copied}
 use Rattle.early_lent.proofs.load.Goals as goal

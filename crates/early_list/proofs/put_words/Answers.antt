@@ -1,5 +1,4 @@
 -- `early_list::put_words` meets its contract.
-use mathlib.Core.Path.{refl}
 use native.Mathlib.Omega.{arith}
 use Rattle.early_list.proofs.AnswerWordLaws.{words-put}
 use Rattle.early_list.proofs.put_words.Goals as goal
