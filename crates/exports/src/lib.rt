@@ -30,8 +30,10 @@ pub extern "C" fn teaselauger_load(file: &[u8], words: &mut [u64]) -> u8
     ensures value { result ≡ (load_of file.now words.old).number }
     ensures words_after { words.new ≡ load_buffer file.now words.old }
 {
-    let loaded = reader_load::load(file, words);
-    loaded.number
+    match reader_load::load(file, words) {
+        Ok(_) => 0,
+        Err(r) => u8::from(r),
+    }
 }
 
 // Document 02, slip 6, the entry by rows: the reader's number of a model file, then 16 below 64 words. None of them is read or written.
@@ -39,8 +41,10 @@ pub extern "C" fn teaselauger_load(file: &[u8], words: &mut [u64]) -> u8
 pub extern "C" fn teaselauger_load_by_rows(file: &[u8], words: &[u64]) -> u8
     ensures { result ≡ (load_by_rows file.now (length words.now)).number }
 {
-    let read = reader_load::load_by_rows(file, words);
-    read.number
+    match reader_load::load_by_rows(file, words) {
+        Ok(_) => 0,
+        Err(fault) => u8::from(fault),
+    }
 }
 
 // The sheet of a file's plain run with a budget, or the line of its refusal: how many bytes of the buffer it takes. A buffer that is too short stays, and the answer is 0;
