@@ -32,7 +32,7 @@ pub struct Outlook {
     pub heard: bool,
 }
 
-// The number of threads, 32 where it is above that.
+// The number of threads, 32 where it is above that. A function, since the proofs of three others go by its clause.
 #[tactic(auto, unfolding(early_limits::specs::Limit::at_most))]
 fn few(t: u8) -> u8
     ensures { (result ≡ at_most 32 t) × (result ≤ 32) }

@@ -26,7 +26,8 @@ struct Done {
     threads: Threads,
 }
 
-// How many records are moved: one for each thread, and no more than are lent or held by value.
+// How many records are moved: one for each thread, and no more than are lent or held by value. A function, since the
+// proofs of four others go by its clause.
 fn moved(lent: usize, t: u8) -> usize
     ensures { result ≡ moved_of lent t }
 {

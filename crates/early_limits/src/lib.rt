@@ -8,6 +8,7 @@ pub struct Limits {
 }
 
 // For each thread its segment, the event that it waits on, or 255, and the limit of the cycle in which its wait began, or 0.
+// Three rows and no row of structs: a forecast reads the segments alone.
 #[derive(Clone, Copy)]
 pub struct Crew {
     pub segments: [u8; 32],

@@ -13,6 +13,7 @@ use early::{Notification, Site};
 use model::{Events, Model, State, Threads};
 
 // A log as three rows of numbers, for those that read it often: event, time and delta of each of its first n places.
+// Three rows and no row of structs: whoever looks for an event reads the first alone. There is no heap.
 #[derive(Clone, Copy)]
 pub struct Rows {
     pub events: [u8; 128],
@@ -21,7 +22,7 @@ pub struct Rows {
     pub n: usize,
 }
 
-// A count, or the number of places where it is above that.
+// A count, or the number of places where it is above that. A function, since the proofs of all that read a log go by its clause.
 fn within(count: u8, places: usize) -> usize
     ensures { result ≡ min count places }
 {

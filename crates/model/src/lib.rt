@@ -47,7 +47,7 @@ pub enum Closer {
     Event(u8, Next),
 }
 
-// n statements, the rest of the places unused.
+// n statements, the rest of the places unused. An array with its count: there is no heap, and definitions (`body_of`) speak of the 32 places.
 #[derive(Clone, Copy)]
 pub struct Segment {
     pub closer: Closer,
@@ -62,7 +62,8 @@ pub struct Start {
     pub ports: [u8; 8],
 }
 
-// The horizon, then document 01's counts: v variables, e events, n segments, t threads.
+// The horizon, then document 01's counts: v variables, e events, n segments, t threads. Arrays with their counts: there is no heap, and
+// definitions (`segment_at`, `start_at`) speak of the places.
 #[derive(Clone, Copy)]
 pub struct Model {
     pub horizon: Time,
@@ -102,7 +103,7 @@ pub struct Threads {
     pub at: [Thread; 32],
 }
 
-// n events at the front, in order; 0 past them.
+// n events at the front, in order; 0 past them. An array with its count: there is no heap.
 #[derive(Clone, Copy)]
 pub struct Events {
     pub n: u8,

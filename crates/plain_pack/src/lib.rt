@@ -35,7 +35,7 @@ fn pack_op(op: Op) -> u64
     }
 }
 
-// A number of statements, at most the 32 that a row has.
+// A number of statements, at most the 32 that a row has. A function, since the proof of what is packed goes by its clauses.
 fn few(n: u8) -> u64
     ensures word { result ≡ few n }
     ensures range { result ≤ 32 }

@@ -47,7 +47,7 @@ pub struct Frame {
 }
 
 // What is counted as a file is judged: variables, events, segments, threads, the least N that every target is below, and whether a
-// segment can name a port.
+// segment can name a port: a thing counted like the others, and no sign of which they are.
 #[derive(Clone, Copy)]
 pub struct Counts {
     pub v: u8,
