@@ -7,11 +7,10 @@ ghost use Rattle.export_write.specs.Call.{Models, Files};
 pub fn model_into(file: &[u8], numbers: &mut [u32]) -> u8
     ensures { Models file.now numbers.old result numbers.new }
 {
-    let read = reader_file::read_file(file);
-    if read.number != 0 {
-        return read.number;
-    }
-    let m = read.model;
+    let m = match reader_file::read_file(file) {
+        Ok(m) => m,
+        Err(r) => return u8::from(r),
+    };
     if export_numbers::numbers_into(m, numbers) == 0 {
         return 16;
     }
@@ -25,9 +24,8 @@ pub fn write_into(numbers: &[u32], out: &mut [u8], length: &mut [u64]) -> u8
     if length.len() == 0 {
         return 11;
     }
-    let number = export_hold::held_number(numbers);
-    if number != 0 {
-        return number;
+    if let Err(r) = export_hold::held_number(numbers) {
+        return u8::from(r);
     }
     let m = export_hold::model_held(numbers);
     let written = writer_file::write(m, out);
