@@ -1,5 +1,6 @@
 -- The calls of a caller who keeps a state as numbers, one law for each exit.
-use Prim.Native.Nat.{ℕ, zero, suc, ◌+◌, ◌*◌, ◌≤◌, ◌<◌, min}
+use Prim.Native.Nat.{ℕ, zero, suc, ◌+◌, ◌≤◌, ◌<◌, min}
+use mathlib.Core.Logic.{◌⊎◌, inl, inr}
 use mathlib.Core.Path.{◌≡◌, refl, ap, sym, ◌∙◌}
 use mathlib.Core.Bool.{Bool, true, false, cond, ◌&&◌}
 use mathlib.Core.List.{List, [], ◌∷◌}
@@ -9,7 +10,7 @@ use native.Mathlib.Decide.{ℕ_discrete}
 use lib.Dec.{ltb, leb, eqb}
 use lib.ListN.{length, get_or, take, drop}
 use lib.Seq.{get_or-take, take_at, length-take-le, ext_get_or}
-use borrow.Author.Tests.{lt-ltb, le-leb, lt-leb, eq-eqb, ne_eqb}
+use borrow.Author.Tests.{lt-ltb, eq-eqb, ne_eqb}
 use Rattle.base.specs.Index.{or_else, tabulate}
 use Rattle.base.proofs.IndexLaws.{or_else-none, or_else-some, tabulate-length, tabulate-at}
 use Rattle.clock.specs.declared.Cycle.{Cycle}
@@ -35,6 +36,7 @@ use Rattle.early.specs.Answer.{number_of, values_of}
 use Rattle.early.specs.Request.{Requested, request_of, fresh_site}
 use Rattle.early.specs.ByRows.{request_by_rows}
 use Rattle.early.specs.declared.Call.{Call}
+use Rattle.early.specs.declared.Call.TheVariants.{Both, Finish}
 use Rattle.early.specs.Call.{Called, call_of, call_by_rows}
 use Rattle.early_request.specs.declared.FreshState.{FreshState}
 use Rattle.early_laws.proofs.AgreeLaws.{Agree}
@@ -49,23 +51,9 @@ use Rattle.early_lent.proofs.RowsLaws.{request_by_rows-moves, call_by_rows-moves
 use Rattle.replay.specs.declared.Replayed.{Replayed}
 use Rattle.replay.specs.Replay.{Keeps}
 use Rattle.export_state.specs.Numbers.{log_words, record_words, thread_from, site_from, threads_from, held_threads, are_held}
-use Rattle.export_step.specs.Step.{Kept, keeps, has_room, holding, fresh_number, fresh_kept, asked_number, request_by, rows_by, call_by, call_rows_by, request_number, kept_by, left_by, request_kept, call_kept, request_answer, call_held, replay_number, replay_kept, replay_buffer, Freshens, Requests, Calls, Replays}
+use Rattle.export_step.specs.Step.{Kept, keeps, has_room, holding, fresh_number, fresh_kept, asked_number, request_by, rows_by, call_by, call_rows_by, request_number, kept_by, started_by, left_by, request_kept, call_kept, request_answer, call_held, replay_number, replay_kept, replay_buffer, Freshens, Requests, Calls, Replays}
 use Rattle.export_step.specs.Left.{left_of}
 use Rattle.export_state.proofs.TurnLaws.{tabulate-same}
-
--- three buffers, tested in turn
-module _ (t : ℕ) (vs ws rs : List ℕ) where
-  pub has_room-variables : length vs < 64 → false ≡ has_room t (keeps vs ws rs)
-  unfolding has_room
-  has_room-variables h = rw (lt-leb 64 (length vs) h) refl
-
-  pub has_room-log : 64 ≤ length vs → length ws < 385 → false ≡ has_room t (keeps vs ws rs)
-  unfolding has_room
-  has_room-log h k = rw (le-leb 64 (length vs) h, lt-leb 385 (length ws) k) refl
-
-  pub has_room-records : (n : ℕ) → n ≡ t → 64 ≤ length vs → 385 ≤ length ws → leb (5 * n) (length rs) ≡ has_room t (keeps vs ws rs)
-  unfolding has_room
-  has_room-records n e h k = rw (e, le-leb 64 (length vs) h, le-leb 385 (length ws) k) refl
 
 pub holding-stored :
     (site : Site) (ts : List Thread) (b : Kept) (vs ws rs : List ℕ) → vs ≡ placed_in site.variables.at b.variables → ws ≡ placed_in (log_words site) b.log →
@@ -73,27 +61,27 @@ pub holding-stored :
 unfolding holding
 holding-stored site ts b vs ws rs x y z = rw (x, y, z) refl
 
--- a file that was opened: its number, or 11 where what the caller keeps is not fit for its model
-abbrev pub Opens : List ℕ → Bool → Read → Type 0
-Opens file fit r = (r.number ≡ or_else (read_file file).number (unless fit unfit)) × (r.number ≡ 0 → r ≡ read_file file)
+-- the number of a file that was read: its own, or 11 where what the caller keeps is not fit for its model
+module _ (file : List ℕ) (fit : Model → Bool) where
+  abbrev pub Opens : ℕ → Type 0
+  Opens n = n ≡ or_else (read_file file).number (unless (fit (read_file file).model) unfit)
 
-module _ (file : List ℕ) (fit : Bool) (r : Read) (read : r ≡ read_file file) where
-  pub opened-refused : (r.number ≡ 0 → ⊥) → Opens file fit r
-  opened-refused h = (rw (← read) (sym (or_else-some r.number _ h)), λ z. read)
+  pub opened-refused : (r : Read) → r ≡ read_file file → (r.number ≡ 0 → ⊥) → Opens r.number
+  opened-refused r read h = rw (← read) (sym (or_else-some r.number _ h))
 
-  pub opened-fit : r.number ≡ 0 → fit ≡ true → Opens file fit r
-  opened-fit h e = (rw (← read, or_else-none r.number _ h, e) h, λ z. read)
+  pub opened-fit : (r : Read) → r ≡ read_file file → r.number ≡ 0 → fit r.model ≡ true → Opens 0
+  opened-fit r read h e = rw (← read, or_else-none r.number _ h, e) refl
 
-  pub opened-unfit : r.number ≡ 0 → fit ≡ false → (x : Read) → x.number ≡ 11 → Opens file fit x
-  opened-unfit h e x n = (rw (n, ← read, or_else-none r.number _ h, e) refl, λ z. absurd (omega arith))
+  pub opened-unfit : (r : Read) → r ≡ read_file file → r.number ≡ 0 → fit r.model ≡ false → Opens 11
+  opened-unfit r read h e = rw (← read, or_else-none r.number _ h, e) refl
 
 -- what it is not fit for: too short, or not those of a state
-module _ (file : List ℕ) (b : Kept) (answer : List ℕ) (r : Read) where
-  pub room-opened : Opens file (has_room (read_file file).model.t b) r → (r.number ≡ fresh_number file b) × (r.number ≡ 0 → r ≡ read_file file)
+module _ (file : List ℕ) (b : Kept) (answer : List ℕ) (n : ℕ) where
+  pub room-opened : Opens file (λ m. has_room m.t b) n → n ≡ fresh_number file b
   unfolding fresh_number
   room-opened o = o
 
-  pub state-opened : Opens file (are_held (read_file file).model.t b.variables b.log b.records && leb 3 (length answer)) r → (r.number ≡ asked_number file b answer) × (r.number ≡ 0 → r ≡ read_file file)
+  pub state-opened : Opens file (λ m. are_held m.t b.variables b.log b.records && leb 3 (length answer)) n → n ≡ asked_number file b answer
   unfolding asked_number
   state-opened o = o
 
@@ -101,24 +89,19 @@ module _ (file : List ℕ) (b : Kept) (answer : List ℕ) (r : Read) where
 pub holding-same : (f g : FreshState) (t : ℕ) (b kept : Kept) → f ≡ g → kept ≡ holding f.site (take t f.threads.at) b → kept ≡ holding g.site (take t g.threads.at) b
 holding-same f g t b kept e h = rw (← e) h
 
-module _ (file : List ℕ) (b : Kept) (r : Read) (opened : r.number ≡ fresh_number file b) where
-  fresh_kept-refused : fresh_number file b ≡ r.number → (r.number ≡ 0 → ⊥) → b ≡ fresh_kept file b
+module _ (file : List ℕ) (b : Kept) where
+  pub fresh-refused : (n : ℕ) → n ≡ fresh_number file b → (n ≡ 0 → ⊥) → (told : ℕ) → told ≡ n → Freshens file b told b
   unfolding fresh_kept
-  fresh_kept-refused e h = rw (e, ne_eqb r.number 0 h) refl
+  fresh-refused n opened h told e = record { number = e ∙ opened; state = rw (← opened, ne_eqb n 0 h) refl }
 
-  pub fresh-refused : (r.number ≡ 0 → ⊥) → Freshens file b r.number b
-  fresh-refused h = record { number = opened; state = fresh_kept-refused (sym opened) h }
-
+module _ (file : List ℕ) (b : Kept) (r : Read) where
   fresh-state : r ≡ read_file file → r.number ≡ 0 → fresh_of r.model ≡ record { number = 0; site = fresh_site; threads = record { at = fresh_threads r.model } }
   unfolding fresh_of
   fresh-state read h = rw (eq-eqb _ 0 (rw (← read) at (accepted-kept file (rw read at h)))) refl
 
-  pub fresh-done : (r.number ≡ 0 → r ≡ read_file file) → r.number ≡ 0 → (kept : Kept) → kept ≡ holding (fresh_of r.model).site (take r.model.t (fresh_of r.model).threads.at) b → Freshens file b 0 kept
+  pub fresh-done : 0 ≡ fresh_number file b → r ≡ read_file file → r.number ≡ 0 → (kept : Kept) → kept ≡ holding (fresh_of r.model).site (take r.model.t (fresh_of r.model).threads.at) b → Freshens file b 0 kept
   unfolding fresh_kept
-  fresh-done told h kept x =
-      let read = told h in
-      let n : fresh_number file b ≡ 0 = sym opened ∙ h in
-      record { number = sym n; state = x ∙ rw (n, fresh-state read h, ← read) refl }
+  fresh-done opened read h kept x = record { number = opened; state = x ∙ rw (← opened, fresh-state read h, ← read) refl }
 
 -- a request
 pub left_of-made : (x : Lent) (us : Threads) → us.at ≡ take 32 x.records → record { answer = x.asked.answer; site = x.asked.site; threads = us } ≡ left_of x
@@ -222,21 +205,20 @@ module _ (m : Model) (few : m.t ≤ 32) (rs : List ℕ) where
         refused = refused (threads_from rs m.t);
       }
 
-module _ (file : List ℕ) (q : Requested) (b : Kept) (answer : List ℕ) (r : Read) (opened : r.number ≡ asked_number file b answer) where
-  pub request-refused : (r.number ≡ 0 → ⊥) → Requests file q b answer r.number b answer
+module _ (file : List ℕ) (q : Requested) (b : Kept) (answer : List ℕ) where
+  pub request-refused : (n : ℕ) → n ≡ asked_number file b answer → (n ≡ 0 → ⊥) → (told : ℕ) → told ≡ n → Requests file q b answer told b answer
   unfolding request_number request_kept request_answer
-  request-refused h =
-      let e : asked_number file b answer ≡ r.number = sym opened in
-      record { number = rw e (sym (or_else-some r.number _ h)); state = rw (e, ne_eqb r.number 0 h) refl; answered = rw (e, ne_eqb r.number 0 h) refl }
+  request-refused n opened h told e =
+      record { number = rw (e, ← opened) (sym (or_else-some n _ h)); state = rw (← opened, ne_eqb n 0 h) refl; answered = rw (← opened, ne_eqb n 0 h) refl }
 
   -- what is left of the records by value is the request's
   pub request-answered :
-      r.number ≡ 0 → (t : ℕ) (after : After) → Right q t after → (n : ℕ) (kept : Kept) (end : List ℕ) → n ≡ number_of after.answer →
+      0 ≡ asked_number file b answer → (t : ℕ) (after : After) → Right q t after → (n : ℕ) (kept : Kept) (end : List ℕ) → n ≡ number_of after.answer →
       kept ≡ kept_by after.answer after.site (take t after.threads.at) b → end ≡ placed_in (values_of after.answer) answer →
       Requests file q b answer n kept end
   unfolding request_number request_kept request_answer
-  request-answered h t after right n kept end x y z =
-      let a : asked_number file b answer ≡ 0 = sym opened ∙ h in
+  request-answered opened t after right n kept end x y z =
+      let a : asked_number file b answer ≡ 0 = sym opened in
       record {
         number = rw (x, right.answer, a, or_else-none 0 _ refl) refl;
         state = rw (y, right.threads, right.answer, right.site, a) refl;
@@ -291,27 +273,27 @@ module _ (file : List ℕ) (b : Kept) (held : List ℕ) (call : Call) (r : Read)
       (λ ts other. ap (λ (x : Called). x.held) (call_by_rows-refused m (conflict_marks m) lent site ts held call other)))
 
 -- a call is answered as the request that it makes
-module _ (file : List ℕ) (call : Call) (q : Called) (b : Kept) (held answer : List ℕ) (r : Read) (opened : r.number ≡ asked_number file b answer) where
-  pub call-refused : (r.number ≡ 0 → ⊥) → Calls file call q b held answer r.number b held answer
+module _ (file : List ℕ) (call : Call) (q : Called) (b : Kept) (held answer : List ℕ) where
+  pub call-refused : (n : ℕ) → n ≡ asked_number file b answer → (n ≡ 0 → ⊥) → (told : ℕ) → told ≡ n → Calls file call q b held answer told b held answer
   unfolding call_held call_kept request_number
-  call-refused h =
-      let n : or_else (asked_number file b answer) (number_of q.left.answer) ≡ r.number = rw (← opened) (or_else-some r.number _ h) in
-      let asked = request-refused file q.left b answer r opened h in
-      record { number = asked.number; state = rw (← opened, ne_eqb r.number 0 h) refl; answered = asked.answered; values = rw (n, ne_eqb r.number 0 h) refl }
+  call-refused n opened h told e =
+      let k : or_else (asked_number file b answer) (number_of q.left.answer) ≡ n = rw (← opened) (or_else-some n _ h) in
+      let asked = request-refused file q.left b answer n opened h told e in
+      record { number = asked.number; state = rw (← opened, ne_eqb n 0 h) refl; answered = asked.answered; values = rw (k, ne_eqb n 0 h) refl }
 
   pub call-answered :
-      r.number ≡ 0 → (t : ℕ) (after : After) (holds : List ℕ) → RightCall q t held after holds → (n : ℕ) (kept : Kept) (end : List ℕ) → n ≡ number_of after.answer →
+      0 ≡ asked_number file b answer → (t : ℕ) (after : After) (holds : List ℕ) → RightCall q t held after holds → (n : ℕ) (kept : Kept) (end : List ℕ) → n ≡ number_of after.answer →
       kept ≡ left_by call after.answer after.site (take t after.threads.at) b → end ≡ placed_in (values_of after.answer) answer →
       Calls file call q b held answer n kept holds end
   unfolding call_held call_kept request_number
-  call-answered h t after holds right n kept end x y z =
-      let a : asked_number file b answer ≡ 0 = sym opened ∙ h in
-      let asked = request-answered file q.left b answer r opened h t after right.left n _ end x refl z in
+  call-answered opened t after holds right n kept end x y z =
+      let a : asked_number file b answer ≡ 0 = sym opened in
+      let asked = request-answered file q.left b answer opened t after right.left n _ end x refl z in
       record {
         number = asked.number;
         state = rw (y, right.left.threads, right.left.answer, right.left.site, a) refl;
         answered = asked.answered;
-        values = rw (← opened, or_else-none r.number (number_of q.left.answer) h) (go (ℕ_discrete (number_of q.left.answer) 0));
+        values = rw (a, or_else-none 0 (number_of q.left.answer) refl) (go (ℕ_discrete (number_of q.left.answer) 0));
       }
     where
       go : Dec (number_of q.left.answer ≡ 0) → holds ≡ cond (eqb (number_of q.left.answer) 0) q.held held
@@ -328,31 +310,48 @@ answer-granted a answer end s c e w = (rw e refl, rw e w)
 pub answer-refused : (a : Answer) (answer : List ℕ) (n : ℕ) → a ≡ Refused n → (n ≡ number_of a) × (answer ≡ placed_in (values_of a) answer)
 answer-refused a answer n e = (rw e refl, rw e (sym (placed_in-room [] answer (omega arith))))
 
+-- what is no grant leaves the buffers as they were
+pub kept_by-other : (a : Answer) (site : Site) (ts : List Thread) (b : Kept) → ((s : ℕ) (c : Cycle) → a ≡ Granted s c → ⊥) → b ≡ kept_by a site ts b
+kept_by-other (Granted s c) _ ts b h = absurd (h s c refl)
+kept_by-other (Refused n) _ ts b h = refl
+
+pub started_by-other : (a : Answer) (ts : List Thread) (b : Kept) → ((s : ℕ) (c : Cycle) → a ≡ Granted s c → ⊥) → b ≡ started_by a ts b
+started_by-other (Granted s c) ts b h = absurd (h s c refl)
+started_by-other (Refused n) ts b h = refl
+
+-- a request and a finish leave the whole state
+pub left_by-state :
+    (call : Call) (a : Answer) (site : Site) (ts : List Thread) (b kept : Kept) → ((k : ℕ) × (call ≡ Both k)) ⊎ ((k : ℕ) × (call ≡ Finish k)) →
+    kept ≡ kept_by a site ts b → kept ≡ left_by call a site ts b
+left_by-state call a _ ts b kept (inl (k, e)) h = rw e h
+left_by-state call a _ ts b kept (inr (k, e)) h = rw e h
+
 -- a whole list
-module _ (file held calls : List ℕ) (d : Replayed) (b : Kept) (r : Read) (opened : r.number ≡ fresh_number file b) where
+module _ (file held calls : List ℕ) (d : Replayed) (b : Kept) where
   replay_kept-refused : (n : ℕ) → replay_number file d b ≡ n → (n ≡ 0 → ⊥) → b ≡ replay_kept file d b
   unfolding replay_kept
   replay_kept-refused n e h = rw (e, ne_eqb n 0 h) refl
 
   -- the file is refused, or a buffer of the state is too short
-  pub replay-unopened : (r.number ≡ 0 → ⊥) → Replays file held calls d b r.number b held
-  unfolding replay_number
-  replay-unopened h =
-      let n : replay_number file d b ≡ r.number = rw (← opened) (or_else-some r.number _ h) in
-      record { number = sym n; state = replay_kept-refused r.number n h; listed = λ z. absurd (h z) }
+  module _ (n : ℕ) (opened : n ≡ fresh_number file b) (h : n ≡ 0 → ⊥) where
+    pub replay-unopened : (told : ℕ) → told ≡ n → Replays file held calls d b told b held
+    unfolding replay_number
+    replay-unopened told e =
+        let k : replay_number file d b ≡ n = rw (← opened) (or_else-some n _ h) in
+        record { number = e ∙ sym k; state = replay_kept-refused n k h; listed = λ z. absurd (h (sym e ∙ z)) }
 
-  pub buffer-left : (r.number ≡ 0 → ⊥) → (after before : List ℕ) → before ≡ replay_buffer file b after before
-  unfolding replay_buffer
-  buffer-left h after before = rw (← opened, ne_eqb r.number 0 h) refl
+    pub buffer-left : (after before : List ℕ) → before ≡ replay_buffer file b after before
+    unfolding replay_buffer
+    buffer-left after before = rw (← opened, ne_eqb n 0 h) refl
 
-  module _ (told : r.number ≡ 0 → r ≡ read_file file) (h : r.number ≡ 0) where
+  module _ (opened : 0 ≡ fresh_number file b) where
     replay_number-on : replay_number file d b ≡ d.number
     unfolding replay_number
-    replay_number-on = rw (← opened) (or_else-none r.number d.number h)
+    replay_number-on = rw (← opened) (or_else-none 0 d.number refl)
 
     pub buffer-made : (now after before : List ℕ) → now ≡ after → now ≡ replay_buffer file b after before
     unfolding replay_buffer
-    buffer-made now after before e = rw (← opened, eq-eqb r.number 0 h) e
+    buffer-made now after before e = rw (← opened) e
 
     module _ (left : Replayed) (same : left ≡ d) where
       pub replay-refused : (left.number ≡ 0 → ⊥) → (holds : List ℕ) → Replays file held calls d b left.number b holds
@@ -361,13 +360,13 @@ module _ (file held calls : List ℕ) (d : Replayed) (b : Kept) (r : Read) (open
           record { number = sym n; state = replay_kept-refused left.number n other; listed = λ z. absurd (other z) }
 
       pub replay-done :
-          left.number ≡ 0 → (holds : List ℕ) → Keeps r.model held calls left holds → (kept : Kept) → kept ≡ holding left.site (take r.model.t left.threads.at) b →
-          Replays file held calls d b 0 kept holds
+          (r : Read) → r ≡ read_file file → left.number ≡ 0 → (holds : List ℕ) → Keeps r.model held calls left holds → (kept : Kept) → kept ≡ holding left.site (take r.model.t left.threads.at) b →
+          Replays file held calls d b left.number kept holds
       unfolding replay_kept
-      replay-done z holds list kept k =
+      replay-done r read z holds list kept k =
           let n : replay_number file d b ≡ 0 = replay_number-on ∙ (sym (ap (λ (x : Replayed). x.number) same) ∙ z) in
           record {
-            number = sym n;
-            state = k ∙ rw (n, same, told h) refl;
-            listed = λ e. rw (← told h) (record { state = k ∙ rw (list.site, list.threads) refl; values = list.values; claim = list.claim });
+            number = z ∙ sym n;
+            state = k ∙ rw (n, same, read) refl;
+            listed = λ e. rw (← read) (record { state = k ∙ rw (list.site, list.threads) refl; values = list.values; claim = list.claim });
           }

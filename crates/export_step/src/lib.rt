@@ -2,8 +2,10 @@
 // Words past those of a state are not looked at and not touched.
 #![tactic(auto)]
 
-ghost use Rattle.std.specs.Prelude.{ℕ, ◌+◌, ◌<◌, ◌≤◌, ◌≡◌, ◌&&◌, List, leb, length, take};
+ghost use Rattle.std.specs.Prelude.{ℕ, ◌+◌, ◌<◌, ◌≤◌, ◌≡◌, ◌&&◌, IfOk, List, Ok, leb, length, take};
+ghost use Rattle.refusal.specs.Number.{number_told};
 ghost use Rattle.reader.specs.File.{read_file};
+ghost use Rattle.reader.specs.Read.{read_of};
 ghost use Rattle.tables.specs.Outcome.{conflict_marks};
 ghost use Rattle.buffers.specs.Write.{placed_in};
 ghost use Rattle.early.specs.Answer.{values_of, number_of};
@@ -20,7 +22,7 @@ ghost use Rattle.export_step.specs.Left.{left_of};
 use clock::ThreadNo;
 use early::{After, Answer, Call, Site};
 use model::{Model, Threads};
-use reader::Read;
+use refusal::Refusal;
 
 // A state and the records of its t threads in the caller's buffers.
 fn put_state(
@@ -55,55 +57,44 @@ fn put_answer(a: Answer, answer: &mut [u64]) -> u8
 fn has_room(variables: &[u32], log: &[u64], records: &[u64], t: u8) -> bool
     ensures { result ≡ has_room t (keeps variables.now log.now records.now) }
 {
-    if variables.len() < 64 {
-        return false;
-    }
-    if log.len() < 385 {
-        return false;
-    }
-    5 * buffers::wide(t) <= records.len()
+    64 <= variables.len() && 385 <= log.len() && 5 * usize::from(t) <= records.len()
 }
 
 // Whether the numbers are those of a state, and the answer has room.
 fn may_ask(variables: &[u32], log: &[u64], records: &[u64], t: u8, answer: &[u64]) -> bool
     ensures { result ≡ are_held t variables.now log.now records.now && leb 3 (length answer.now) }
 {
-    if export_state::are_held(variables, log, records, t) {
-        return 3 <= answer.len();
-    }
-    false
+    export_state::are_held(variables, log, records, t) && 3 <= answer.len()
 }
 
-// The file, with 11 where it is accepted and a buffer of its state is too short.
-fn with_room(file: &[u8], variables: &[u32], log: &[u64], records: &[u64]) -> Read
-    ensures number { result.number ≡ fresh_number file.now (keeps variables.now log.now records.now) }
-    ensures read { result.number ≡ 0 → result ≡ read_file file.now }
+// A file's model, or its refusal: 11 where it is accepted and a buffer of its state is too short.
+fn with_room(file: &[u8], variables: &[u32], log: &[u64], records: &[u64]) -> Result<Model, Refusal>
+    ensures number { number_told result ≡ fresh_number file.now (keeps variables.now log.now records.now) }
+    ensures read { IfOk result (λ m. read_of (Ok m) ≡ read_file file.now) }
 {
-    let mut read = reader_file::read_file(file);
-    if read.number != 0 {
-        return read;
+    let m = reader_file::read_file(file)?;
+    if has_room(variables, log, records, m.t) {
+        return Ok(m);
     }
-    if has_room(variables, log, records, read.model.t) {
-        return read;
-    }
-    read.number = 11;
-    read
+    Err(Refusal::Unfit)
 }
 
-// The file, with 11 where it is accepted and the numbers are not those of a state of it, or the answer has no room.
-fn with_state(file: &[u8], variables: &[u32], log: &[u64], records: &[u64], answer: &[u64]) -> Read
-    ensures number { result.number ≡ asked_number file.now (keeps variables.now log.now records.now) answer.now }
-    ensures read { result.number ≡ 0 → result ≡ read_file file.now }
+// A file's model, or its refusal: 11 where it is accepted and the numbers are not those of a state of it, or the answer has no room.
+fn with_state(
+    file: &[u8],
+    variables: &[u32],
+    log: &[u64],
+    records: &[u64],
+    answer: &[u64],
+) -> Result<Model, Refusal>
+    ensures number { number_told result ≡ asked_number file.now (keeps variables.now log.now records.now) answer.now }
+    ensures read { IfOk result (λ m. read_of (Ok m) ≡ read_file file.now) }
 {
-    let mut read = reader_file::read_file(file);
-    if read.number != 0 {
-        return read;
+    let m = reader_file::read_file(file)?;
+    if may_ask(variables, log, records, m.t, answer) {
+        return Ok(m);
     }
-    if may_ask(variables, log, records, read.model.t, answer) {
-        return read;
-    }
-    read.number = 11;
-    read
+    Err(Refusal::Unfit)
 }
 
 // The fresh state of a model, in the caller's buffers.
@@ -118,12 +109,14 @@ fn put_fresh(m: Model, variables: &mut [u32], log: &mut [u64], records: &mut [u6
 pub fn fresh_into(file: &[u8], variables: &mut [u32], log: &mut [u64], records: &mut [u64]) -> u8
     ensures { Freshens file.now (keeps variables.old log.old records.old) result (keeps variables.new log.new records.new) }
 {
-    let read = with_room(file, variables, log, records);
-    if read.number != 0 {
-        return read.number;
+    // A number, here and in each call below, since the C interface answers it.
+    match with_room(file, variables, log, records) {
+        Ok(m) => {
+            put_fresh(m, variables, log, records);
+            0
+        }
+        Err(r) => u8::from(r),
     }
-    put_fresh(read.model, variables, log, records);
-    0
 }
 
 // A request on the state that the numbers say: the lent request, on as many records as there are threads.
@@ -137,28 +130,22 @@ fn request_on(
 ) -> After
     ensures { result ≡ left_of (request_first m (conflict_marks m) words.now (site_from variables.now log.now) (held_threads records.now m.t) m.t thread) }
 {
-    let t = m.t;
     let marks = tables_conflict::conflict_marks(m);
     let site = export_state::site_from(variables, log);
-    let held = export_state::threads_from(records, t);
+    let held = export_state::threads_from(records, m.t);
     let left = early_lent::request_first(
         m,
         marks,
         words,
         site,
         held,
-        buffers::wide(t),
+        usize::from(m.t),
         ThreadNo(thread),
     );
-    let asked = left.asked;
-    let answer = asked.answer;
-    let site = asked.site;
-    let held = left.records;
-    let threads = export_state::first_threads(held);
     After {
-        answer,
-        site,
-        threads,
+        answer: left.asked.answer,
+        site: left.asked.site,
+        threads: export_state::first_threads(left.records),
     }
 }
 
@@ -185,12 +172,8 @@ fn rows_on(
 fn put_after(after: After, t: u8, variables: &mut [u32], log: &mut [u64], records: &mut [u64])
     ensures { keeps variables.new log.new records.new ≡ kept_by after.answer after.site (take t after.threads.at) (keeps variables.old log.old records.old) }
 {
-    let a = after.answer;
-    match a {
-        Answer::Granted(_, _) => {
-            put_state(after.site, after.threads, t, variables, log, records);
-        }
-        Answer::Refused(_) => {}
+    if let Answer::Granted(_, _) = after.answer {
+        put_state(after.site, after.threads, t, variables, log, records);
     }
 }
 
@@ -198,12 +181,8 @@ fn put_after(after: After, t: u8, variables: &mut [u32], log: &mut [u64], record
 fn put_started(after: After, t: u8, records: &mut [u64])
     ensures { (vs ws : List ℕ) → keeps vs ws records.new ≡ started_by after.answer (take t after.threads.at) (keeps vs ws records.old) }
 {
-    let a = after.answer;
-    match a {
-        Answer::Granted(_, _) => {
-            export_state::threads_into(after.threads, t, records);
-        }
-        Answer::Refused(_) => {}
+    if let Answer::Granted(_, _) = after.answer {
+        export_state::threads_into(after.threads, t, records);
     }
 }
 
@@ -219,15 +198,8 @@ fn put_called(
     ensures { keeps variables.new log.new records.new ≡ left_by call after.answer after.site (take t after.threads.at) (keeps variables.old log.old records.old) }
 {
     match call {
-        Call::Both(_) => {
-            put_after(after, t, variables, log, records);
-        }
-        Call::Grant(_) => {
-            put_started(after, t, records);
-        }
-        Call::Finish(_) => {
-            put_after(after, t, variables, log, records);
-        }
+        Call::Grant(_) => put_started(after, t, records),
+        Call::Both(_) | Call::Finish(_) => put_after(after, t, variables, log, records),
     }
 }
 
@@ -244,14 +216,14 @@ pub fn request_into(
 ) -> u8
     ensures { Requests file.now (request_by file.now words.now (keeps variables.old log.old records.old) thread) (keeps variables.old log.old records.old) answer.old result (keeps variables.new log.new records.new) answer.new }
 {
-    let read = with_state(file, variables, log, records, answer);
-    if read.number != 0 {
-        return read.number;
+    match with_state(file, variables, log, records, answer) {
+        Ok(m) => {
+            let after = request_on(m, words, variables, log, records, thread);
+            put_after(after, m.t, variables, log, records);
+            put_answer(after.answer, answer)
+        }
+        Err(r) => u8::from(r),
     }
-    let after = request_on(read.model, words, variables, log, records, thread);
-    let a = after.answer;
-    put_after(after, read.model.t, variables, log, records);
-    put_answer(a, answer)
 }
 
 // The same by rows, in 64 words that are left free: 16 after 11.
@@ -267,14 +239,14 @@ pub fn request_by_rows_into(
     ensures free { LeftFree row.old row.new }
     ensures requests { Requests file.now (rows_by file.now (length row.old) (keeps variables.old log.old records.old) thread) (keeps variables.old log.old records.old) answer.old result (keeps variables.new log.new records.new) answer.new }
 {
-    let read = with_state(file, variables, log, records, answer);
-    if read.number != 0 {
-        return read.number;
+    match with_state(file, variables, log, records, answer) {
+        Ok(m) => {
+            let after = rows_on(m, row, variables, log, records, thread);
+            put_after(after, m.t, variables, log, records);
+            put_answer(after.answer, answer)
+        }
+        Err(r) => u8::from(r),
     }
-    let after = rows_on(read.model, row, variables, log, records, thread);
-    let a = after.answer;
-    put_after(after, read.model.t, variables, log, records);
-    put_answer(a, answer)
 }
 
 // A call on the state that the numbers say and on the values that are held, with the records by value.
@@ -332,14 +304,14 @@ pub fn call_into(
 ) -> u8
     ensures { Calls file.now call (call_by file.now words.now (keeps variables.old log.old records.old) held.old call) (keeps variables.old log.old records.old) held.old answer.old result (keeps variables.new log.new records.new) held.new answer.new }
 {
-    let read = with_state(file, variables, log, records, answer);
-    if read.number != 0 {
-        return read.number;
+    match with_state(file, variables, log, records, answer) {
+        Ok(m) => {
+            let after = call_on(m, words, held, variables, log, records, call);
+            put_called(call, after, m.t, variables, log, records);
+            put_answer(after.answer, answer)
+        }
+        Err(r) => u8::from(r),
     }
-    let after = call_on(read.model, words, held, variables, log, records, call);
-    let a = after.answer;
-    put_called(call, after, read.model.t, variables, log, records);
-    put_answer(a, answer)
 }
 
 // The same by rows, in 64 words that are left free: 16 after 11.
@@ -356,14 +328,14 @@ pub fn call_by_rows_into(
     ensures free { LeftFree row.old row.new }
     ensures calls { Calls file.now call (call_rows_by file.now (length row.old) (keeps variables.old log.old records.old) held.old call) (keeps variables.old log.old records.old) held.old answer.old result (keeps variables.new log.new records.new) held.new answer.new }
 {
-    let read = with_state(file, variables, log, records, answer);
-    if read.number != 0 {
-        return read.number;
+    match with_state(file, variables, log, records, answer) {
+        Ok(m) => {
+            let after = call_rows_on(m, row, held, variables, log, records, call);
+            put_called(call, after, m.t, variables, log, records);
+            put_answer(after.answer, answer)
+        }
+        Err(r) => u8::from(r),
     }
-    let after = call_rows_on(read.model, row, held, variables, log, records, call);
-    let a = after.answer;
-    put_called(call, after, read.model.t, variables, log, records);
-    put_answer(a, answer)
 }
 
 // A list of calls from the file's fresh state on, its answers in five words each and its tables in the words, and the state and the held
@@ -383,23 +355,16 @@ pub fn replay_into(
     ensures holds { held.new ≡ replay_buffer file.now (keeps variables.old log.old records.old) (held_on (read_file file.now).model words.old held.old calls.now answers.old) held.old }
     ensures written { answers.new ≡ replay_buffer file.now (keeps variables.old log.old records.old) (answers_on (read_file file.now).model words.old held.old calls.now answers.old) answers.old }
 {
-    let read = with_room(file, variables, log, records);
-    if read.number != 0 {
-        return read.number;
+    match with_room(file, variables, log, records) {
+        Ok(m) => {
+            let done = replay::replay_on(m, words, held, calls, answers);
+            if done.number == 0 {
+                put_state(done.site, done.threads, m.t, variables, log, records);
+            }
+            done.number
+        }
+        Err(r) => u8::from(r),
     }
-    let done = replay::replay_on(read.model, words, held, calls, answers);
-    if done.number != 0 {
-        return done.number;
-    }
-    put_state(
-        done.site,
-        done.threads,
-        read.model.t,
-        variables,
-        log,
-        records,
-    );
-    0
 }
 
 // The same by rows, in 64 words that are left free.
@@ -418,21 +383,14 @@ pub fn replay_by_rows_into(
     ensures holds { held.new ≡ replay_buffer file.now (keeps variables.old log.old records.old) (held_by_rows (read_file file.now).model (length row.old) held.old calls.now answers.old) held.old }
     ensures written { answers.new ≡ replay_buffer file.now (keeps variables.old log.old records.old) (answers_by_rows (read_file file.now).model (length row.old) held.old calls.now answers.old) answers.old }
 {
-    let read = with_room(file, variables, log, records);
-    if read.number != 0 {
-        return read.number;
+    match with_room(file, variables, log, records) {
+        Ok(m) => {
+            let done = replay::replay_by_rows(m, row, held, calls, answers);
+            if done.number == 0 {
+                put_state(done.site, done.threads, m.t, variables, log, records);
+            }
+            done.number
+        }
+        Err(r) => u8::from(r),
     }
-    let done = replay::replay_by_rows(read.model, row, held, calls, answers);
-    if done.number != 0 {
-        return done.number;
-    }
-    put_state(
-        done.site,
-        done.threads,
-        read.model.t,
-        variables,
-        log,
-        records,
-    );
-    0
 }
