@@ -107,6 +107,8 @@ pub fn is_unfit_state(m: Model, site: Site, threads: Threads) -> bool
 }
 
 // Whether 11 applies: that, or words that do not fit the model.
+// Not folded into its callers, nor are the next two: what judging copies of the model is free again when the call goes on.
+#[inline(never)]
 #[tactic(auto, unfolding(early::specs::Fit::is_unfit))]
 pub fn is_unfit(m: Model, words: &[u64], site: Site, threads: Threads) -> bool
     ensures { result ≡ is_unfit m words.now site threads.at }
@@ -123,6 +125,7 @@ fn is_unfit_held(m: &Model, held: &[u32]) -> bool
 }
 
 // Whether 11 applies to a call: to the state and the words, or to what is held.
+#[inline(never)]
 pub fn is_unfit_call(m: Model, words: &[u64], site: Site, threads: Threads, held: &[u32]) -> bool
     ensures { result ≡ (is_unfit m words.now site threads.at || is_unfit_held m held.now) }
 {
@@ -130,6 +133,7 @@ pub fn is_unfit_call(m: Model, words: &[u64], site: Site, threads: Threads, held
 }
 
 // The same by rows, which have no words to test.
+#[inline(never)]
 pub fn is_unfit_call_by_rows(m: Model, site: Site, threads: Threads, held: &[u32]) -> bool
     ensures { result ≡ (is_unfit_state m site threads.at || is_unfit_held m held.now) }
 {

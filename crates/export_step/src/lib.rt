@@ -60,6 +60,14 @@ fn has_room(variables: &[u32], log: &[u64], records: &[u64], t: u8) -> bool
     64 <= variables.len() && 385 <= log.len() && 5 * usize::from(t) <= records.len()
 }
 
+// What a call asks of, as a number and a model. Not a Result: of one, each call copied the model four times more, and took 282 KB of stack,
+// where a thread that calls should need 256.
+#[derive(Clone, Copy)]
+struct AskedModel {
+    number: u8,
+    model: Model,
+}
+
 // Whether the numbers are those of a state, and the answer has room.
 fn may_ask(variables: &[u32], log: &[u64], records: &[u64], t: u8, answer: &[u64]) -> bool
     ensures { result ≡ are_held t variables.now log.now records.now && leb 3 (length answer.now) }
@@ -95,6 +103,21 @@ fn with_state(
         return Ok(m);
     }
     Err(Refusal::Unfit)
+}
+
+// The same as a number, 0 where the file is accepted, and the model.
+#[inline(never)]
+fn asked(file: &[u8], variables: &[u32], log: &[u64], records: &[u64], answer: &[u64]) -> AskedModel
+    ensures number { result.number ≡ asked_number file.now (keeps variables.now log.now records.now) answer.now }
+    ensures read { result.number ≡ 0 → read_of (Ok result.model) ≡ read_file file.now }
+{
+    match with_state(file, variables, log, records, answer) {
+        Ok(model) => AskedModel { number: 0, model },
+        Err(r) => AskedModel {
+            number: u8::from(r),
+            model: model_effect::no_model(),
+        },
+    }
 }
 
 // The fresh state of a model, in the caller's buffers.
@@ -216,14 +239,13 @@ pub fn request_into(
 ) -> u8
     ensures { Requests file.now (request_by file.now words.now (keeps variables.old log.old records.old) thread) (keeps variables.old log.old records.old) answer.old result (keeps variables.new log.new records.new) answer.new }
 {
-    match with_state(file, variables, log, records, answer) {
-        Ok(m) => {
-            let after = request_on(m, words, variables, log, records, thread);
-            put_after(after, m.t, variables, log, records);
-            put_answer(after.answer, answer)
-        }
-        Err(r) => u8::from(r),
+    let read = asked(file, variables, log, records, answer);
+    if read.number != 0 {
+        return read.number;
     }
+    let after = request_on(read.model, words, variables, log, records, thread);
+    put_after(after, read.model.t, variables, log, records);
+    put_answer(after.answer, answer)
 }
 
 // The same by rows, in 64 words that are left free: 16 after 11.
@@ -239,14 +261,13 @@ pub fn request_by_rows_into(
     ensures free { LeftFree row.old row.new }
     ensures requests { Requests file.now (rows_by file.now (length row.old) (keeps variables.old log.old records.old) thread) (keeps variables.old log.old records.old) answer.old result (keeps variables.new log.new records.new) answer.new }
 {
-    match with_state(file, variables, log, records, answer) {
-        Ok(m) => {
-            let after = rows_on(m, row, variables, log, records, thread);
-            put_after(after, m.t, variables, log, records);
-            put_answer(after.answer, answer)
-        }
-        Err(r) => u8::from(r),
+    let read = asked(file, variables, log, records, answer);
+    if read.number != 0 {
+        return read.number;
     }
+    let after = rows_on(read.model, row, variables, log, records, thread);
+    put_after(after, read.model.t, variables, log, records);
+    put_answer(after.answer, answer)
 }
 
 // A call on the state that the numbers say and on the values that are held, with the records by value.
@@ -304,14 +325,13 @@ pub fn call_into(
 ) -> u8
     ensures { Calls file.now call (call_by file.now words.now (keeps variables.old log.old records.old) held.old call) (keeps variables.old log.old records.old) held.old answer.old result (keeps variables.new log.new records.new) held.new answer.new }
 {
-    match with_state(file, variables, log, records, answer) {
-        Ok(m) => {
-            let after = call_on(m, words, held, variables, log, records, call);
-            put_called(call, after, m.t, variables, log, records);
-            put_answer(after.answer, answer)
-        }
-        Err(r) => u8::from(r),
+    let read = asked(file, variables, log, records, answer);
+    if read.number != 0 {
+        return read.number;
     }
+    let after = call_on(read.model, words, held, variables, log, records, call);
+    put_called(call, after, read.model.t, variables, log, records);
+    put_answer(after.answer, answer)
 }
 
 // The same by rows, in 64 words that are left free: 16 after 11.
@@ -328,14 +348,13 @@ pub fn call_by_rows_into(
     ensures free { LeftFree row.old row.new }
     ensures calls { Calls file.now call (call_rows_by file.now (length row.old) (keeps variables.old log.old records.old) held.old call) (keeps variables.old log.old records.old) held.old answer.old result (keeps variables.new log.new records.new) held.new answer.new }
 {
-    match with_state(file, variables, log, records, answer) {
-        Ok(m) => {
-            let after = call_rows_on(m, row, held, variables, log, records, call);
-            put_called(call, after, m.t, variables, log, records);
-            put_answer(after.answer, answer)
-        }
-        Err(r) => u8::from(r),
+    let read = asked(file, variables, log, records, answer);
+    if read.number != 0 {
+        return read.number;
     }
+    let after = call_rows_on(read.model, row, held, variables, log, records, call);
+    put_called(call, after, read.model.t, variables, log, records);
+    put_answer(after.answer, answer)
 }
 
 // A list of calls from the file's fresh state on, its answers in five words each and its tables in the words, and the state and the held
