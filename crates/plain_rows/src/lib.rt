@@ -30,11 +30,11 @@ fn mapped_word(code: &[u64; 4384], turn: usize, w: u64) -> u64
         return w;
     }
     let a = mapped_name(code, turn, (w / 8) % 256);
-    let b = if operation < 2 {
-        w / 2048
-    } else {
-        mapped_name(code, turn, w / 2048)
-    };
+    // The exit stays: an unused place is a set, and every place of a row comes here each time a thread's segment changes.
+    if operation < 2 {
+        return operation + 8 * a + 2048 * (w / 2048);
+    }
+    let b = mapped_name(code, turn, w / 2048);
     operation + 8 * a + 2048 * b
 }
 
