@@ -36,7 +36,7 @@
  * buffers that a call is given overlap. Words past those that a call speaks of are neither read nor written.
  *
  * The library holds no state, uses no heap, and reads and writes nothing but the buffers: several threads may call it at once,
- * each with its own buffers. A call needs at most 233 KB of stack (bench/stack.sh measures it).
+ * each with its own buffers. A call needs at most 226 KB of stack (bench/stack.sh measures it).
  *
  * Link target/staticlib/libexports.a (`bindings/library.sh` makes it), x86-64.
  */

@@ -106,6 +106,8 @@ fn places_from(log: &[u64]) -> [Notification; 128]
     array::from_fn(|i| place_from(log, i))
 }
 
+// A frame of its own, here and for the records: folded into a call, its copies of the log would lie below all that the call goes on to.
+#[inline(never)]
 pub fn site_from(variables: &[u32], log: &[u64]) -> Site
     ensures { result ≡ site_from variables.now log.now }
 {
@@ -135,6 +137,7 @@ fn held_thread(records: &[u64], t: u8, k: usize) -> Thread
 }
 
 // The records of t threads, at the front of 40.
+#[inline(never)]
 pub fn threads_from(records: &[u64], t: u8) -> [Thread; 40]
     ensures { result ≡ held_threads records.now t }
 {
