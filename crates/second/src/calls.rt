@@ -96,8 +96,9 @@ pub fn how_of(n: u64) -> How {
     }
 }
 
-pub fn word_of(how: How, k: u64) -> u64 {
-    how as u64 * 256 + k % 256
+// A call as a word; the kind is any number, told as `how_of` tells it.
+pub fn word_of(how: u64, k: u64) -> u64 {
+    how % 3 * 256 + k % 256
 }
 
 // Any thread, the first number that is none, or 255.
@@ -110,12 +111,12 @@ pub fn any_thread(seed: u64, t: u64) -> u64 {
 fn at_random(desk: &[u64; 640], x: u64, way: Way) -> u64 {
     let k = any_thread(x, at(desk, simulator::THREADS, 0));
     if way == Way::Combined {
-        return word_of(How::Both, k);
+        return word_of(How::Both as u64, k);
     }
     if draw::pick(x, 71, 60) == 0 {
         return k.wrapping_add(768);
     }
-    word_of(how_of(draw::pick(x, 72, 3)), k)
+    word_of(draw::pick(x, 72, 3), k)
 }
 
 // Whether a list that mixes finishes one now.
@@ -141,10 +142,10 @@ fn asked(x: u64, way: Way) -> How {
 // A call that is out of turn, or nearly always: of a running thread, if there is one, or a finish of any.
 fn out_of_turn(desk: &[u64; 640], x: u64, runs: Option<u64>) -> u64 {
     match runs {
-        Some(k) if draw::pick(x, 75, 2) == 0 => word_of(how_of(draw::pick(x, 76, 2)), k),
+        Some(k) if draw::pick(x, 75, 2) == 0 => word_of(draw::pick(x, 76, 2), k),
         _ => {
             let k = draw::pick(x, 77, at(desk, simulator::THREADS, 0));
-            word_of(How::Finish, k)
+            word_of(How::Finish as u64, k)
         }
     }
 }
@@ -162,7 +163,7 @@ fn by_stamp(
         && (ready.is_none() || is_due(x, way))
     {
         return Some(Turn {
-            word: word_of(How::Finish, k),
+            word: word_of(How::Finish as u64, k),
             stamp: None,
         });
     }
@@ -173,7 +174,7 @@ fn by_stamp(
         });
     }
     Some(Turn {
-        word: word_of(asked(x, way), ready? % 256),
+        word: word_of(asked(x, way) as u64, ready? % 256),
         stamp: ready,
     })
 }

@@ -217,17 +217,27 @@ impl<'a> Site<'a> {
     }
 }
 
-// A call of thread k.
+// What a number asks for: 1 a grant, 2 a finish, any other both at once.
+fn asked_for(n: u64) -> How {
+    match n {
+        1 => How::Grant,
+        2 => How::Finish,
+        _ => How::Both,
+    }
+}
+
+// A call of thread k, of the kind that a number asks for.
 pub fn call(
     file: &[u8],
     graph: &Graph,
     desk: &mut [u64; 640],
     held: &mut [u64; 2048],
-    how: How,
+    how: u64,
     k: u64,
 ) -> Reply
     ensures { (result.number < 20) × (result.segment < 256) × (result.delta < 1024) }
 {
+    let how = asked_for(how);
     let x = record_at(desk, k);
     let asked = Asked {
         thread: k,

@@ -181,7 +181,7 @@ fn issue_next(
     let how = how_of(word);
     let k = thread_of(word);
     let key = key_of(at(&sides.desk, simulator::RECORDS, k));
-    let r = issue::call(file, graph, &mut sides.desk, &mut sides.kept, how, k);
+    let r = issue::call(file, graph, &mut sides.desk, &mut sides.kept, how as u64, k);
     crate::add(totals, CALLS, 1);
     if r.number == 0 {
         count_done(totals, how, key, floor);
@@ -374,10 +374,10 @@ fn hold_ended<R: Print>(
 // The call that "is not refused", if there is one: a finish of a running thread, or the least stamp's request or grant.
 fn next_done(desk: &[u64; 640], l: &List) -> Option<u64> {
     if let Some(k) = calls::running_from(desk, l.seed % 32) {
-        return Some(calls::word_of(How::Finish, k));
+        return Some(calls::word_of(How::Finish as u64, k));
     }
     let least = calls::least_from(desk, 0)?;
-    Some(calls::word_of(calls::how_of(l.seed % 2), least % 256))
+    Some(calls::word_of(l.seed % 2, least % 256))
 }
 
 fn hold_ending<R: Print>(
@@ -613,7 +613,7 @@ fn hold_unfit<R: Print>(rt: &R, totals: &mut [u64; 24], seed: u64, tables: Table
     let h = simulator::field(tables.file, 4, 0, 4);
     spoil(&mut held, seed / 4, n, e, h);
     refuse(rt, totals, seed, tables, &mut held, k, 40)?;
-    let word = calls::word_of(calls::how_of(seed / 12), k);
+    let word = calls::word_of(seed / 12, k);
     refuse_call(rt, totals, seed, tables, &mut held, word, 2048)?;
     refuse_by_rows(rt, totals, seed, tables.file, &held, word)
 }
@@ -639,7 +639,7 @@ fn hold_short<R: Print>(rt: &R, totals: &mut [u64; 24], seed: u64, tables: Table
     let k = calls::any_thread(seed, t);
     refuse(rt, totals, seed, tables, &mut held, k, few as usize)?;
     let n = (64 * (t % 33)) as usize;
-    let word = calls::word_of(calls::how_of(seed / 2), k);
+    let word = calls::word_of(seed / 2, k);
     refuse_call(rt, totals, seed, tables, &mut held, word, less_by(n, seed))
 }
 
@@ -649,14 +649,7 @@ fn hold_few<R: Print>(rt: &R, totals: &mut [u64; 24], seed: u64, file: &[u8]) ->
     let t = start::set_up(file, seed, 0, &mut desk);
     let held = layout::words_of(&desk);
     let k = if seed % 2 == 0 { t } else { 0 };
-    refuse_few(
-        rt,
-        totals,
-        seed,
-        file,
-        &held,
-        calls::word_of(calls::how_of(seed / 2), k),
-    )
+    refuse_few(rt, totals, seed, file, &held, calls::word_of(seed / 2, k))
 }
 
 // The fresh state.
