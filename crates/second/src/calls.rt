@@ -98,7 +98,7 @@ pub fn how_of(n: u64) -> How {
 
 // A call as a word; the kind is any number, told as `how_of` tells it.
 pub fn word_of(how: u64, k: u64) -> u64 {
-    how % 3 * 256 + k % 256
+    how_of(how) as u64 * 256 + k % 256
 }
 
 // Any thread, the first number that is none, or 255.

@@ -2,8 +2,8 @@
 ghost use Rattle.std.specs.Prelude.{◌≡◌, ◌-◌, ◌%◌, ◌<◌, ◌≤◌, ◌==◌};
 
 use crate::graph::{Graph, Mapped};
-use crate::simulator;
 use crate::simulator::NO_PORTS;
+use crate::{graph, simulator};
 
 // Rows of eight, one of which is drawn. Ten rows for each family: horizon, V, E, N, T, the most statements of a segment,
 // and, of a hundred, how many statements notify, how many closers end, how many more wait on an event; last the row of delays.
@@ -251,7 +251,9 @@ impl Writer<'_> {
     fn put_threads(&mut self, seed: u64, shape: &Shape)
         ensures { self.new.at ≤ 16384 }
     {
-        let graph = self.names(shape.n);
+        let mut words = [0u64; 24576];
+        self.fill_names(shape.n, &mut words);
+        let graph = Graph::new(&words);
         for k in 0..shape.t {
             let first = shape.first_of(seed, k);
             let ports = shape.drawn_ports(&graph, mixed(seed, k.wrapping_add(500)), first);
@@ -261,13 +263,11 @@ impl Writer<'_> {
     }
 
     // What each of n segments names, by those that stand in the file, with an end behind them.
-    fn names(&mut self, n: u64) -> Graph {
+    fn fill_names(&mut self, n: u64, words: &mut [u64; 24576]) {
         put(self.file, self.at, 4, 262148);
         let mut desk = [0u64; 640];
         simulator::survey(self.file, &mut desk);
-        let mut graph = Graph::new();
-        graph.fill_uses(self.file, &desk, n);
-        graph
+        graph::fill_uses(self.file, &desk, words, n);
     }
 
     // All segments.

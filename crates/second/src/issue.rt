@@ -95,7 +95,7 @@ fn note(file: &[u8], s: u64, key: u64, desk: &mut [u64; 640]) {
 
 // "every thread is looked at, again and again until none hears anything": from the highest down, and from there again once one has heard.
 // Each hears once at most. How many have overrun so, beside the thread that was asked for.
-fn settle(graph: &Graph, desk: &mut [u64; 640], asked: u64) -> u64 {
+fn settle(graph: Graph, desk: &mut [u64; 640], asked: u64) -> u64 {
     let mut overruns: u64 = 0;
     for _ in 0..32 {
         let Some(heard) = (View { graph, desk }).first_heard() else {
@@ -155,7 +155,7 @@ fn judge_call(view: &View, how: How, asked: Asked) -> Result<(), Refusal> {
 #[derive(Drop)]
 struct Site<'a> {
     file: &'a [u8],
-    graph: &'a Graph,
+    graph: Graph<'a>,
     desk: &'a mut [u64; 640],
     held: &'a mut [u64; 2048],
 }
@@ -229,7 +229,7 @@ fn asked_for(n: u64) -> How {
 // A call of thread k, of the kind that a number asks for.
 pub fn call(
     file: &[u8],
-    graph: &Graph,
+    words: &[u64; 24576],
     desk: &mut [u64; 640],
     held: &mut [u64; 2048],
     how: u64,
@@ -237,6 +237,7 @@ pub fn call(
 ) -> Reply
     ensures { (result.number < 20) × (result.segment < 256) × (result.delta < 1024) }
 {
+    let graph = Graph::new(words);
     let how = asked_for(how);
     let x = record_at(desk, k);
     let asked = Asked {
@@ -279,7 +280,7 @@ fn stop_all(desk: &mut [u64; 640]) {
 }
 
 // Whether a thread that is ready would get another number if none were running.
-pub fn is_by_running(graph: &Graph, desk: &[u64; 640], k: u64, number: u64) -> bool {
+pub fn is_by_running(words: &[u64; 24576], desk: &[u64; 640], k: u64, number: u64) -> bool {
     let mut other = *desk;
     stop_all(&mut other);
     let asked = Asked {
@@ -287,7 +288,7 @@ pub fn is_by_running(graph: &Graph, desk: &[u64; 640], k: u64, number: u64) -> b
         record: record_at(desk, k),
     };
     let view = View {
-        graph,
+        graph: Graph::new(words),
         desk: &other,
     };
     number_of(judge(&view, asked)) != number

@@ -6,7 +6,7 @@ use crate::graph::{Graph, Mapped};
 use crate::number::{at, put};
 use crate::simulator::{State, record_at, state_of};
 use crate::view::View;
-use crate::{draw, held, log, places, simulator};
+use crate::{draw, graph, held, log, places, simulator};
 
 fn drawn_time(seed: u64) -> u64 {
     match draw::pick(seed, 61, 9) {
@@ -75,18 +75,16 @@ fn drawn_record(seed: u64, s: u64, e: u64, end: u64) -> u64 {
 fn draw_records(file: &[u8], desk: &mut [u64; 640], seed: u64, e: u64) -> u64 {
     let end = at(desk, simulator::END, 0);
     let n = at(desk, simulator::SEGMENTS, 0);
-    let mut graph = Graph::new();
-    graph.fill_uses(file, desk, n);
+    let mut words = [0u64; 24576];
+    graph::fill_uses(file, desk, &mut words, n);
+    let graph = Graph::new(&words);
     for k in 0..at(desk, simulator::THREADS, 0) {
         let x = draw::mixed(seed, k.wrapping_add(300));
         let first = simulator::first_of(file, desk, k);
         let s = drawn_segment(&graph, x, n, at(desk, simulator::PORTS, k), first);
         put(desk, simulator::RECORDS, k, drawn_record(x, s, e, end));
     }
-    places::all(&View {
-        graph: &graph,
-        desk,
-    })
+    places::all(&View { graph, desk })
 }
 
 fn logged_key(seed: u64) -> u64 {

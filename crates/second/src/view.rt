@@ -8,7 +8,7 @@ use crate::{log, simulator};
 
 #[derive(Clone, Copy)]
 pub(crate) struct View<'a> {
-    pub(crate) graph: &'a Graph,
+    pub(crate) graph: Graph<'a>,
     pub(crate) desk: &'a [u64; 640],
 }
 

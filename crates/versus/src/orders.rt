@@ -4,7 +4,6 @@ use crate::library::Tables;
 use crate::print::Spot;
 use crate::{compare, library};
 use second::calls::Turn;
-use second::graph::Graph;
 use second::issue::{How, Reply};
 use second::number::at;
 use second::simulator::{NEVER, key_of};
@@ -99,7 +98,7 @@ fn count_running(totals: &mut [u64; 24], desk: &[u64; 640]) {
 // A refusal of thread k. Those with 15 at the floor are those of a log that is full for any thread.
 fn count_refusal(
     totals: &mut [u64; 24],
-    graph: &Graph,
+    graph: &[u64; 24576],
     desk: &[u64; 640],
     k: u64,
     number: u64,
@@ -173,7 +172,7 @@ impl Calls {
 fn issue_next(
     totals: &mut [u64; 24],
     file: &[u8],
-    graph: &Graph,
+    graph: &[u64; 24576],
     sides: &mut Sides,
     word: u64,
 ) -> Reply {
@@ -225,7 +224,7 @@ fn turn<R: Print>(
     totals: &mut [u64; 24],
     calls: &mut Calls,
     tables: Tables,
-    graph: &Graph,
+    graph: &[u64; 24576],
     sides: &mut Sides,
     l: &mut List,
 ) -> Result<()> {
@@ -256,7 +255,7 @@ fn one_by_one<R: Print>(
     totals: &mut [u64; 24],
     calls: &mut Calls,
     tables: Tables,
-    graph: &Graph,
+    graph: &[u64; 24576],
     sides: &mut Sides,
     l: &mut List,
 ) -> Result<()> {
@@ -414,7 +413,7 @@ fn hold_list<R: Print>(
     seed: u64,
     number: u64,
     tables: Tables,
-    graph: &Graph,
+    graph: &[u64; 24576],
 ) -> Result<()> {
     let mut begun = [0u64; 640];
     start::set_up(tables.file, seed, number, &mut begun);
@@ -677,7 +676,7 @@ fn hold_all<R: Print>(
     totals: &mut [u64; 24],
     seed: u64,
     tables: Tables,
-    graph: &Graph,
+    graph: &[u64; 24576],
 ) -> Result<()> {
     for list in 0..6 {
         hold_list(rt, totals, seed, list, tables, graph)?;
@@ -697,7 +696,7 @@ pub fn hold_lists<R: Print>(
     let file = number::first(bytes, size);
     let mut desk = [0u64; 640];
     start::set_up(file, seed, 0, &mut desk);
-    let mut graph = Graph::new();
+    let mut graph = [0u64; 24576];
     graph::fill(file, &desk, &mut graph);
     let mut words = [0u64; 4096];
     library::fill_words(file, &mut words);
