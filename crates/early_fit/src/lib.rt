@@ -124,12 +124,13 @@ fn is_unfit_held(m: &Model, held: &[u32]) -> bool
     held.len() < 64 * usize::from(m.t)
 }
 
-// Whether 11 applies to a call: to the state and the words, or to what is held.
+// Whether 11 applies to a call: to the state and the words, or to what is held. By way of `is_unfit` a model more would be copied.
 #[inline(never)]
+#[tactic(auto, unfolding(early::specs::Fit::is_unfit))]
 pub fn is_unfit_call(m: Model, words: &[u64], site: Site, threads: Threads, held: &[u32]) -> bool
     ensures { result ≡ (is_unfit m words.now site threads.at || is_unfit_held m held.now) }
 {
-    is_unfit(m, words, site, threads) || is_unfit_held(&m, held)
+    is_unfit_state(m, site, threads) || is_unfit_words(&m, words) || is_unfit_held(&m, held)
 }
 
 // The same by rows, which have no words to test.
