@@ -79,7 +79,8 @@ fn threatens(
     if !early_ahead::is_sooner_limit(b, j, asker.c, asker.i) {
         return false;
     }
-    let row = from.row(count, q, room);
+    from.work_out(count, q, room);
+    let row = from.part(count, q, room);
     row_threatens(asker, ports, row, count, b, j)
 }
 

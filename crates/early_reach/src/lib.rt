@@ -67,7 +67,8 @@ fn lower_all(notes: &[u16], from: Distances<'_>, room: &mut [u64], count: u8, re
     ensures lowered { (ws : List ℕ) → Knows count ws (is_by_steps from.entry) (lent_of from.entry) (length room.old) → Places (rows_lowered notes.now (length notes.now) ws count (at_most 64 count)) reach.old reach.new }
 {
     for r in 0..usize::from(count).min(64) {
-        let row = from.row(count, r, room);
+        from.work_out(count, r, room);
+        let row = from.part(count, r, room);
         lower_row(notes, row, r, reach);
     }
 }
