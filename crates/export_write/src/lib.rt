@@ -9,7 +9,10 @@ pub fn model_into(file: &[u8], numbers: &mut [u32]) -> u8
 {
     let m = match reader_file::read_file(file) {
         Ok(m) => m,
-        Err(r) => return u8::from(r),
+        Err(r) => {
+            let refused = u8::from(r);
+            return refused;
+        }
     };
     if export_numbers::numbers_into(m, numbers) == 0 {
         return 16;
@@ -25,7 +28,8 @@ pub fn write_into(numbers: &[u32], out: &mut [u8], length: &mut [u64]) -> u8
         return 11;
     }
     if let Err(r) = export_hold::held_number(numbers) {
-        return u8::from(r);
+        let number = u8::from(r);
+        return number;
     }
     let m = export_hold::model_held(numbers);
     let written = writer_file::write(m, out);

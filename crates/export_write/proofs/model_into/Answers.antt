@@ -1,12 +1,17 @@
 -- `export_write::model_into` meets its contract: refused, no room, or all the numbers.
-use mathlib.Core.Path.{refl}
+use Prim.Native.Nat.{ℕ}
+use mathlib.Core.Path.{refl, subst}
+use native.Mathlib.Omega.{arith}
 use Rattle.refusal.proofs.NumberLaws.{number_of-not_0}
+use Rattle.export_write.specs.Call.{Models}
 use Rattle.export_write.proofs.CallLaws.{models-refused, models-short, models-written}
 use Rattle.export_write.proofs.model_into.Goals as goal
 
 pub returns-in-Err : goal.returns-in-Err
 returns-in-Err c =
-    rw c.from.ensures (models-refused c.args.file.now c.args.numbers.now _ c.in-Err.ensures (number_of-not_0 c.in-Err.r))
+    let s = c.args in
+    subst (λ (n : ℕ). Models s.file.now s.numbers.now n s.numbers.now) (omega (arith, c.from-refused.ensures))
+    (models-refused s.file.now s.numbers.now _ c.in-Err.ensures (number_of-not_0 c.in-Err.r))
 
 pub returns-then-numbers_into-eq0 : goal.returns-then-numbers_into-eq0
 returns-then-numbers_into-eq0 c =

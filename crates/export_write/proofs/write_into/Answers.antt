@@ -1,5 +1,6 @@
 -- `export_write::write_into` meets its contract: no place, a number, no room, or the file and its length.
 use mathlib.Core.Path.{refl}
+use native.Mathlib.Omega.{arith}
 use Rattle.refusal.proofs.NumberLaws.{number_of-not_0}
 use Rattle.export_write.proofs.CallLaws.{files-no-place, files-number, files-short, files-written}
 use Rattle.export_write.proofs.write_into.Goals as goal
@@ -12,8 +13,8 @@ returns-then-length-eq0 c =
 pub returns-in-Err : goal.returns-in-Err
 returns-in-Err c =
     let s = c.args in
-    rw c.from.ensures
-    (files-number s.numbers.now s.out.now s.length.now c.if-length-eq0.false _ c.in-Err.ensures (number_of-not_0 c.in-Err.r))
+    files-number s.numbers.now s.out.now s.length.now c.if-length-eq0.false _ (omega (arith, c.from-number.ensures, c.in-Err.ensures))
+    (omega (arith, c.from-number.ensures, number_of-not_0 c.in-Err.r))
 
 pub returns-then-refusal-eq0 : goal.returns-then-refusal-eq0
 returns-then-refusal-eq0 c =
